@@ -9,7 +9,7 @@ use Rattle.psi_horizon.specs.Runs.{DecidesRuns}
 use Rattle.psi_couple.specs.declared.answers.Coupled.{Coupled}
 use Rattle.psi_couple.specs.declared.answers.Coupled.TheVariants.{At, NotAt}
 
--- the least answer of a run, told as a coupling
+-- the least answer of a run, as a coupling
 abbrev pub coupled_of : ℕ → Option (ℕ × List ℕ) → Coupled
 coupled_of limit None = NotAt limit
 coupled_of limit (Some found) = At found.0 found.1
@@ -18,7 +18,7 @@ coupled_of limit (Some found) = At found.0 found.1
 unfoldable pub coupled_within : (ℕ → Option (List ℕ)) → ℕ → Coupled
 coupled_within run limit = coupled_of limit (least_answer run (2 ^ limit))
 
--- there is a coupling at the least horizon from 1 to 2^limit at which the run has an answer, with that answer; there is none where no such horizon has one, and the limit is told
+-- there is a coupling at the least horizon from 1 to 2^limit at which the run has an answer, with that answer; there is none where no such horizon has one, and the limit is named
 abbrev pub IsCoupled : (ℕ → Option (List ℕ)) → ℕ → Coupled → Type 0
 IsCoupled run limit (At t s) = IsLeast run (2 ^ limit) t s
 IsCoupled run limit (NotAt l) = (l ≡ limit) × HasNoneBelow run (suc (2 ^ limit))

@@ -19,7 +19,7 @@ common_value value (x ∷ xs) = if list_all (λ y. int_eq (value y) (value x)) x
 abbrev pub value_at : (List ℕ → ℤ) → ℕ → Functions → List ℕ → ℕ → Option ℤ
 value_at value split f caps t = common_value value (region_at split f caps t).states
 
--- the first answer of a run, told as that of a value
+-- the first answer of a run, as that of a value
 abbrev pub valued_of : ℕ → Option (ℕ × ℤ) → Valued
 valued_of limit None = NotAt limit
 valued_of limit (Some found) = At found.0 found.1
@@ -28,7 +28,7 @@ valued_of limit (Some found) = At found.0 found.1
 unfoldable pub valued_within : (ℕ → Option ℤ) → ℕ → Valued
 valued_within run limit = valued_of limit (first_answer run limit)
 
--- there is a value at the least of 1, 2, 4, .., 2^limit at which the run has an answer, and it is that answer; there is none where no such horizon has one, and the limit is told
+-- there is a value at the least of 1, 2, 4, .., 2^limit at which the run has an answer, and it is that answer; there is none where no such horizon has one, and the limit is named
 abbrev pub IsValued : (ℕ → Option ℤ) → ℕ → Valued → Type 0
 IsValued run limit (At t v) = IsFirst run limit t v
 IsValued run limit (NotAt l) = (l ≡ limit) × HasNone run (suc limit)

@@ -14,10 +14,10 @@ use psi_past::Past;
 use psi_region::Follower;
 use psi_state::{Outcome, State};
 
-/// The least horizon from 1 to 2 to the power `limit` whose region run ends with one state, with that
+/// Returns the least horizon from 1 to 2 to the power `limit` whose region run ends with one state, with that
 /// state, which is within the capacities. Every state that starts there or earlier is in it at time zero
 /// (Propp and Wilson 1996), and every longer run ends with it alone. `NotAt` comes exactly where no such run
-/// ends with one state, and tells the system's limit.
+/// ends with one state, and returns the system's limit.
 ///
 /// The sample finds the first power of two whose run ends with one state. A longer run's region is within
 /// a shorter run's, so once a run ends with one state each longer run ends with it too, and the least
@@ -25,7 +25,7 @@ use psi_state::{Outcome, State};
 /// sample's runs there are at most as many as `limit`, each shorter than that power.
 ///
 /// The plan's system and its past's words stay as they were. Afterwards [`Plan::advance`] answers `None`
-/// until the next run is begun. The call takes no memory.
+/// until the next run is begun. The call does not allocate.
 pub fn least_horizon<E: EventLaw, P: Past + Drop, F: Follower + Drop>(
     plan: &mut Plan<'_, E, P, F>,
 ) -> Coupled

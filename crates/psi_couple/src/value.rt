@@ -22,11 +22,11 @@ use psi_state::{Bounds, State};
 // Runs of fewer steps cost next to nothing.
 const SHORT: u32 = 64;
 
-/// The least horizon among 1, 2, 4, .., 2 to the power `limit` at which all states with which the region
+/// Returns the least horizon among 1, 2, 4, .., 2 to the power `limit` at which all states with which the region
 /// run ends have one value of the reward, with that value, in the reward's unit. Every state within the
 /// capacities that starts there or earlier has it at time zero, though these states need not have met, and
 /// every longer run ends with states of this value. `NotAt` comes exactly where there is no such horizon, and
-/// tells the system's limit; then the states of no run of up to so many steps have one value.
+/// has the system's limit; then no run of up to 2 to the power `limit` steps ends with states of one value.
 ///
 /// The reward is one of the system's capacities.
 ///
@@ -37,7 +37,7 @@ const SHORT: u32 = 64;
 /// equal; a set's states are compared one by one.
 ///
 /// The plan's system and its past's words stay as they were. Afterwards [`Plan::advance`] answers `None`
-/// until the next run is begun. The call takes no memory.
+/// until the next run is begun. The call does not allocate.
 pub fn value_horizon<E: EventLaw, P: Past + Drop, F: Follower + Drop>(
     plan: &mut Plan<'_, E, P, F>,
     reward: &Reward,

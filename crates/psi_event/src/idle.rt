@@ -19,7 +19,7 @@ pub struct Idle {
 }
 
 impl Idle {
-    /// The idle event of a network with these capacities.
+    /// Returns the idle event of a network with these capacities.
     pub fn new(caps: State) -> Idle
         requires { AreCapacities caps }
         ensures caps { ⟦<Idle as EventLaw>⟧.capacities result ≡ caps }

@@ -11,7 +11,7 @@ use psi_state::{Bounds, State};
 /// An event of a network: it stands for the capacities of the network's queues, a function on the states
 /// within them, and a pair of states whose order the function doesn't keep, if there is one.
 ///
-/// No call takes memory.
+/// No call allocates.
 pub trait EventLaw {
     // How many customers each queue has room for.
     ghost capacities: { Self → List ℕ };

@@ -19,7 +19,7 @@ pub struct Piece {
 impl Piece {
     ghost use Rattle.psi_event.specs.Piecewise.{empty_piece};
 
-    /// The piece of a network of so many queues, 1 to 32, that applies to each state and changes nothing.
+    /// Returns the piece of a network of `queues` queues, 1 to 32, that applies to each state and changes nothing.
     pub fn empty(queues: u8) -> Piece
         requires some { 1 ≤ queues }
         requires few { queues ≤ 32 }

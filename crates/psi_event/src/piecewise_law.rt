@@ -1,4 +1,4 @@
-//! Events that tell of which pieces they are.
+//! Events that declare of which pieces they are.
 
 ghost use Rattle.std.specs.Prelude.{IfSome};
 ghost use Rattle.psi_event.specs.Piecewise.{Does};
@@ -7,12 +7,12 @@ use crate::idle::Idle;
 use crate::law::EventLaw;
 use crate::piecewise::Piecewise;
 
-/// An event that may tell of which pieces it is. One that tells none needs no more than `impl PiecewiseLaw for
+/// An event that may declare its pieces. One that declares none needs no more than `impl PiecewiseLaw for
 /// It {}`.
 ///
-/// No call takes memory.
+/// No call allocates.
 pub trait PiecewiseLaw: EventLaw {
-    /// The pieces that do to each state within the capacities what the event does, where the event tells them.
+    /// The pieces that do to each state within the capacities what the event does, where the event declares them.
     fn piecewise(&self) -> Option<Piecewise>
         ensures { IfSome result (λ pieces. Does (Self.capacities self.now) pieces (Self.function self.now)) }
     {

@@ -42,7 +42,7 @@ impl Model for Sides {
 }
 
 impl Sides {
-    /// Any side for each of so many queues, at most 32.
+    /// `Any` for each of `queues` queues, at most 32.
     pub fn any(queues: u8) -> Sides
         requires { queues ≤ 32 }
         ensures { result ≡ replicate queues Any }
@@ -53,7 +53,7 @@ impl Sides {
         }
     }
 
-    /// The number of queues.
+    /// Returns the number of queues.
     ///
     /// Its second clause is how a caller learns what every `Sides` keeps.
     pub fn len(&self) -> u8
@@ -63,7 +63,7 @@ impl Sides {
         self.len
     }
 
-    /// The side of queue `i`; queues are counted from 0.
+    /// Returns the side of queue `i`; queues are counted from 0.
     pub fn get(&self, i: u8) -> Side
         requires { i < length self.now }
         ensures { result ≡ slice_index_or self.now i Any }

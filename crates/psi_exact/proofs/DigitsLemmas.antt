@@ -93,7 +93,7 @@ number-add (k ∷ ks) (x ∷ xs) (y ∷ ys) (z ∷ zs) (w ∷ ws) a b c d each =
     let joined : (x + y) * size ks ≡ (z + w) * size ks = ap (λ n. n * size ks) first in
     omega arith
 
--- the first numbers of a state, so many, and none behind them
+-- the first numbers of a state, so many, and none after them
 abbrev pub cut : ℕ → List ℕ → List ℕ
 cut q [] = []
 cut zero (v ∷ x) = 0 ∷ cut zero x

@@ -12,13 +12,13 @@ use Rattle.psi_exact.specs.Ranks.{AreRanksOf}
 use Rattle.psi_exact.specs.declared.learned.LearnedImages.{LearnedImages}
 use Rattle.psi_exact.specs.ImagesKept.{images_at, AreImages, AreLearned, IsSameImages, IsOneMore}
 
--- a stretch of a list is the same where more comes behind the list
+-- a stretch of a list is the same where more comes after the list
 range-front : (xs ys : List ℕ) (a n : ℕ) → a + n ≤ length xs → slice_range (xs ++ ys) a (a + n) ≡ slice_range xs a (a + n)
 range-front xs ys a n within =
     ap (λ (zs : List ℕ). take (a + n - a) zs) (drop-append-le a xs ys (omega arith))
     ∙ take-append-le (a + n - a) (drop a xs) ys (let long : length (drop a xs) ≡ length xs - a = length-drop a xs in omega arith)
 
--- and what comes behind is the stretch from its end on
+-- and what comes after is the stretch from its end on
 range-behind : (xs ys : List ℕ) (a n : ℕ) → a ≡ length xs → n ≡ length ys → slice_range (xs ++ ys) a (a + n) ≡ ys
 range-behind xs ys a n first last =
     let count : a + n - a ≡ length ys = omega arith in
@@ -37,7 +37,7 @@ images-front caps f m n count k old new more small =
     ∙ (ap (λ (xs : List ℕ). slice_range xs (k * m.size) (k * m.size + m.size)) more.ranks
     ∙ range-front m.ranks.items more.images (k * m.size) m.size (omega arith))
 
--- and those of the new one stand behind them
+-- and those of the new one stand after them
 images-behind : (caps : List ℕ) (f : List ℕ → List ℕ) (m n : LearnedImages) → AreImages (length (all_states caps)) m → AreImages (length (all_states caps)) n
     → (more : IsOneMore caps f m n) → images_at n m.known ≡ more.images
 images-behind caps f m n old new more =

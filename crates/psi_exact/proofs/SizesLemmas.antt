@@ -6,7 +6,7 @@ use Rattle.psi_state.specs.State.{numbers_from}
 use Rattle.psi_rate.specs.Composition.{image_at}
 use Rattle.psi_exact.specs.Sizes.{sizes_before}
 
--- one place more is taken, and zeros are left behind it
+-- one place more is taken, and zeros are left after it
 pub drop-push : (xs : List ℕ) (n v : ℕ) → n < 13 → drop n xs ≡ replicate (13 - n) 0 → drop (n + 1) (slice_set xs n v) ≡ replicate (13 - (n + 1)) 0
 drop-push xs n v small rest =
     let away : drop (n + 1) (slice_set xs n v) ≡ drop (n + 1) xs = drop-set-lt (n + 1) xs n v (omega arith) in

@@ -51,7 +51,7 @@ right-set caps f ranks x y place rank first second at is small right =
       ]
     ]
 
--- the first numbers of a state that has none behind them are the state
+-- the first numbers of a state that has none after them are the state
 pub cut-itself : (q : ℕ) (x : List ℕ) → ((i : ℕ) → q ≤ i → slice_index x i ≡ 0) → cut q x ≡ x
 cut-itself q x none =
     ext_get_or 0 (cut q x) x (length-cut q x)
@@ -262,7 +262,7 @@ front-less span front new n some few front_is is =
       ];
     })
 
--- a state within the front has no customers behind it
+-- a state within the front has no customers after it
 pub front-none : (span front y : List ℕ) (q i : ℕ) → IsFront span q front → IsBelow y front → q ≤ i → slice_index y i ≡ 0
 front-none span front y q i front_is within past =
     elim (cases_lt i (length y)) [
@@ -282,7 +282,7 @@ front-below caps f span front y q is front_is within =
       ];
     })
 
--- behind all queues there is one state
+-- after all queues there is one state
 pub stride-first : (caps : List ℕ) (n : ℕ) → length caps ≤ n → 1 ≡ length (all_states (drop n caps))
 stride-first caps n past = sym (ap (λ (xs : List ℕ). length (all_states xs)) (drop_of_length-le caps past))
 

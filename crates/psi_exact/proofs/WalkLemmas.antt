@@ -25,7 +25,7 @@ pub rank-whole : (caps own x : List ℕ) (b : Corners) (r : ℕ) → b ≡ whole
 rank-whole caps own x b r is same place =
     is_rank-from_get caps x r (subst (λ (c : Corners). slice_get (box c.lo c.hi) r ≡ Some x) (is ∙ ap (λ (ys : List ℕ). whole ys) same) place)
 
--- the state of a rank comes next, and the others behind it
+-- the state of a rank comes next, and the others after it
 pub record IsNext (caps : List ℕ) (r : ℕ) (x : List ℕ) (rest : List (List ℕ)) : Type 0 where
   pub small : r < length (all_states caps)
   pub state : state_at caps r ≡ x

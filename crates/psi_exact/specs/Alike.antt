@@ -3,7 +3,7 @@ use Rattle.std.specs.Prelude.{◌≡◌, ℕ, ◌+◌, ◌*◌, ◌%◌, ◌<◌
 use Rattle.psi_state.specs.State.{IsBelow}
 use Rattle.psi_exact.specs.Ranks.{rank_of}
 
--- the queue has as many customers behind the event as before it, in each state
+-- the queue has as many customers after the event as before it, in each state
 pub record IsKept (caps : List ℕ) (f : List ℕ → List ℕ) (q : ℕ) : Type 0 where
   pub each : (x : List ℕ) → IsBelow x caps → slice_index (f x) q ≡ slice_index x q
 
@@ -40,13 +40,13 @@ pub record IsBase (span x : List ℕ) (count : ℕ) : Type 0 where
 pub record AreFilled (caps : List ℕ) (f : List ℕ → List ℕ) (span : List ℕ) (count : ℕ) (ranks : List ℕ) : Type 0 where
   pub each : (x : List ℕ) → IsBelow x caps → IsBase span x count → IsRight caps f ranks x
 
--- the first numbers of the span, so many, and none behind them
+-- the first numbers of the span, so many, and none after them
 pub record IsFront (span : List ℕ) (count : ℕ) (front : List ℕ) : Type 0 where
   pub same_length : length front ≡ length span
   pub same : (q : ℕ) → q < count → slice_index front q ≡ slice_index span q
   pub none : (q : ℕ) → count ≤ q → slice_index front q ≡ 0
 
--- the ranks of the first stride from a base on stand there still, and once more in each stride behind it, raised by how far that is, modulo 2^16
+-- the ranks of the first stride from a base on stand there still, and once more in each stride after it, raised by how far that is, modulo 2^16
 pub record IsSpread (base stride width : ℕ) (old new : List ℕ) : Type 0 where
   pub each : (g c : ℕ) → 1 ≤ g → g < width → c < stride → slice_index new (base + g * stride + c) ≡ (slice_index old (base + c) + g * stride) % 65536
   pub before : (k : ℕ) → k < base + stride → slice_index new k ≡ slice_index old k

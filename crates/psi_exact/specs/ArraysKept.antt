@@ -1,4 +1,4 @@
--- A fixed array is told by its front, where all behind the front is zeros.
+-- A fixed array is determined by its front, where all after the front is zeros.
 use Rattle.std.specs.Prelude.{◌≡◌, ℕ, ◌-◌, ◌≤◌, List, length, take, drop, replicate, ◌++◌}
 use Rattle.std.proofs.Common.{ap, sym, ◌∙◌, arith}
 use Rattle.std.proofs.lemmas.List.{take-append-drop, length-take-le}
@@ -7,7 +7,7 @@ use Rattle.psi_exact.specs.declared.sizes.Sizes.TheInside.{Inside}
 abbrev inside : List ℕ → ℕ → Inside
 inside values len = record { values = values; len = len }
 
--- the array of sizes is its numbers and zeros behind them
+-- the array of sizes is its numbers and zeros after them
 pub padded : (values : List ℕ) (len : ℕ) → len ≤ 13 → length values ≡ 13 → drop len values ≡ replicate (13 - len) 0
     → inside (take len values ++ replicate (13 - length (take len values)) 0) (length (take len values)) ≡ inside values len
 padded values len few full rest =

@@ -23,7 +23,7 @@ pub record IsSameImages (m n : LearnedImages) : Type 0 where
   pub known : n.known ≡ m.known
   pub ranks : n.ranks.items ≡ m.ranks.items
 
--- the second has the ranks of the images of a function behind those of the first
+-- the second has the ranks of the images of a function after those of the first
 pub record IsOneMore (caps : List ℕ) (f : List ℕ → List ℕ) (m n : LearnedImages) : Type 0 where
   pub known : n.known ≡ m.known + 1
   pub images : List ℕ

@@ -1,4 +1,4 @@
--- The least horizon of any length at which all states have met (coalesced, Propp and Wilson 1996), told of the composed map.
+-- The least horizon of any length at which all states have met (coalesced, Propp and Wilson 1996), of the composed map.
 use Rattle.std.specs.Prelude.{◌≡◌, ℕ, suc, ◌^◌, ◌≤◌, List, Option, Some, None}
 use Rattle.psi_state.specs.State.{IsBelow}
 use Rattle.psi_rate.specs.Composition.{Functions, IsReached}
@@ -6,7 +6,7 @@ use Rattle.psi_rate.specs.Least.{least_answer, HasNoneBelow, IsLeast}
 use Rattle.psi_exact.specs.declared.answers.Meeting.{Meeting}
 use Rattle.psi_exact.specs.declared.answers.Meeting.TheVariants.{Constant, NotConstant}
 
--- the least answer of a run, told as a meeting
+-- the least answer of a run, as a meeting
 abbrev pub meeting_of : ℕ → Option (ℕ × List ℕ) → Meeting
 meeting_of h None = NotConstant h
 meeting_of h (Some found) = Constant found.0 found.1
@@ -15,7 +15,7 @@ meeting_of h (Some found) = Constant found.0 found.1
 unfoldable pub meeting_within : (ℕ → Option (List ℕ)) → ℕ → Meeting
 meeting_within run h = meeting_of h (least_answer run (2 ^ h))
 
--- a meeting is at the least horizon from 1 to 2^h at which the run has an answer, with that answer; there is none where no such horizon has one, and the exponent is told
+-- a meeting is at the least horizon from 1 to 2^h at which the run has an answer, with that answer; there is none where no such horizon has one, and the exponent is named
 abbrev pub IsMeeting : (ℕ → Option (List ℕ)) → ℕ → Meeting → Type 0
 IsMeeting run h (Constant t s) = IsLeast run (2 ^ h) t s
 IsMeeting run h (NotConstant l) = (l ≡ h) × HasNoneBelow run (suc (2 ^ h))

@@ -9,7 +9,7 @@ use psi_event::EventLaw;
 use psi_state::{Bounds, State};
 
 /// The span of an event: the capacities of the queues that it may change, and none for those that have
-/// as many customers behind it as before, in all states.
+/// as many customers after it as before it, in all states.
 pub(crate) fn span_of<E: EventLaw>(e: &E) -> State
     ensures { IsSpan (E.capacities e.now) (E.function e.now) result }
 {
@@ -34,7 +34,7 @@ fn spanned<E: EventLaw>(e: &E, place: u8) -> u16
     0
 }
 
-// Whether the event leaves so many customers in the queue, whatever the other queues hold.
+// Whether the event leaves the queue at this place with `number` customers, whatever the other queues hold.
 fn stays<E: EventLaw>(e: &E, place: u8, number: u16) -> bool
     requires place { place < length (E.capacities e.now) }
     requires number { number ≤ slice_index (E.capacities e.now) place }

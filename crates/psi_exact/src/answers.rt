@@ -1,4 +1,4 @@
-//! What a survey tells.
+//! What a survey reports.
 
 use crate::sizes::Sizes;
 use psi_state::State;

@@ -5,6 +5,7 @@ ghost use Rattle.psi_state.specs.State.{all_states};
 ghost use Rattle.psi_rate.specs.Composition.{compose, picked, system_functions};
 ghost use Rattle.psi_rate.specs.Least.{TellsLeast};
 ghost use Rattle.psi_rate.specs.Outcomes.{meeting_at};
+ghost use Rattle.psi_rate.specs.System.{IsSystem};
 ghost use Rattle.psi_exact.specs.Mapping.{map_of};
 ghost use Rattle.psi_exact.specs.ImagesKept.{AreImages, AreLearned};
 ghost use Rattle.psi_exact.specs.Sizes.{image_sizes};
@@ -23,14 +24,14 @@ use psi_state::State;
 /// Follows all states through the last 2 to the power `h` steps, with `h` from 0 to 12: the number of
 /// states that are left at each power of two, and the least horizon of any length at which one is left,
 /// with that state (Propp and Wilson 1996). `NotConstant` comes exactly where there is no such horizon,
-/// and tells `h`.
+/// and has `h`.
 ///
 /// The events are put before the map from the last one backwards in time, so each word is read once. What
 /// the first events of the system make of all states is learned before that, as far as there is room, so
 /// that their steps only look up ranks. An idle step changes nothing, and a constant map stays as it is.
 ///
 /// The table is one of the system's capacities; afterwards it has the map of the last 2 to the power `h`
-/// steps. The past's words stay as they were. The call takes no memory.
+/// steps. The past's words stay as they were. The call does not allocate.
 pub fn survey<E: EventLaw, P: Past>(
     system: &System<'_, E>,
     past: &mut P,
@@ -55,21 +56,20 @@ pub fn survey<E: EventLaw, P: Past>(
     follow_all(system, past, &mut table.table, &table.images, h)
 }
 
-// Learns the first events of the system, at most so many, as far as there is room.
+// Learns the first events of the system, at most `most`, as far as there is space.
 fn learn<E: EventLaw>(
     system: &System<'_, E>,
     table: &mut Table,
     images: &mut LearnedImages,
     most: u16,
 )
+    requires fit { IsSystem E.capacities system.now }
     requires same_caps { table.old.caps ≡ system.now.caps }
     requires valid { AreImages (length (all_states system.now.caps)) images.old }
     ensures same { table.new ≡ table.old }
     ensures valid { AreImages (length (all_states system.now.caps)) images.new }
     ensures learned { AreLearned system.now.caps (map E.function system.now.events) images.new }
 {
-    // Called for its clause: the events are of the system's capacities.
-    let _caps = system.caps();
     images.clear();
     for number in 0..system.wheel().events().min(most) {
         if !table.add_images(system.event(number), images) {
@@ -86,6 +86,7 @@ fn follow_all<E: EventLaw, P: Past>(
     images: &LearnedImages,
     h: u8,
 ) -> Survey
+    requires fit { IsSystem E.capacities system.now }
     requires same_caps { table.old.caps ≡ system.now.caps }
     requires most { h ≤ 12 }
     requires valid { AreImages (length (all_states system.now.caps)) images.now }
@@ -96,8 +97,6 @@ fn follow_all<E: EventLaw, P: Past>(
     ensures map { table.new ≡ map_of system.now.caps (compose (system_functions E.function system.now (P.words past.old)) (2 ^ h)) }
     ensures words { P.words past.new ≡ P.words past.old }
 {
-    // Called for its clause: the events are of the system's capacities.
-    let _caps = system.caps();
     table.reset();
     let mut found = follow(system, past, table, images, 0, 1, None);
     let mut sizes = Sizes::one(table.image_size());
@@ -122,7 +121,7 @@ fn told(found: Option<(u32, State)>, exponent: u8) -> Meeting
     }
 }
 
-// Goes on from the map of the last `from` steps to that of the last `to`, and tells the least horizon at
+// Goes on from the map of the last `from` steps to that of the last `to`, and returns the least horizon at
 // which it is constant, if it was found.
 fn follow<E: EventLaw, P: Past>(
     system: &System<'_, E>,
@@ -133,6 +132,7 @@ fn follow<E: EventLaw, P: Past>(
     to: u32,
     found: Option<(u32, State)>,
 ) -> Option<(u32, State)>
+    requires fit { IsSystem E.capacities system.now }
     requires order { from ≤ to }
     requires valid { AreImages (length (all_states system.now.caps)) images.now }
     requires learned { AreLearned system.now.caps (map E.function system.now.events) images.now }
@@ -158,6 +158,7 @@ fn step<E: EventLaw, P: Past>(
     place: u32,
     found: Option<(u32, State)>,
 ) -> Option<(u32, State)>
+    requires fit { IsSystem E.capacities system.now }
     requires few { place < 4294967295 }
     requires valid { AreImages (length (all_states system.now.caps)) images.now }
     requires learned { AreLearned system.now.caps (map E.function system.now.events) images.now }
@@ -167,8 +168,6 @@ fn step<E: EventLaw, P: Past>(
     ensures found { TellsLeast (meeting_at (system_functions E.function system.now (P.words past.old)) system.now.caps) (place + 1) result }
     ensures words { P.words past.new ≡ P.words past.old }
 {
-    // Called for its clause: the events are of the system's capacities.
-    let _caps = system.caps();
     if found.is_some() {
         return found;
     }
@@ -187,14 +186,13 @@ fn put_before<E: EventLaw>(
     table: &mut Table,
     images: &LearnedImages,
 )
+    requires fit { IsSystem E.capacities system.now }
     requires same_caps { table.old.caps ≡ system.now.caps }
     requires valid { AreImages (length (all_states system.now.caps)) images.now }
     requires learned { AreLearned system.now.caps (map E.function system.now.events) images.now }
     ensures { (f : List ℕ → List ℕ) → table.old ≡ map_of system.now.caps f
         → table.new ≡ map_of system.now.caps (λ x. f (picked (map E.function system.now.events) system.now.rates word x)) }
 {
-    // Called for its clause: the events are of the system's capacities.
-    let _caps = system.caps();
     let (number, event) = system.pick(word);
     if number < images.known {
         table.follow(images.of(number));

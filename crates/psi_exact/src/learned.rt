@@ -41,7 +41,7 @@ impl LearnedImages {
         self.ranks.clear();
     }
 
-    /// Adds the ranks of what one event more makes of each state, if there is room, and tells whether there
+    /// Adds the ranks of what one event more makes of each state, if there is room, and returns whether there
     /// was.
     pub(crate) fn push(&mut self, images: &[u16]) -> bool
         requires valid { AreImages (length images.now) self.old }

@@ -1,5 +1,5 @@
 //! The composed map of all states of a small network, as a table: coupling from the past (Propp and
-//! Wilson 1996) followed exactly, state by state, so that it can be told what boxes of states lose.
+//! Wilson 1996) followed exactly, state by state, so that what boxes of states lose can be measured.
 #![tactic(auto)]
 
 mod alike;

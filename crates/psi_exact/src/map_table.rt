@@ -19,7 +19,7 @@ pub const MOST_STATES: u32 = 65_536;
 pub enum MapRefusal {
     /// There are more than 65,536 states.
     TooManyStates,
-    /// There is no memory for the table.
+    /// An allocation for the table failed.
     OutOfMemory,
 }
 
@@ -61,10 +61,10 @@ impl MapTable {
     ghost use Rattle.psi_exact.specs.Mapping.{map_of, sends, IsMapOf};
     ghost use Rattle.psi_exact.specs.Refusal.{IsMapRefusal};
 
-    /// The table of the map that sends each state to itself. No other call takes memory.
+    /// Returns the table of the map that sends each state to itself. No other call allocates.
     ///
     /// `TooManyStates` is the answer exactly where there are more than 65,536 states within these
-    /// capacities, and `OutOfMemory` where there is no memory for the table; no clause says when that is.
+    /// capacities, and `OutOfMemory` if an allocation fails; no clause says when that is.
     pub fn reserve(alloc: Global, caps: State) -> Result<MapTable, MapRefusal>
         ensures itself { IfOk result (λ table. table ≡ map_of caps (λ x. x)) }
         ensures every { IfOk result (λ table. IsMapOf table (λ x. x)) }
@@ -102,7 +102,7 @@ impl MapTable {
         self.table.older(e);
     }
 
-    /// The state that `x` is sent to, which is within the capacities as `x` has to be.
+    /// Returns the state that `x` is sent to, which is within the capacities as `x` has to be.
     pub fn at(&self, x: &State) -> State
         requires { IsBelow x.now self.now.caps }
         ensures value { result ≡ sends self.now x.now }
@@ -111,7 +111,7 @@ impl MapTable {
         self.table.at(x)
     }
 
-    /// The number of different states that are sent to. The map stays.
+    /// Returns the number of different states that are sent to. The map stays.
     pub fn image_size(&mut self) -> u32
         ensures size { result ≡ length (image (sends self.old) (all_states self.old.caps)) }
         ensures same { self.new ≡ self.old }
@@ -119,8 +119,8 @@ impl MapTable {
         self.table.image_size()
     }
 
-    /// The one state that all states are sent to, and `None` exactly where they are sent to two or more. It is within
-    /// the capacities.
+    /// Returns the one state that all states are sent to, and `None` exactly where they are sent to two or more. It is
+    /// within the capacities.
     pub fn constant(&self) -> Option<State>
         ensures value { result ≡ single (image (sends self.now) (all_states self.now.caps)) }
         ensures within { IfSome result (λ x. IsBelow x self.now.caps) }

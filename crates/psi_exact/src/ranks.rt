@@ -13,7 +13,7 @@ use std::alloc::{AllocError, Global};
 /// How many ranks are compared before it is asked whether all were the same.
 pub(crate) const STRETCH: usize = 512;
 
-/// A list of so many zeros.
+/// Returns a list of `count` zeros.
 pub(crate) fn zeroed(alloc: Global, count: u32) -> Result<Vec<u16>, AllocError>
     ensures { IfOk result (λ ranks. length ranks.items ≡ count) }
 {
@@ -34,8 +34,8 @@ pub(crate) fn number(ranks: &mut [u16])
     }
 }
 
-/// Writes the table of the map that sends each state to where a table sends what the event makes of it.
-pub(crate) fn write_older<E: EventLaw>(e: &E, ranks: &[u16], next: &mut [u16])
+/// Writes the table of a map after an event: each state is sent to where the old table sends what the event makes of it.
+pub(crate) fn write_composed<E: EventLaw>(e: &E, ranks: &[u16], next: &mut [u16])
     requires few { length (all_states (E.capacities e.now)) ≤ 65536 }
     requires own { AreRanks (E.capacities e.now) ranks.now }
     requires room { length next.old ≡ length (all_states (E.capacities e.now)) }
@@ -91,7 +91,7 @@ fn clear(marks: &mut [u16])
     }
 }
 
-/// The one rank that stands at all places, if it does. Most often the last one tells that it doesn't.
+/// The one rank that stands at all places, if it does. Most often the last one shows that it doesn't.
 pub(crate) fn common(ranks: &[u16]) -> Option<u16>
     requires { 1 ≤ length ranks.now }
     ensures { MatchOption result (AreMixed ranks.now) (λ rank. AreAll rank ranks.now) }

@@ -47,7 +47,7 @@ impl Sizes {
         self.len += 1;
     }
 
-    /// The number of sizes, 1 to 13.
+    /// Returns the number of sizes, 1 to 13.
     pub fn len(&self) -> u8
         ensures value { result ≡ length self.now }
         ensures some { 1 ≤ result }
@@ -56,7 +56,7 @@ impl Sizes {
         self.len
     }
 
-    /// The size of the image of the horizon 2 to the power `i`, in states.
+    /// Returns the size of the image of the horizon 2 to the power `i`, in states.
     pub fn get(&self, i: u8) -> u32
         requires { i < length self.now }
         ensures { result ≡ slice_index self.now i }

@@ -9,11 +9,11 @@ use crate::alike::{moves_alike, span_of};
 use psi_event::EventLaw;
 use psi_state::{Bounds, State};
 
-// An event is applied to the states of its span alone where all are at least so many times as many.
+// An event is applied to the states of its span alone where there are at least this many times as many states in all.
 const LEAST_SAVED: u32 = 8;
 
 /// Writes at the rank of each state the rank of what the event makes of it, where it changes few queues
-/// and moves all states alike that agree in these, and tells whether it does: then it is applied only to
+/// and moves all states alike that agree in these, and returns whether it does: then it is applied only to
 /// states with no customers elsewhere, and what it makes of the others follows.
 pub(crate) fn spread_images<E: EventLaw>(e: &E, ranks: &mut [u16]) -> bool
     requires few { length (all_states (E.capacities e.now)) ≤ 65536 }

@@ -7,7 +7,7 @@ ghost use Rattle.psi_state.specs.Sets.{image, single};
 
 use crate::images::write_images;
 use crate::learned::LearnedImages;
-use crate::ranks::{common, count_distinct, look_up_all, number, write_older, zeroed};
+use crate::ranks::{common, count_distinct, look_up_all, number, write_composed, zeroed};
 use psi_event::EventLaw;
 use psi_state::{Bounds, State};
 use std::alloc::{AllocError, Global};
@@ -39,7 +39,7 @@ impl Table {
     ghost use Rattle.psi_exact.specs.TableKept.{AreRanks};
     ghost use Rattle.psi_exact.specs.ImagesKept.{AreImages, IsSameImages, IsOneMore};
 
-    /// The table of the map that sends each of all states, so many, to itself.
+    /// Makes the table of the map that sends each of all states to itself; `states` is their number.
     pub(crate) fn reserve(alloc: Global, caps: State, states: u32) -> Result<Table, AllocError>
         requires all { states ≡ length (all_states caps) }
         requires few { states ≤ 65536 }
@@ -64,11 +64,11 @@ impl Table {
         requires { E.capacities e.now ≡ self.old.caps }
         ensures { self.new ≡ map_of self.old.caps (λ x. sends self.old (E.function e.now x)) }
     {
-        write_older(e, self.ranks.as_slice(), self.spare.as_mut_slice());
+        write_composed(e, self.ranks.as_slice(), self.spare.as_mut_slice());
         std::mem::swap(&mut self.ranks, &mut self.spare);
     }
 
-    /// Adds the ranks of what the event makes of each state to those of others, if there is room, and tells
+    /// Adds the ranks of what the event makes of each state to those of others, if there is room, and returns
     /// whether there was. The map stays.
     pub(crate) fn add_images<E: EventLaw>(&mut self, e: &E, images: &mut LearnedImages) -> bool
         requires same_caps { E.capacities e.now ≡ self.old.caps }

@@ -19,14 +19,14 @@ use psi_region::{Corners, Course, Follower, Regions};
 use psi_route::RouteLaw;
 use std::alloc::Global;
 
-/// The plan to sample the network from this past. It takes the room for the numbers of the events of the 2 to the
-/// power `limit` steps of the greatest horizon, of 2 bytes each, for a region of `split` states, and for the events on
-/// packed states; where some event isn't monotone, also for `split` packed states. In a network whose customers join
+/// Returns the plan to sample the network from this past. It allocates room for the numbers of the events of the 2 to
+/// the power `limit` steps of the greatest horizon, of 2 bytes each, for a region of `split` states, and for the events
+/// on packed states; where some event isn't monotone, also for `split` packed states. In a network whose customers join
 /// the queue with the least key, the keys take the place of the events on packed states: 4 bytes for each target and
 /// each number of customers from 0 to its capacity, or up to twice that, and 8 bytes for each event. Where some event
-/// isn't monotone and the states can't be packed, it takes the room for a second region. No other call takes memory.
+/// isn't monotone and the states can't be packed, it allocates room for a second region. No other call allocates.
 ///
-/// `OutOfMemory` is the answer where there is no memory for it; no clause says when that is.
+/// Returns `OutOfMemory` if an allocation fails; no clause says when that is.
 pub fn plan_of<'n, E: PiecewiseLaw + RouteLaw, P: Past + Drop>(
     alloc: Global,
     system: System<'n, E>,
@@ -38,11 +38,11 @@ pub fn plan_of<'n, E: PiecewiseLaw + RouteLaw, P: Past + Drop>(
     Plan::following(alloc, system, past, way)
 }
 
-/// The way to follow the network's runs: by the corners where each event is monotone, and otherwise by regions, each on packed
-/// states, of the fewest words that the network's fit, where they fit and each event tells its pieces. Where customers join the
-/// queue with the least key, it is by the keys.
+/// Returns the way to follow the network's runs: by the corners where each event is monotone, and otherwise by regions,
+/// each on packed states, of the fewest words that the network's fit, where they fit and each event declares its
+/// pieces. Where customers join the queue with the least key, it is by the keys.
 ///
-/// `OutOfMemory` is the answer where there is no memory for it; no clause says when that is.
+/// Returns `OutOfMemory` if an allocation fails; no clause says when that is.
 pub fn way_of<'n, E: PiecewiseLaw + RouteLaw>(
     alloc: Global,
     system: &System<'n, E>,

@@ -29,7 +29,7 @@ pub type SetsByWords<'n, E> = ByWords<
     PackedSets<'n, 4, E>,
 >;
 
-/// A way to follow the runs of a network. No call takes memory.
+/// A way to follow the runs of a network. No call allocates.
 pub enum Way<'n, E: EventLaw> {
     /// By regions, through the events themselves.
     Regions(Regions<'n, E>),

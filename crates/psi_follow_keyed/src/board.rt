@@ -35,12 +35,12 @@ impl Model for Board {
 }
 
 impl Board {
-    /// The board of an event's targets; `None` where the event isn't a route by which customers from outside join, one
-    /// at a time, the target with the least key, or where a value of a table is above 2^27 - 2.
+    /// Returns the board of an event's targets; `None` where the event isn't a route by which customers from outside
+    /// join, one at a time, the target with the least key, or where a value of a table is above 2^27 - 2.
     ///
     /// # Errors
     ///
-    /// `AllocError` where there is no memory for it; no clause says when that is.
+    /// `AllocError` if an allocation fails; no clause says when that is.
     pub fn of<E: RouteLaw>(alloc: Global, event: &E) -> Result<Option<Board>, AllocError>
         ensures { IfOk result (λ found. IfSome found (λ board. IsBoardFor (E.capacities event.now) (E.function event.now) board)) }
     {
@@ -50,7 +50,7 @@ impl Board {
         Board::of_route(alloc, route)
     }
 
-    // The same for a route.
+    // As `of`, of an event that is known to be this route.
     fn of_route(alloc: Global, route: &Route) -> Result<Option<Board>, AllocError>
         ensures { IfOk result (λ found. IfSome found (λ board. IsBoardFor (⟦<Route as EventLaw>⟧.capacities route.now) (⟦<Route as EventLaw>⟧.function route.now) board)) }
     {
@@ -67,7 +67,7 @@ impl Board {
         }))
     }
 
-    /// The targets, in their order.
+    /// Returns the targets, in their order.
     ///
     /// Its second clause is how a caller learns what every board keeps.
     pub fn targets(&self) -> Queues
@@ -77,7 +77,7 @@ impl Board {
         self.targets
     }
 
-    /// The queue of the target at a place.
+    /// Returns the queue of the target at a place.
     #[inline]
     pub fn queue(&self, place: u8) -> u8
         requires { place < length self.now.targets }
@@ -86,7 +86,7 @@ impl Board {
         self.targets.get(place)
     }
 
-    /// The key of the target at a place with so many customers.
+    /// Returns the key of the target at a place where it holds `held` customers.
     #[inline]
     pub fn key(&self, place: u8, held: u16) -> u32
         requires place { place < length self.now.targets }

@@ -49,11 +49,12 @@ impl<'n, E: EventLaw> Drop for KeyedCorners<'n, E> {
 }
 
 impl<'n, E: RouteLaw> KeyedCorners<'n, E> {
-    /// A follower of this network, whose events are monotone; `None` where they are none of those that `Keyed` takes.
+    /// Returns a follower of this network, whose events are monotone; `None` where they are none of those that `Keyed`
+    /// takes.
     ///
     /// # Errors
     ///
-    /// `AllocError` where there is no memory for it; no clause says when that is. No other call takes memory.
+    /// `AllocError` if an allocation fails; no clause says when that is. No other call allocates.
     pub fn new(
         alloc: Global,
         course: &Course<'n, E>,

@@ -20,7 +20,7 @@ pub(crate) struct Rows {
 }
 
 impl Rows {
-    /// The keys of a route's targets; `None` where a value of a table is above 2^27 - 2.
+    /// Returns the keys of a route's targets; `None` where a value of a table is above 2^27 - 2.
     pub fn of(alloc: Global, route: &Route) -> Result<Option<Rows>, AllocError>
         requires { let s = shape_of route.now in 0 < length s.tables }
         ensures { let s = shape_of route.now in IfOk result (λ found. IfSome found (λ rows. AreRowsOf s (length s.targets) rows.bases rows.entries.items)) }
@@ -36,7 +36,7 @@ impl Rows {
         Ok(Some(Rows { bases, entries }))
     }
 
-    /// The key of the target at a place with so many customers.
+    /// Returns the key of the target at a place where it holds `held` customers.
     #[inline]
     pub fn at(&self, place: u8, held: u16) -> u32
         requires place { place < 32 }
@@ -47,7 +47,7 @@ impl Rows {
     }
 }
 
-// Puts the keys of the target at a place behind the others; false where a value of its table is too great.
+// Puts the keys of the target at a place after the others; false where a value of its table is too great.
 fn push_row(entries: &mut Vec<u32>, route: &Route, place: u8) -> Result<bool, AllocError>
     requires tables { let s = shape_of route.now in 0 < length s.tables }
     requires place { let s = shape_of route.now in place < length s.targets }

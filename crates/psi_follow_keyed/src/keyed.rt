@@ -37,16 +37,16 @@ impl Drop for Keyed {
 }
 
 impl Keyed {
-    /// The network of these events, which are for these capacities; `None` where it is none of those: one event is a
-    /// route by which customers from outside join, one at a time, the target with the least key, where no key's value
-    /// is above 2^27 - 2, and each other event is a route without a target.
+    /// Returns the network of these events, which are for these capacities; `None` where it is none of those: one event
+    /// is a route by which customers from outside join, one at a time, the target with the least key, where no key's
+    /// value is above 2^27 - 2, and each other event is a route without a target.
     ///
     /// It takes 4 bytes for each target and each number of customers from 0 to its capacity, or up to twice that, and 8 bytes for
     /// each event.
     ///
     /// # Errors
     ///
-    /// `AllocError` where there is no memory for it; no clause says when that is. No other call takes memory.
+    /// `AllocError` if an allocation fails; no clause says when that is. No other call allocates.
     pub fn new<E: RouteLaw>(
         alloc: Global,
         caps: State,
@@ -83,7 +83,7 @@ impl Keyed {
         *high = greatest.state;
     }
 
-    // The same for states with their keys.
+    // As `follow`, on states whose keys are kept beside them.
     #[inline(never)]
     fn advance(&self, numbers: &[u16], low: &mut Marked, high: &mut Marked)
         requires numbers { EachIndex numbers.now (λ i. slice_index numbers.now i < length self.now.steps) }

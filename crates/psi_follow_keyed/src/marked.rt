@@ -20,7 +20,7 @@ pub(crate) struct Marked {
 }
 
 impl Marked {
-    /// A state with its keys.
+    /// Returns a state with its keys.
     pub fn of(board: &Board, state: &State) -> Marked
         requires { IsBelow state.now board.now.caps }
         ensures state { result.state ≡ state.now }
@@ -60,7 +60,7 @@ impl Marked {
         }
     }
 
-    // A customer leaves a queue that holds at least so many.
+    // A customer leaves the queue where it holds at least `least`.
     #[inline]
     fn leave(&mut self, board: &Board, queue: u8, least: u16, place: u8)
         requires ranked { AreRanked board.now }

@@ -13,7 +13,7 @@ use psi_state::Queues;
 pub(crate) enum Step {
     /// Nothing changes.
     Still,
-    /// A customer leaves a queue that holds at least so many.
+    /// A customer leaves a queue that holds at least `least`.
     Leave {
         /// The queue, counted from 0.
         queue: u8,
@@ -27,7 +27,7 @@ pub(crate) enum Step {
 }
 
 impl Step {
-    /// The step of an event by which customers leave; `None` where the event isn't a route without targets.
+    /// Returns the step of an event by which customers leave; `None` where the event isn't a route without targets.
     pub fn leaving<E: RouteLaw>(event: &E, targets: &Queues) -> Option<Step>
         ensures { IfSome result (λ step. IsLeaving (E.capacities event.now) targets.now (E.function event.now) step) }
     {
@@ -37,7 +37,7 @@ impl Step {
         Step::leaving_by(route, targets)
     }
 
-    // The same for a route.
+    // As `leaving`, of an event that is known to be this route.
     fn leaving_by(route: &Route, targets: &Queues) -> Option<Step>
         ensures { IfSome result (λ step. IsLeaving (⟦<Route as EventLaw>⟧.capacities route.now) targets.now (⟦<Route as EventLaw>⟧.function route.now) step) }
     {

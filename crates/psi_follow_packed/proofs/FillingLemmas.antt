@@ -144,7 +144,7 @@ sums-packed count p x u y words is below each sums =
     let sum = sums.each w within in
     omega (arith, sum, whole, few)))
 
--- least numbers in front, a number that is at most the greatest, and numbers behind it that are
+-- least numbers in front, a number that is at most the greatest, and numbers after it that are
 below-behind : (lo hi : List ℕ) (place v : ℕ) (x : List ℕ) → IsBelow lo hi → place < length lo → v ≤ slice_index hi place → IsBelow x (drop (suc place) hi)
     → IsBelow (take place lo ++ v ∷ x) hi
 below-behind [] hi place v x ordered within small below = absurd (omega arith)
@@ -189,7 +189,7 @@ spread-fits lo hi place count ordered within is =
     let all = length-box lo hi in
     omega (arith, own, most, all)
 
--- behind the last queue there is one state, that of the least numbers
+-- after the last queue there is one state, that of the least numbers
 pub behind-none : {K : ℕ} (p : Packing) (lo hi : List ℕ) (list : List (Packed K)) (x : Packed K) → length lo ≡ length hi → 1 ≤ length list → x.words ≡ packed K p lo
     → AreBehind p lo hi (length lo) 1 (slice_set list 0 x)
 behind-none p lo hi [] x same some own = absurd (omega arith)

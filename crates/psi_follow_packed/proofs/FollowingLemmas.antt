@@ -27,7 +27,7 @@ follow_numbers-within count caps functions p prepared (n ∷ numbers) x below =
       | inr past ↦ subst (λ (f : List ℕ → List ℕ). IsBelow (f (follow_numbers functions numbers x)) caps) (sym (get_or_past functions n (λ y. y) past)) rest
     ]
 
--- no number is left behind the last
+-- no number is left after the last
 pub follows-none : (count : ℕ) (p : Prepared) (numbers before : List ℕ) → Follows count p (drop (length numbers) numbers) before before
 follows-none count p numbers before = λ caps functions s prepared below same.
     same ∙ ap (λ (ns : List ℕ). packed count p.packing (follow_numbers functions ns s)) (sym (drop-length numbers))

@@ -55,7 +55,7 @@ down-field bits AtLeast bound cap up down v small bounded unit = elim (cases_lt 
 pub record AreFields (count : ℕ) (p : Packing) (f : ℕ → ℕ) (words : List ℕ) : Type 0 where
   pub each : (w : ℕ) → w < count → slice_index words w ≡ digits p.bits p.fields (λ j. f (w * p.fields + j))
 
--- each number is zero or one, and those behind the last queue are zero
+-- each number is zero or one, and those after the last queue are zero
 pub record AreUnitFields (caps : List ℕ) (t : ℕ → ℕ) : Type 0 where
   pub small : (q : ℕ) → t q ≤ 1
   pub past : (q : ℕ) → length caps ≤ q → t q ≡ 0

@@ -24,7 +24,7 @@ pub record AreCorners (count : ℕ) (p : Packing) (low_words high_words lo hi : 
   pub low : low_words ≡ packed count p lo
   pub high : high_words ≡ packed count p hi
 
--- it is told whether the box has at most so many states
+-- it is decided whether the box has at most so many states
 abbrev pub TellsFew : ℕ → Packing → List ℕ → List ℕ → ℕ → Bool → Type 0
 TellsFew count p low high most told = (lo hi : List ℕ) → AreCorners count p low high lo hi → IsTrue told ↔ length (box lo hi) ≤ most
 
@@ -32,7 +32,7 @@ TellsFew count p low high most told = (lo hi : List ℕ) → AreCorners count p 
 abbrev pub AreGaps : ℕ → List ℕ → List ℕ → List ℕ → Type 0
 AreGaps count low high gaps = (w : ℕ) → w < count → slice_index gaps w ≡ (slice_index high w + (2 ^ 64 - slice_index low w)) % 2 ^ 64
 
--- it is told whether the boxes that have these gaps have at most so many states
+-- it is decided whether the boxes that have these gaps have at most so many states
 abbrev pub GapsTell : ℕ → ℕ → ℕ → List ℕ → Bool → Type 0
 GapsTell count bits most gaps told =
     (p : Packing) (low high : List ℕ) → IsPacking count p → p.bits ≡ bits → AreGaps count low high gaps → TellsFew count p low high most told

@@ -17,7 +17,7 @@ pub record AreSums (count : ℕ) (x y sums : List ℕ) : Type 0 where
   pub long : length sums ≡ count
   pub each : (w : ℕ) → w < count → slice_index sums w ≡ (slice_index x w + slice_index y w) % 2 ^ 64
 
--- behind the first ones, up to so many in all, each is what stands as many places before, with
+-- after the first ones, up to so many in all, each is what stands as many places before, with
 -- these words added
 pub record AreRepeated {K : ℕ} (added : List ℕ) (first all : ℕ) (list : List (Packed K)) : Type 0 where
   pub each : (i : ℕ) → first ≤ i → i < all → AreSums K (words_at list (i - first)) added (words_at list i)

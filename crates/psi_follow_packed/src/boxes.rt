@@ -11,8 +11,8 @@ use crate::pairs::PackedPair;
 use crate::program::Program;
 
 impl<const K: usize> Program<K> {
-    /// Whether the box between the two packed states, of which the low one is nowhere above the high one, has at most
-    /// so many states.
+    /// Returns whether the box between the two packed states, of which the low one is nowhere above the high one, has
+    /// at most `most` states.
     pub fn box_has_at_most(&self, x: &PackedPair<K>, most: u32) -> bool
         ensures { TellsFew K self.now.packing (low_words x.now) (high_words x.now) most result }
     {
@@ -58,8 +58,8 @@ impl<const K: usize> Program<K> {
     }
 }
 
-// Whether boxes of these gaps have at most so many states, where those of the gaps that were tested have more: most events
-// move both corners alike.
+// Whether boxes of these gaps have at most `most` states, where those of the gaps that were tested have more: most
+// events move both corners alike.
 #[inline]
 fn became_few<const K: usize>(gaps: &Packed<K>, tested: &Packed<K>, bits: u8, most: u32) -> bool
     requires some { 1 ≤ bits }
@@ -73,7 +73,7 @@ fn became_few<const K: usize>(gaps: &Packed<K>, tested: &Packed<K>, bits: u8, mo
     has_at_most(gaps, bits, most)
 }
 
-// Whether the boxes of these gaps have at most so many states, by fields of so many bits.
+// Whether the boxes of these gaps have at most `most` states, by fields of `bits` bits.
 #[inline]
 fn has_at_most<const K: usize>(gaps: &Packed<K>, bits: u8, most: u32) -> bool
     requires some { 1 ≤ bits }

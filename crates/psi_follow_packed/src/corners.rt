@@ -48,12 +48,12 @@ impl<'n, const K: usize, E: EventLaw> Drop for PackedCorners<'n, K, E> {
 }
 
 impl<'n, const K: usize, E: PiecewiseLaw> PackedCorners<'n, K, E> {
-    /// A follower of this network, whose events are monotone; `None` where its states don't fit `K` words, or an event tells
-    /// no pieces.
+    /// Returns a follower of this network, whose events are monotone; `None` where its states don't fit `K` words, or
+    /// an event declares no pieces.
     ///
     /// # Errors
     ///
-    /// `AllocError` where there is no memory for it; no clause says when that is. No other call takes memory.
+    /// `AllocError` if an allocation fails; no clause says when that is. No other call allocates.
     pub fn new(
         alloc: Global,
         course: &Course<'n, E>,

@@ -18,7 +18,7 @@ use psi_event::{Piecewise, PiecewiseLaw, Side};
 use psi_state::State;
 
 impl<const K: usize> Program<K> {
-    /// The event on packed corners, where it is one of single customers and tells its pieces.
+    /// Returns the event on packed corners, where it is one of single customers and declares its pieces.
     pub fn unit_event<E: PiecewiseLaw>(&self, event: &E) -> Option<UnitEvent<K>>
         requires { E.capacities event.now ≡ self.now.packing.caps }
         ensures { IfSome result (λ unit. IsUnitFor K self.now.packing (E.function event.now) (unit_masks unit)) }
@@ -37,7 +37,7 @@ impl<const K: usize> Program<K> {
 }
 
 impl<const K: usize> UnitEvent<K> {
-    /// Puts the corners of the tight box around what the event makes of a box in the place of the box's corners: nothing
+    /// Replaces the corners of a box by those of the tight box around what the event makes of it: nothing
     /// changes where it happens in no state of the box, and a queue may keep its number where another one stops the event.
     #[inline]
     pub fn enclose(&self, x: &mut PackedPair<K>)

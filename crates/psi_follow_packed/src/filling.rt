@@ -14,7 +14,7 @@ use crate::program::Program;
 use psi_state::{Bounds, State};
 
 impl<const K: usize> Program<K> {
-    /// Packs the states of the box, one after another in lexicographic order, and answers how many
+    /// Packs the states of the box, one after another in lexicographic order, and returns how many
     /// there are. They are within the capacities.
     pub fn pack_box(&self, bounds: &Bounds, out: &mut [Packed<K>]) -> usize
         requires room { length (box bounds.now.lo bounds.now.hi) ≤ length out.old }
@@ -32,7 +32,7 @@ impl<const K: usize> Program<K> {
     }
 
     // Behind the states that have this queue's least number, puts them again for each number more of
-    // it. Answers how many there are then.
+    // it. Returns how many there are then.
     fn spread(&self, bounds: &Bounds, queue: u8, count: usize, out: &mut [Packed<K>]) -> usize
         requires queue { queue < length bounds.now.lo }
         requires within { IsBelow bounds.now.hi self.now.packing.caps }
@@ -69,7 +69,7 @@ impl<const K: usize> Packed<K> {
     }
 }
 
-// Fills the places behind the first `count` packed states, up to `whole` in all, with what stands
+// Fills the places after the first `count` packed states, up to `whole` in all, with what stands
 // `count` places before each, and this added.
 #[inline(never)]
 fn repeat_with<const K: usize>(added: &Packed<K>, count: usize, whole: usize, out: &mut [Packed<K>])

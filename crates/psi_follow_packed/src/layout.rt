@@ -58,7 +58,7 @@ impl<const K: usize> Layout<K> {
         Some(Layout { caps, fields, bits })
     }
 
-    /// The state as words. It is within the capacities.
+    /// Returns the state as words. It is within the capacities.
     pub fn pack(&self, x: &State) -> Packed<K>
         requires { IsBelow x.now self.now.caps }
         ensures { result.words ≡ packed K self.now x.now }
@@ -99,7 +99,7 @@ impl<const K: usize> Layout<K> {
         word
     }
 
-    /// The state that is packed in the words.
+    /// Returns the state that is packed in the words.
     pub fn unpack(&self, words: &Packed<K>) -> State
         ensures { (x : List ℕ) → IsBelow x self.now.caps → words.now.words ≡ packed K self.now x → result ≡ x }
     {
@@ -128,7 +128,7 @@ impl<const K: usize> Layout<K> {
         ((words.words[at] >> shift) & ((1 << self.bits) - 1)) as u16
     }
 
-    /// The capacities, in customers.
+    /// Returns the capacities, in customers.
     pub fn caps(&self) -> State
         ensures value { result ≡ self.now.caps }
         ensures valid { IsPacking K self.now }

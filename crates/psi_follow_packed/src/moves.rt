@@ -71,7 +71,7 @@ impl<const K: usize> Masks<K> {
 }
 
 impl<const K: usize> PackedEvent<K> {
-    /// The event of these pieces, on states that are packed so.
+    /// Returns the event of these pieces, on states that are packed so.
     pub fn of(layout: &Layout<K>, pieces: &Piecewise) -> PackedEvent<K>
         requires { IsPiecewise layout.now.caps pieces.now }
         ensures pieces { IsMoveOf K layout.now pieces.now (moving_by low_word result) }
@@ -148,7 +148,7 @@ impl<const K: usize> PackedEvent<K> {
     }
 
     // As the one above, for the first piece, by the lowered offsets: with these none of the guards that it looks at is to be up, so one
-    // comparison tells it for all words.
+    // comparison decides it for all words.
     #[inline]
     fn none_up(&self, x: &PackedPair<K>) -> Pair
         requires low { IsLowered K (moving_by low_word self.now) }

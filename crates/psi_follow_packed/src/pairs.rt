@@ -121,7 +121,7 @@ impl<const K: usize> PackedPair<K> {
         PackedPair { pairs }
     }
 
-    /// The low one.
+    /// Returns the low one.
     #[inline]
     pub fn low(&self) -> Packed<K>
         ensures { result.words ≡ low_words self.now }
@@ -129,7 +129,7 @@ impl<const K: usize> PackedPair<K> {
         self.side::<0>()
     }
 
-    /// The high one.
+    /// Returns the high one.
     #[inline]
     pub fn high(&self) -> Packed<K>
         ensures { result.words ≡ high_words self.now }
@@ -171,7 +171,7 @@ impl<const K: usize> Packed<K> {
         Packed { words: [0; K] }
     }
 
-    /// Whether the words are the same.
+    /// Returns whether the words are the same.
     #[inline]
     pub fn is(&self, other: &Packed<K>) -> bool
         ensures { IsTrue result ↔ (self.now.words ≡ other.now.words) }
@@ -184,8 +184,8 @@ impl<const K: usize> Packed<K> {
         true
     }
 
-    /// A hash whose high bits depend on all bits of the words: equal words have equal hashes. It is made by multiplication
-    /// (Knuth, The Art of Computer Programming, volume 3, section 6.4). No clause says which it is.
+    /// Returns a hash whose high bits depend on all bits of the words: equal words have equal hashes. It is made by
+    /// multiplication (Knuth, The Art of Computer Programming, volume 3, section 6.4). No clause says which it is.
     #[inline]
     pub fn hash(&self) -> u64 {
         let mut product: u64 = 0;

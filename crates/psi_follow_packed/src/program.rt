@@ -47,11 +47,11 @@ impl<const K: usize> Drop for Program<K> {
 }
 
 impl<const K: usize> Program<K> {
-    /// The events on states that are packed so; `None` where an event tells no pieces.
+    /// Returns the events on states that are packed so; `None` where an event declares no pieces.
     ///
     /// # Errors
     ///
-    /// `AllocError` where there is no memory for it; no clause says when that is. No other call takes memory.
+    /// `AllocError` if an allocation fails; no clause says when that is. No other call allocates.
     pub fn new<E: PiecewiseLaw>(
         alloc: Global,
         layout: Layout<K>,
@@ -87,7 +87,7 @@ impl<const K: usize> Program<K> {
         PackedPair::of(&self.layout.pack(low), &self.layout.pack(high))
     }
 
-    /// The two states that are packed.
+    /// Returns the two states that are packed.
     pub fn unpack(&self, x: &PackedPair<K>) -> (State, State)
         ensures low { (s : List ℕ) → IsBelow s self.now.packing.caps → low_words x.now ≡ packed K self.now.packing s → result.0 ≡ s }
         ensures high { (s : List ℕ) → IsBelow s self.now.packing.caps → high_words x.now ≡ packed K self.now.packing s → result.1 ≡ s }
@@ -95,7 +95,7 @@ impl<const K: usize> Program<K> {
         (self.layout.unpack(&x.low()), self.layout.unpack(&x.high()))
     }
 
-    /// A state, packed. It is within the capacities.
+    /// Returns a state, packed. It is within the capacities.
     pub fn pack_one(&self, x: &State) -> Packed<K>
         requires { IsBelow x.now self.now.packing.caps }
         ensures { result.words ≡ packed K self.now.packing x.now }
@@ -103,7 +103,7 @@ impl<const K: usize> Program<K> {
         self.layout.pack(x)
     }
 
-    /// The state that is packed.
+    /// Returns the state that is packed.
     pub fn unpack_one(&self, x: &Packed<K>) -> State
         ensures { (s : List ℕ) → IsBelow s self.now.packing.caps → x.now.words ≡ packed K self.now.packing s → result ≡ s }
     {

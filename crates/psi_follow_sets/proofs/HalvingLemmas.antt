@@ -23,7 +23,7 @@ same-through first second = record {
   back = λ x member. first.back x (second.back x member);
 }
 
--- a member behind the others
+-- a member after the others
 pub same-behind : {A : Type 0} (xs : List A) (x : A) → HaveSame (xs ++ x ∷ []) (x ∷ xs)
 same-behind xs x = record {
   there = λ z member. elim (In-append z xs (x ∷ []) member) [
@@ -46,7 +46,7 @@ same-there {A} xs x own = record {
   ];
 }
 
--- two members more in front and behind
+-- two members more in front and after
 pub same-two : {A : Type 0} (xs ys zs front : List A) (x y : A) → HaveSame xs front → HaveSame ys (x ∷ xs) → HaveSame zs (y ∷ ys) → HaveSame zs (front ++ x ∷ y ∷ [])
 same-two xs ys zs front x y first second third = record {
   there = λ z member. elim (third.there z member) [
@@ -147,7 +147,7 @@ words-set {K} states n x within =
     ∙ ap (λ (ws : List (Packed K)). map (λ (y : Packed K). y.words) ws) (take-suc-set states n x within)
     ∙ map-append (λ (y : Packed K). y.words) (take n states) (x ∷ [])
 
--- the first states, where one behind them is written
+-- the first states, where one after them is written
 pub words-before : {K : ℕ} (states : List (Packed K)) (n : ℕ) (x : Packed K) → words_of_first n (slice_set states n x) ≡ words_of_first n states
 words-before {K} states n x = ap (λ (ws : List (Packed K)). map (λ (y : Packed K). y.words) ws) (take-set-le n states n x (omega arith))
 
@@ -157,7 +157,7 @@ In-words (s ∷ states) zero i x small within = absurd (omega arith)
 In-words (s ∷ states) (suc n) zero x small within = inl refl
 In-words (s ∷ states) (suc n) (suc i) x small within = inr (In-words states n i x (omega arith) (omega arith))
 
--- a state that is written behind the first ones is one of them or is not
+-- a state that is written after the first ones is one of them or is not
 pub kept-there : {K : ℕ} (states : List (Packed K)) (n i : ℕ) (x y : Packed K) → i < n → n < length states → (get_or states i y).words ≡ x.words
     → HaveSame (words_of_first n (slice_set states n x)) (x.words ∷ words_of_first n states)
 kept-there {K} states n i x y small within same =

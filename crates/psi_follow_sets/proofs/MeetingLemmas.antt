@@ -34,7 +34,7 @@ take-none : (n : ℕ) → take {A = ℕ} n [] ≡ []
 take-none zero = refl
 take-none (suc n) = refl
 
--- the first numbers, and those behind them up to a place
+-- the first numbers, and those after them up to a place
 take-behind : (stop place : ℕ) (xs : List ℕ) → take (stop + place) xs ≡ take stop xs ++ take place (drop stop xs)
 take-behind zero place xs = (let e : 0 + place ≡ place = omega arith in ap (λ n. take n xs) e)
 take-behind (suc stop) place [] = take-none (suc stop + place) ∙ sym (take-none place)

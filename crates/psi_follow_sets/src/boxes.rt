@@ -62,7 +62,7 @@ pub(crate) fn are_units<const K: usize>(halts: &[bool], units: &[Option<UnitEven
     true
 }
 
-// Puts the corners of the event's envelope of a box in the place of the box's corners.
+// Replaces the corners of a box by those of the event's envelope of it.
 pub(crate) fn enclose_by<const K: usize, E: EventLaw>(
     program: &Program<K>,
     event: &E,

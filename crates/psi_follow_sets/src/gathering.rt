@@ -6,7 +6,8 @@ ghost use Rattle.psi_follow_sets.specs.HalvesKept.{halves, words_of_first, AreAl
 
 use psi_follow_packed::{Packed, PackedPair};
 
-/// Puts the packed states of the pairs one after another, those that are seen to be there already left out. Answers how many there are.
+/// Puts the packed states of the pairs one after another, those that are seen to be there already left out. Returns how
+/// many there are.
 ///
 /// The place of a state is looked up in `seen` by its hash (Knuth, The Art of Computer Programming, volume 3, section 6.4).
 /// What stands there may be of a former list, or of another state: then a repeat stays, and the set is the same.
@@ -36,7 +37,7 @@ pub(crate) fn gather<const K: usize>(
     count
 }
 
-// Puts the state behind the first ones where it isn't seen to be one of them. Answers how many there are then.
+// Puts the state after the first ones where it isn't seen to be one of them. Returns how many there are then.
 #[inline]
 fn keep<const K: usize>(
     x: &Packed<K>,
@@ -64,7 +65,7 @@ fn keep<const K: usize>(
     count + !is_there as usize
 }
 
-/// Puts packed states side by side, the last one twice where their number is odd. Answers how many pairs there are.
+/// Puts packed states side by side, the last one twice where their number is odd. Returns how many pairs there are.
 pub(crate) fn pair_up<const K: usize>(states: &[Packed<K>], list: &mut [PackedPair<K>]) -> usize
     requires room { length states.now ≤ 2 * length list.old }
     ensures members { HaveSame (halves (take result list.new)) (words_of_first (length states.now) states.now) }

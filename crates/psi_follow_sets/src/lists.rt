@@ -31,8 +31,8 @@ pub(crate) struct Lists<const K: usize> {
 }
 
 impl<const K: usize> Lists<K> {
-    /// Room for `most` states, 1 to 4,096; `AllocError` where a state has more than 32 words, as no
-    /// packed state has.
+    /// Reserves space for `most` states, 1 to 4,096. `AllocError` if an allocation fails, or where a state has more
+    /// than 32 words, as no packed state has.
     pub(crate) fn reserve(alloc: Global, most: u16) -> Result<Lists<K>, AllocError>
         requires least { 1 ≤ most }
         requires most { most ≤ 4096 }
@@ -83,7 +83,7 @@ impl<const K: usize> Lists<K> {
         }
     }
 
-    // The same until one pair is left. Answers how many numbers are left then: the first ones.
+    // As `follow`, until one pair is left. Returns how many numbers are left then: the first ones.
     fn follow_apart(&mut self, program: &Program<K>, numbers: &[u16]) -> usize
         requires lists { AreLists self.old }
         requires numbers { EachIndex numbers.now (λ i. slice_index numbers.now i < length program.now.moves) }
@@ -156,7 +156,7 @@ impl<const K: usize> Lists<K> {
     }
 }
 
-// The bits of a place among at least two slots for each of so many states.
+// The bits of a place among at least two slots for each of `most` states.
 fn bits_for(most: u16) -> u8
     requires least { 1 ≤ most }
     requires most { most ≤ 4096 }
@@ -166,7 +166,7 @@ fn bits_for(most: u16) -> u8
     16 - (2 * most - 1).leading_zeros() as u8
 }
 
-// So many pairs of no customer.
+// As many pairs of states without customers as `count`.
 fn free_pairs<const K: usize>(alloc: Global, count: u16) -> Result<Vec<PackedPair<K>>, AllocError>
     ensures { IfOk result (λ pairs. length pairs.items ≡ count) }
 {
@@ -178,7 +178,7 @@ fn free_pairs<const K: usize>(alloc: Global, count: u16) -> Result<Vec<PackedPai
     Ok(pairs)
 }
 
-// So many packed states of no customer.
+// As many packed states without customers as `count`.
 fn free_states<const K: usize>(alloc: Global, count: u16) -> Result<Vec<Packed<K>>, AllocError>
     ensures { IfOk result (λ states. length states.items ≡ count) }
 {
@@ -189,7 +189,7 @@ fn free_states<const K: usize>(alloc: Global, count: u16) -> Result<Vec<Packed<K
     Ok(states)
 }
 
-// So many slots that name the first place.
+// As many slots as `count`, each of which names the first place.
 fn free_slots(alloc: Global, count: u16) -> Result<Vec<u16>, AllocError>
     ensures count { IfOk result (λ slots. length slots.items ≡ count) }
     ensures first { IfOk result (λ slots. EachIndex slots.items (λ i. slice_index slots.items i ≡ 0)) }

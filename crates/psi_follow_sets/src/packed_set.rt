@@ -16,9 +16,9 @@ use std::marker::Model;
 /// A set of packed states, moved by events of pieces, two states by one operation. It is seen as its room: the number of
 /// states that it can take.
 ///
-/// All its memory is taken by `reserve`. The work of a step grows with the number of states, not with the room for them: it
-/// moves each on. States that became one may stand several times until repeats are taken out, after 4 to 1,024 steps, in one
-/// pass over the states.
+/// `reserve` allocates all its memory. The work of a step grows with the number of states, not with the room for them:
+/// it moves each on. States that became one may stand several times until repeats are taken out, after 4 to 1,024
+/// steps, in one pass over the states.
 pub struct PackedSet<const K: usize> {
     lists: Lists<K>,
     most: u16,
@@ -43,11 +43,11 @@ impl<const K: usize> Drop for PackedSet<K> {
 }
 
 impl<const K: usize> PackedSet<K> {
-    /// Room for `most` states: 1 to 4,096. No other call takes memory.
+    /// Reserves space for `most` states: 1 to 4,096. No other call allocates.
     ///
     /// # Errors
     ///
-    /// `AllocError` where there is no memory for it, or a state has more than 32 words, as no packed state has; no clause
+    /// `AllocError` if an allocation fails, or a state has more than 32 words, as no packed state has; no clause
     /// says when that is.
     pub fn reserve(alloc: Global, most: u16) -> Result<PackedSet<K>, AllocError>
         requires least { 1 ≤ most }
@@ -58,8 +58,8 @@ impl<const K: usize> PackedSet<K> {
         Ok(PackedSet { lists, most })
     }
 
-    /// The one state that the events of these numbers make of all states of the box, the last number's event first; `None`
-    /// where they make more than one state of them. What the set held before is of no account.
+    /// Returns the one state that the events of these numbers make of all states of the box, the last number's event
+    /// first; `None` where they make more than one state of them. What the set held before does not matter.
     ///
     /// Where the numbers are those of the last steps before time zero and the box is that of all states, this is the
     /// test of coalescence of coupling from the past (Propp and Wilson 1996).

@@ -80,12 +80,12 @@ impl<'n, const K: usize, E: EventLaw> Drop for PackedSets<'n, K, E> {
 }
 
 impl<'n, const K: usize, E: PiecewiseLaw> PackedSets<'n, K, E> {
-    /// A follower of this network; `None` where its states don't fit `K` words, or an event tells no pieces. It takes the
-    /// room for the events on packed states and for a set of the split number of these.
+    /// Returns a follower of this network; `None` where its states don't fit `K` words, or an event declares no pieces.
+    /// It allocates room for the events on packed states and for a set of the split number of these.
     ///
     /// # Errors
     ///
-    /// `AllocError` where there is no memory for it; no clause says when that is. No other call takes memory.
+    /// `AllocError` if an allocation fails; no clause says when that is. No other call allocates.
     pub fn new(
         alloc: Global,
         course: &Course<'n, E>,
@@ -113,7 +113,8 @@ impl<'n, const K: usize, E: EventLaw> Follower for PackedSets<'n, K, E> {
     }
 }
 
-// The events on states that are packed so, where each tells its pieces, and room for a set of the split number of states.
+// The events on states that are packed so, where each declares its pieces, and room for a set of the split number of
+// states.
 fn machine_of<const K: usize, E: PiecewiseLaw>(
     alloc: Global,
     layout: Layout<K>,
@@ -157,8 +158,9 @@ fn packed_ending<const K: usize, E: EventLaw>(
     coalescence_of_few(machine, course, &numbers[..left], &corners)
 }
 
-// The one state that the events of the numbers make of all states of a box, the last first, if they make one of them and they
-// are few: they don't where the two corners don't; else the box is followed, and where that tells nothing each of its states.
+// The one state that the events of the numbers make of all states of a box, the last first, if they make one of them
+// and they are few: they don't where the two corners don't; else the box is followed, and where that decides nothing
+// each of its states.
 fn coalescence_of_few<const K: usize, E: EventLaw>(
     machine: &mut Machine<K>,
     course: &Course<'_, E>,
@@ -185,8 +187,8 @@ fn coalescence_of_few<const K: usize, E: EventLaw>(
     machine.set.meeting(&machine.program, numbers, &bounds)
 }
 
-// Whether the events of the numbers, the last first, are seen to make different states of the two corners of a box of so many
-// states. It isn't looked at where the numbers are so many that its set may be followed for less.
+// Whether the events of the numbers, the last first, are seen to make different states of the two corners of a box of
+// `count` states. It isn't tried where there are so many numbers that to follow the set may cost less.
 fn have_corners_parted<const K: usize>(
     program: &Program<K>,
     numbers: &[u16],
@@ -206,7 +208,7 @@ fn have_corners_parted<const K: usize>(
 }
 
 // The one state that the events of the numbers make of all states of a box, where its tight boxes come to a single state within
-// so many numbers, the last first. `None` tells nothing: its states may meet all the same.
+// `tries` numbers, the last first. `None` decides nothing: its states may coalesce all the same.
 fn meeting_of_box<const K: usize, E: EventLaw>(
     machine: &Machine<K>,
     course: &Course<'_, E>,
@@ -232,7 +234,7 @@ fn meeting_of_box<const K: usize, E: EventLaw>(
 }
 
 // Follows the packed corners of a box through the events of the numbers, the last first, until the box has at most `split`
-// states, and tells how many numbers are left then. They go from one event that isn't monotone to the next.
+// states, and returns how many numbers are left then. They go from one event that isn't monotone to the next.
 fn follow_until_few<const K: usize, E: EventLaw>(
     machine: &Machine<K>,
     course: &Course<'_, E>,
@@ -261,7 +263,7 @@ fn follow_until_few<const K: usize, E: EventLaw>(
     0
 }
 
-// Puts the corners of the tight box around what the event of this number makes of a box in the place of the box's corners.
+// Replaces the corners of a box by those of the tight box around what the event of this number makes of it.
 fn enclose_event<const K: usize, E: EventLaw>(
     machine: &Machine<K>,
     course: &Course<'_, E>,

@@ -1,11 +1,11 @@
--- Arrays of a fixed length whose front holds a list, with one value behind it.
+-- Arrays of a fixed length whose front holds a list, with one value after it.
 use Rattle.std.specs.Prelude.{◌≡◌, ℕ, ◌+◌, ◌-◌, ◌<◌, ◌≤◌, List, length, replicate, take, drop, slice_set}
 use Rattle.std.proofs.Common.{ap, ◌∙◌, sym, arith}
 use Rattle.std.proofs.lemmas.List.{drop-set-lt, drop-drop, drop-replicate, length-set, length-take-le}
 use Rattle.psi_guard.specs.declared.parts.Part.{Part}
 use Rattle.psi_guard.specs.PartsKept.{no_part}
 
--- one place more is taken, and what is behind it stays
+-- one place more is taken, and what is after it stays
 pub drop-push : {A : Type 0} (xs : List A) (n : ℕ) (v d : A) → n < 32 → drop n xs ≡ replicate (32 - n) d → drop (n + 1) (slice_set xs n v) ≡ replicate (32 - (n + 1)) d
 drop-push xs n v d small rest =
     let away : drop (n + 1) (slice_set xs n v) ≡ drop (n + 1) xs = drop-set-lt (n + 1) xs n v (omega arith) in

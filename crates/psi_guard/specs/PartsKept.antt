@@ -1,4 +1,4 @@
--- A list of parts in an array is told by its front, where all behind the front is one part that says nothing.
+-- A list of parts in an array is determined by its front, where all after the front is one part that says nothing.
 use Rattle.std.specs.Prelude.{pos}
 use Rattle.psi_guard.specs.declared.parts.Part.{Part}
 

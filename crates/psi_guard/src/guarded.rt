@@ -34,7 +34,7 @@ pub struct Guarded {
 }
 
 impl Guarded {
-    /// The guarded event of these parts in a network of these capacities.
+    /// Returns the guarded event of these parts in a network of these capacities.
     ///
     /// Where each queue that a part names holds a number from the part's least to its most, each of
     /// these queues is moved by its part; in every other state nothing changes. With no part nothing
@@ -61,7 +61,7 @@ impl Guarded {
         Ok(Guarded::accepted(caps, kept))
     }
 
-    /// The guarded event of these parts, of which [`Guarded::new`] refuses none: what it answers for them.
+    /// Returns the guarded event of these parts, of which [`Guarded::new`] refuses none: what it answers for them.
     pub fn accepted(caps: State, parts: Parts) -> Guarded
         requires caps { AreCapacities caps }
         requires accepted { refusal_of caps parts ≡ None }

@@ -1,4 +1,4 @@
-//! The four tests that tell whether a guarded event keeps the order of states, and the pair that they show.
+//! The four tests of whether a guarded event keeps the order of states, and the pair that they show.
 
 ghost use Rattle.std.specs.Prelude.{◌≡◌, ℕ, ◌<◌, ◌≤◌, List, Option, IsTrue, IfSome, length, slice_index, unsigned_abs};
 ghost use Rattle.psi_guard.specs.Guarding.{AnswersAs, around_least, around_most, exceeds, other_below, own_above, leasts, over_pairs, over_queues, part_of, own_below, other_above};

@@ -53,7 +53,7 @@ impl Model for Parts {
 impl Parts {
     ghost use Rattle.psi_guard.specs.Refusals.{names};
 
-    /// The list of no part.
+    /// Returns the list of no part.
     pub fn empty() -> Parts
         ensures { result ≡ [] }
     {
@@ -80,7 +80,7 @@ impl Parts {
         self.len += 1;
     }
 
-    /// The number of parts in the list, 0 to 32.
+    /// Returns the number of parts in the list, 0 to 32.
     ///
     /// Its second clause is how a caller learns what every `Parts` keeps.
     pub fn len(&self) -> u8
@@ -90,7 +90,7 @@ impl Parts {
         self.len
     }
 
-    /// The part at place `i` of the list; places are counted from 0.
+    /// Returns the part at place `i` of the list; places are counted from 0.
     pub fn get(&self, i: u8) -> Part
         requires { i < length self.now }
         ensures { slice_get self.now i ≡ Some result }
@@ -98,14 +98,14 @@ impl Parts {
         self.items[i as usize]
     }
 
-    /// The parts, one after another.
+    /// Returns the parts, one after another.
     pub fn as_slice(&self) -> &[Part]
         ensures { result.now ≡ self.now }
     {
         &self.items[..self.len as usize]
     }
 
-    /// Whether one of the parts names the queue.
+    /// Returns whether one of the parts names the queue.
     pub fn names(&self, queue: u8) -> bool
         ensures { result ≡ names self.now queue }
     {

@@ -25,16 +25,16 @@ pub if_some-both : {A : Type 0} (P Q : A → Type 0) (X : Type 0) (o : Option A)
 if_some-both P Q X None each some first second = absurd (false≢true some)
 if_some-both P Q X (Some a) each some first second = each a first second
 
-underway-seen : {E : Type 0} (gs : List (List ℕ → List ℕ)) (f : ℕ → List ℕ → List ℕ) (system : Parts E) (region : Regional)
-    (words : ℕ → ℕ) (numbers : Numbers) (network : Followed) (progress : Option Progress) → IsPlan gs f words system region numbers network progress
+underway-seen : {E : Type 0} {capacities : E → List ℕ} (gs : List (List ℕ → List ℕ)) (f : ℕ → List ℕ → List ℕ) (system : Parts E) (region : Regional)
+    (words : ℕ → ℕ) (numbers : Numbers) (network : Followed) (progress : Option Progress) → IsPlan capacities gs f words system region numbers network progress
     → IfSome (running_of progress) (λ r. region.area ≡ region_after system.split f system.caps r.horizon r.done)
 underway-seen gs f system region words numbers network None is = tt
 underway-seen gs f system region words numbers network (Some r) is = is.run.area
 
 -- the region of a plan is that of the run that was begun, after the steps that are done
-pub region-seen : {E P : Type 0} (gs : List (List ℕ → List ℕ)) (functions : Parts E → P → ℕ → List ℕ → List ℕ) (system : Parts E) (past : P) (region : Regional)
+pub region-seen : {E P : Type 0} {capacities : E → List ℕ} (gs : List (List ℕ → List ℕ)) (functions : Parts E → P → ℕ → List ℕ → List ℕ) (system : Parts E) (past : P) (region : Regional)
     (words : ℕ → ℕ) (numbers : Numbers) (network : Followed) (progress : Option Progress) (now : Planned E P) → record { system = system; past = past; run = running_of progress } ≡ now
-    → IsPlan gs (functions system past) words system region numbers network progress
+    → IsPlan capacities gs (functions system past) words system region numbers network progress
     → IfSome now.run (λ r. region.area ≡ region_after now.system.split (functions now.system now.past) now.system.caps r.horizon r.done)
 region-seen {E} {P} gs functions system past region words numbers network progress now seen is =
     subst (λ (plan : Planned E P). IfSome plan.run (λ r. region.area ≡ region_after plan.system.split (functions plan.system plan.past) plan.system.caps r.horizon r.done))
@@ -56,9 +56,9 @@ seen-area f now region closed some seen =
     some seen (if_some-map (λ r. region.area ≡ region_after now.system.split f now.system.caps r.horizon r.done) (λ r. Unit {0}) now.run (λ r is. tt) seen)
 
 -- as a plan keeps it
-pub plan-area : {E P : Type 0} (gs : List (List ℕ → List ℕ)) (functions : Parts E → P → ℕ → List ℕ → List ℕ) (system : Parts E) (past : P) (region : Regional)
+pub plan-area : {E P : Type 0} {capacities : E → List ℕ} (gs : List (List ℕ → List ℕ)) (functions : Parts E → P → ℕ → List ℕ → List ℕ) (system : Parts E) (past : P) (region : Regional)
     (words : ℕ → ℕ) (numbers : Numbers) (network : Followed) (progress : Option Progress) (now : Planned E P) → record { system = system; past = past; run = running_of progress } ≡ now
-    → IsPlan gs (functions system past) words system region numbers network progress
+    → IsPlan capacities gs (functions system past) words system region numbers network progress
     → AreClosed now.system.caps (functions now.system now.past) → IsSome now.run → IsArea now.system.caps region.area
 plan-area gs functions system past region words numbers network progress now seen is closed some =
     seen-area (functions now.system now.past) now region closed some (region-seen gs functions system past region words numbers network progress now seen is)

@@ -64,7 +64,7 @@ impl<'n, E: EventLaw, P: Past + Drop, F: Follower + Drop> Model for Plan<'n, E, 
     ghost view = { λ p. record { system = p.system; past = p.past; run = running_of p.run } };
 
     ghost invariant = { λ p.
-        IsPlan (map E.function p.system.events) (system_functions E.function p.system (P.words p.past)) (P.words p.past) p.system p.region
+        IsPlan E.capacities (map E.function p.system.events) (system_functions E.function p.system (P.words p.past)) (P.words p.past) p.system p.region
         p.numbers (F.stands_for p.follower) p.run };
 }
 
@@ -113,6 +113,8 @@ impl<'n, E: EventLaw, P: Past + Drop, F: Follower + Drop> Plan<'n, E, P, F> {
         requires { F.stands_for follower ≡ network_of E.function system }
         ensures { IfOk result (λ plan. plan ≡ record { system = system.entry; past = past; run = None }) }
     {
+        // Called for its clause: the parts fit each other.
+        let _caps = system.caps();
         let most = 1 << system.limit();
         let region = Region::reserve(alloc, system.split())?;
         let numbers = Numbers::reserve(alloc, most)?;
@@ -127,7 +129,7 @@ impl<'n, E: EventLaw, P: Past + Drop, F: Follower + Drop> Plan<'n, E, P, F> {
         })
     }
 
-    /// The sample: the least horizon among 1, 2, 4, .., 2 to the power `limit` whose region run ends with one
+    /// Returns the sample: the least horizon among 1, 2, 4, .., 2 to the power `limit` whose region run ends with one
     /// state, with that state, which is within the capacities. Every state that starts there or earlier is in
     /// it at time zero. It isn't met exactly where none of these runs ends with one state.
     ///
@@ -185,7 +187,7 @@ impl<'n, E: EventLaw, P: Past + Drop, F: Follower + Drop> Plan<'n, E, P, F> {
         }
     }
 
-    /// The one state with which the region run of this horizon, 1 to 2 to the power `limit` steps, ends;
+    /// Returns the one state with which the region run of this horizon, 1 to 2 to the power `limit` steps, ends;
     /// `None` exactly where it ends with more. The state is within the capacities.
     ///
     /// Afterwards no run is begun.
@@ -209,9 +211,10 @@ impl<'n, E: EventLaw, P: Past + Drop, F: Follower + Drop> Plan<'n, E, P, F> {
         )
     }
 
-    /// The least and the greatest state with which the region run of this horizon, 1 to 2 to the power `limit` steps, ends,
-    /// where the plan's follower finds them as fast as it finds an ending: the run ends with both, and its other states lie
-    /// between them. `None` is an answer at any time; no clause says when it comes. The states are within the capacities.
+    /// Returns the least and the greatest state with which the region run of this horizon, 1 to 2 to the power `limit`
+    /// steps, ends, where the plan's follower finds them as fast as it finds an ending: the run ends with both, and its
+    /// other states lie between them. `None` is an answer at any time; no clause says when it comes. The states are
+    /// within the capacities.
     ///
     /// Afterwards no run is begun.
     pub fn ends(&mut self, horizon: u32) -> Option<Bounds>
@@ -234,7 +237,7 @@ impl<'n, E: EventLaw, P: Past + Drop, F: Follower + Drop> Plan<'n, E, P, F> {
         )
     }
 
-    /// The exponent of the greatest horizon, 0 to 22.
+    /// Returns the exponent of the greatest horizon, 0 to 22.
     ///
     /// Its last clause is how a caller learns what every plan keeps: its network's parts fit each other.
     pub fn limit(&self) -> u8
@@ -242,19 +245,17 @@ impl<'n, E: EventLaw, P: Past + Drop, F: Follower + Drop> Plan<'n, E, P, F> {
         ensures bound { result ≤ 22 }
         ensures fit { IsSystem E.capacities self.now.system }
     {
-        // Called for its clause: the parts fit each other.
-        let _caps = self.system.caps();
         self.system.limit()
     }
 
-    /// The capacities of the network, in customers.
+    /// Returns the capacities of the network, in customers.
     pub fn caps(&self) -> State
         ensures { result ≡ self.now.system.caps }
     {
         self.system.caps()
     }
 
-    /// The number of states up to which a region is followed state by state, 1 to 4,096.
+    /// Returns the number of states up to which a region is followed state by state, 1 to 4,096.
     pub fn split(&self) -> u16
         ensures value { result ≡ self.now.system.split }
         ensures some { 1 ≤ result }
@@ -289,7 +290,7 @@ impl<'n, E: EventLaw, P: Past + Drop, F: Follower + Drop> Plan<'n, E, P, F> {
         self.run = Some(Progress { horizon, done: 0 });
     }
 
-    /// Does the next step of the run that was begun, and tells its time, 1 to 2 to the power `limit` steps
+    /// Does the next step of the run that was begun, and returns its time, 1 to 2 to the power `limit` steps
     /// before time zero, and its event's number, which is the number of events where it is idle.
     ///
     /// `None` comes exactly where all steps of the run are done, or no run was begun since the plan was made,
@@ -308,8 +309,6 @@ impl<'n, E: EventLaw, P: Past + Drop, F: Follower + Drop> Plan<'n, E, P, F> {
         if progress.done == progress.horizon {
             return None;
         }
-        // Called for its clause: the events fit the capacities.
-        let _caps = self.system.caps();
         let number = progress.horizon - progress.done;
         let word = self.past.word(number - 1);
         let event = follow_word(&self.system, word, &mut self.region);
@@ -320,7 +319,7 @@ impl<'n, E: EventLaw, P: Past + Drop, F: Follower + Drop> Plan<'n, E, P, F> {
         Some(Step { number, event })
     }
 
-    /// The state of the run's region after the steps that are done, where it has exactly one; `None`
+    /// Returns the state of the run's region after the steps that are done, where it has exactly one; `None`
     /// exactly where it has more. A run was begun. The state is within the capacities.
     pub fn single(&self) -> Option<State>
         requires { IsSome self.now.run }
@@ -330,12 +329,10 @@ impl<'n, E: EventLaw, P: Past + Drop, F: Follower + Drop> Plan<'n, E, P, F> {
             result ≡ None → IfSome self.now.run (λ r. 2 ≤ length (region_after self.now.system.split f self.now.system.caps r.horizon r.done).states) }
         ensures within { IfSome result (λ s. IsBelow s self.now.system.caps) }
     {
-        // Called for its clause: the events fit the capacities.
-        let _caps = self.system.caps();
         self.region.single()
     }
 
-    /// The box of the run's region after the steps that are done, exactly where it isn't split. A run was
+    /// Returns the box of the run's region after the steps that are done, exactly where it isn't split. A run was
     /// begun. The box is within the capacities.
     pub fn bounds(&self) -> Option<Bounds>
         requires { IsSome self.now.run }
@@ -344,12 +341,10 @@ impl<'n, E: EventLaw, P: Past + Drop, F: Follower + Drop> Plan<'n, E, P, F> {
         ensures shown { let f = system_functions E.function self.now.system (P.words self.now.past) in
             IfSome self.now.run (λ r. ShowsBox (region_after self.now.system.split f self.now.system.caps r.horizon r.done) result) }
     {
-        // Called for its clause: the events fit the capacities.
-        let _caps = self.system.caps();
         self.region.bounds()
     }
 
-    /// The states of the run's region after the steps that are done, in ascending, that is lexicographic,
+    /// Returns the states of the run's region after the steps that are done, in ascending, that is lexicographic,
     /// order: at least one, at most the split number, all within the capacities. A run was begun, and its
     /// region is split. The run stays as it was.
     pub fn states(&mut self) -> &[State]
@@ -364,8 +359,6 @@ impl<'n, E: EventLaw, P: Past + Drop, F: Follower + Drop> Plan<'n, E, P, F> {
         ensures few { length result.now ≤ self.old.system.split }
         ensures* same { sem 𝓛 (follows_so (the_row (record { mir = named 0; lft = [] }) E.row P.row F.row E.EventLaw P.Past F.Follower) (the_row (record { mir = named 0; lft = [] }) E.row P.row F.row E.EventLaw P.Past F.Follower) self.entry.ghost_name none (λ _ _. ⊤) (λ v. v ≡ self.old)) }
     {
-        // Called for its clause: the events fit the capacities.
-        let _caps = self.system.caps();
         self.region.states()
     }
 }

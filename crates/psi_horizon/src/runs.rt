@@ -25,6 +25,7 @@ pub(crate) fn ending<E: EventLaw, P: Past, F: Follower>(
     follower: &mut F,
     horizon: u32,
 ) -> Option<State>
+    requires fit { IsSystem E.capacities system.now }
     requires most { horizon ≤ 2 ^ system.now.limit }
     requires kept { KeepsNumbers system.now.rates (P.words past.old) (2 ^ system.now.limit) numbers.old }
     requires follower { F.stands_for follower.old ≡ network_of E.function system.now }
@@ -32,10 +33,7 @@ pub(crate) fn ending<E: EventLaw, P: Past, F: Follower>(
     ensures kept { KeepsNumbers system.now.rates (P.words past.old) (2 ^ system.now.limit) numbers.new }
     ensures follower { F.stands_for follower.new ≡ F.stands_for follower.old }
     ensures words { P.words past.new ≡ P.words past.old }
-    ensures fit { IsSystem E.capacities system.now }
 {
-    // Called for its clause: the events fit the capacities.
-    let _caps = system.caps();
     let wheel = system.wheel();
     numbers.extend_to(wheel, past, horizon);
     let run = numbers.below(wheel, past, horizon);
@@ -51,6 +49,7 @@ pub(crate) fn ends<E: EventLaw, P: Past, F: Follower>(
     follower: &mut F,
     horizon: u32,
 ) -> Option<Bounds>
+    requires fit { IsSystem E.capacities system.now }
     requires most { horizon ≤ 2 ^ system.now.limit }
     requires kept { KeepsNumbers system.now.rates (P.words past.old) (2 ^ system.now.limit) numbers.old }
     requires follower { F.stands_for follower.old ≡ network_of E.function system.now }
@@ -59,31 +58,27 @@ pub(crate) fn ends<E: EventLaw, P: Past, F: Follower>(
     ensures kept { KeepsNumbers system.now.rates (P.words past.old) (2 ^ system.now.limit) numbers.new }
     ensures follower { F.stands_for follower.new ≡ F.stands_for follower.old }
     ensures words { P.words past.new ≡ P.words past.old }
-    ensures fit { IsSystem E.capacities system.now }
 {
-    // Called for its clause: the events fit the capacities.
-    let _caps = system.caps();
     let wheel = system.wheel();
     numbers.extend_to(wheel, past, horizon);
     let below = numbers.below(wheel, past, horizon);
     follower.ends(below)
 }
 
-// Follows the region through the event of a word, and tells the event's number.
+// Follows the region through the event of a word, and returns the event's number.
 #[inline]
 pub(crate) fn follow_word<E: EventLaw>(
     system: &System<'_, E>,
     word: u32,
     region: &mut Region,
 ) -> u16
-    requires { IsArea system.now.caps region.old.area }
+    requires fit { IsSystem E.capacities system.now }
+    requires area { IsArea system.now.caps region.old.area }
     ensures event { result ≡ event_of system.now.rates word }
     ensures number { result ≤ length system.now.events }
     ensures area { region.new.area ≡ step region.old.split (picked (map E.function system.now.events) system.now.rates word) region.old.area }
     ensures split { region.new.split ≡ region.old.split }
 {
-    // Called for its clause: the events fit the capacities.
-    let _caps = system.caps();
     let (number, event) = system.pick(word);
     match event {
         Some(event) => region.advance(event),

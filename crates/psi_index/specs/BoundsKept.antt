@@ -1,7 +1,7 @@
 -- What bounds the values of a table up to a place, and from a place on.
 use Rattle.std.specs.Prelude.{◌≡◌, ℕ, ◌<◌, ◌≤◌, Bool, false, List, length, slice_index}
 
--- no value is above the entry of a place at or behind it
+-- no value is above the entry of a place at or after it
 pub record ArePeaks (values peaks : List ℕ) : Type 0 where
   pub count : length peaks ≡ length values
   pub above : (i k : ℕ) → k ≤ i → i < length values → slice_index values k ≤ slice_index peaks i

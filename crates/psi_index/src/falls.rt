@@ -11,7 +11,7 @@ impl IndexTable {
     /// great, and a later one is less. The number of the other's values where there is none.
     ///
     /// Two places of `other` at a time are passed over by the least value from them on and the greatest up to them; only
-    /// where these don't tell, and behind the last two, each is looked up.
+    /// where these don't decide, and after the last two, each is looked up.
     // Out of line: where it is inlined, what its caller keeps takes the registers of the loop.
     #[inline(never)]
     pub fn first_passed(&self, other: &IndexTable, more: u32) -> u16

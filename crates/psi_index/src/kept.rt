@@ -74,7 +74,7 @@ impl Kept {
         }
     }
 
-    // Of values that don't, and so many before the first that falls.
+    // Of values that don't rise; `front` of them stand before the first that falls.
     fn sparse(alloc: Global, values: Vec<u32>, front: u16) -> Result<Kept, OutOfMemory>
         requires valid { IsValueList values.items }
         requires falls { ¬ IsRising values.items }

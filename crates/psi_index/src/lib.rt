@@ -18,5 +18,5 @@ mod table;
 
 pub use table::IndexTable;
 
-/// There was no memory: the only way in which a call with this error fails.
+/// An allocation failed: the only way in which a call with this error fails.
 pub use std::alloc::AllocError as OutOfMemory;

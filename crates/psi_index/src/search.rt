@@ -8,10 +8,10 @@ use crate::IndexTable;
 const SOON: u16 = 4;
 
 impl IndexTable {
-    /// The first place whose value is at least `bound`, or the number of values where there is none.
+    /// Returns the first place whose value is at least `bound`, or the number of values where there is none.
     ///
     /// The search begins at the place `near`, from 0 to the number of values; the answer is the same whatever `near`
-    /// is. It takes at most 6 look-ups where the answer is `near` or one of the three places behind it, and else at
+    /// is. It takes at most 6 look-ups where the answer is `near` or one of the three places after it, and else at
     /// most 39.
     pub fn first_at_least_near(&self, near: u16, bound: u64) -> u16
         requires { near ≤ length self.now }
@@ -31,8 +31,8 @@ impl IndexTable {
         self.first_at_least_between(end, self.len(), bound)
     }
 
-    /// The first place from `first` on and before `past` whose value is at least `bound`, or `past` where there is
-    /// none.
+    /// Returns the first place from `first` on and before `past` whose value is at least `bound`, or `past` where there
+    /// is none.
     ///
     /// `past` is from `first` to the number of values; where it is `first`, there is no such place. The search takes
     /// one look-up where the answer is `first`, and else at most 33.
@@ -89,7 +89,8 @@ impl IndexTable {
         low
     }
 
-    /// The first place from `first` on and before `past` whose value is below `bound`, or `past` where there is none.
+    /// Returns the first place from `first` on and before `past` whose value is below `bound`, or `past` where there is
+    /// none.
     ///
     /// `past` is from `first` to the number of values; where it is `first`, there is no such place. The search takes
     /// at most 2 look-ups where the answer is `past`, and else at most 34.

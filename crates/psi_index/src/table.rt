@@ -29,10 +29,10 @@ impl Model for IndexTable {
 }
 
 impl IndexTable {
-    /// The table of these values: 1 to 65,535 of them.
+    /// Returns the table of these values: 1 to 65,535 of them.
     ///
-    /// `OutOfMemory` is the answer where there is no memory for it, and the values are dropped then; no clause
-    /// says when that is. No other call takes memory.
+    /// Returns `OutOfMemory` if an allocation fails, and drops the values then; no clause
+    /// says when that is. No other call allocates.
     pub fn new(alloc: Global, values: Vec<u32>) -> Result<IndexTable, OutOfMemory>
         requires some { 1 ≤ length values.items }
         requires few { length values.items ≤ 65535 }
@@ -43,7 +43,7 @@ impl IndexTable {
         Ok(IndexTable { kept })
     }
 
-    /// The same table once more: it shares all that this one keeps, so it takes no memory.
+    /// Shares the table: the result has all that this one keeps, so it does not allocate.
     ///
     /// # Errors
     ///
@@ -55,7 +55,7 @@ impl IndexTable {
         Ok(IndexTable { kept })
     }
 
-    /// The values in the order of their places.
+    /// Returns the values in the order of their places.
     pub fn values(&self) -> &[u32]
         ensures { result.now ≡ self.now }
     {
@@ -70,7 +70,7 @@ impl IndexTable {
         self.kept.as_ref()
     }
 
-    /// The number of values, 1 to 65,535.
+    /// Returns the number of values, 1 to 65,535.
     ///
     /// Its second clause is how a caller learns what every table keeps: the ranges of its length and of
     /// its values.
@@ -81,7 +81,7 @@ impl IndexTable {
         self.kept().len()
     }
 
-    /// The value at place `i`; places are counted from 0.
+    /// Returns the value at place `i`; places are counted from 0.
     #[inline]
     pub fn at(&self, i: u16) -> u32
         requires { i < length self.now }
@@ -90,7 +90,7 @@ impl IndexTable {
         self.kept().at(i)
     }
 
-    /// The least of the values at the places from `from` to `to`, both included.
+    /// Returns the least of the values at the places from `from` to `to`, both included.
     pub fn least(&self, from: u16, to: u16) -> u32
         requires ordered { from ≤ to }
         requires within { to < length self.now }
@@ -101,7 +101,7 @@ impl IndexTable {
         self.kept().least(from, to)
     }
 
-    /// The greatest of the values at the places from `from` to `to`, both included.
+    /// Returns the greatest of the values at the places from `from` to `to`, both included.
     pub fn greatest(&self, from: u16, to: u16) -> u32
         requires ordered { from ≤ to }
         requires within { to < length self.now }
@@ -112,14 +112,14 @@ impl IndexTable {
         self.kept().greatest(from, to)
     }
 
-    /// Whether no value is below the one before it.
+    /// Returns whether no value is below the one before it.
     pub fn rises(&self) -> bool
         ensures { IsTrue result ↔ IsRising self.now }
     {
         self.kept().rises()
     }
 
-    /// How many values stand before the first that is below the one before it: all where there is none.
+    /// Returns how many values stand before the first that is below the one before it: all where there is none.
     pub fn rising_front(&self) -> u16
         ensures { IsFront self.now result }
     {

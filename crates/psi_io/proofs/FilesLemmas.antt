@@ -321,7 +321,7 @@ reads-at shelf name file told spared (inl (place, within, is)) =
     let found = list_any_at (λ (n : ℕ). nat_eq n (counted (length shelf.asked))) shelf.fails place (counted (length shelf.asked)) within (eq-eqb _ _ is) in cc
 reads-at shelf name file told spared (inr missing) = cc
 
--- an answer that is an error only when memory runs out is not a fault
+-- an answer that is an error only if an allocation fails is not a fault
 pub no-fault : {T : Type 0} (r : Result T ShelfFault) → IfErr r (λ fault. fault ≡ OutOfMemory) → IsErrOf r Failed → ⊥
 no-fault (Ok value) memory is = cc
 no-fault (Err fault) memory is = cc

@@ -14,7 +14,7 @@ pub appended-twice :
 appended-twice None first second = refl
 appended-twice (Some bytes) first second = ap Some (append_assoc bytes first second)
 
--- a prefix of a text is a prefix of that text with more behind it
+-- a prefix of a text is a prefix of that text with more after it
 pub grew-longer :
     (before after : Option (List ℕ)) (first second : List ℕ) → GrewByPrefix before after first → GrewByPrefix before after (first ++ second)
 grew-longer before after first second p = record {

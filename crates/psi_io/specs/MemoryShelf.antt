@@ -73,7 +73,7 @@ module _ (shelf : ShelfContents) (name : List ℕ) where
   abbrev pub after_read : ℕ → ShelfContents
   after_read most = record shelf { asked = asked_after most; gave = gave_after most }
 
-  -- the shelf after a read of a name for which there was not enough memory: one more read
+  -- the shelf after a read of a name for which an allocation failed: one more read
   abbrev pub after_refused_read : ℕ → ShelfContents
   after_refused_read most = record shelf { asked = asked_after most }
 

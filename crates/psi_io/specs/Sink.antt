@@ -1,7 +1,7 @@
 -- What a sink holds, and how it grows by a text or by a prefix of one.
 use Rattle.std.specs.Prelude.{◌≡◌, ℕ, List, ◌++◌, Option, None, Some}
 
--- what a sink holds once a text is appended to it, where it tells what it holds
+-- what a sink holds once a text is appended to it, where its model has what it holds
 abbrev pub appended : Option (List ℕ) → List ℕ → Option (List ℕ)
 appended None text = None
 appended (Some bytes) text = Some (bytes ++ text)

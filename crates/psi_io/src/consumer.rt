@@ -20,7 +20,7 @@ pub trait Consumer {
     ///
     /// # Errors
     ///
-    /// [`OutOfMemory`] where there is no memory for what is kept of the piece; no clause says when.
+    /// [`OutOfMemory`] if an allocation fails; no clause says when.
     /// What the consumer took is then not said.
     fn take(&mut self, piece: &[u8]) -> Result<(), OutOfMemory>
         ensures taken { OnOk result (taken self.new ≡ taken self.old ++ piece.now) }

@@ -19,8 +19,8 @@ use std::{fs, io};
 /// The most bytes that one turn of a read asks for.
 const CHUNK: usize = 8192;
 
-/// A shelf over the files of the system, opened through the runtime that it is lent. It tells
-/// nothing of what they hold, and is seen as the reads that it was asked for, the answers that it
+/// A shelf over the files of the system, opened through the runtime that it is lent. Its `told` has
+/// nothing, and it is seen as the reads that it was asked for, the answers that it
 /// gave, and its count of faults: one number for all names, which stands still at the greatest u64.
 #[derive(Drop)]
 pub struct DiskShelf<'r, R: Files> {
@@ -39,7 +39,7 @@ impl<'r, R: Files> Model for DiskShelf<'r, R> {
 }
 
 impl<'r, R: Files> DiskShelf<'r, R> {
-    /// A shelf over the files of this runtime, with no read and no fault yet.
+    /// Returns a shelf over the files of this runtime, with no read and no fault yet.
     pub fn new(rt: &'r R) -> DiskShelf<'r, R>
         ensures asked { result.asked ≡ [] }
         ensures gave { result.gave ≡ [] }
@@ -136,7 +136,7 @@ impl<R: Files> Shelf for DiskShelf<'_, R> {
     /// # Errors
     ///
     /// [`ShelfFault::Failed`] where the file can't be opened or read, and
-    /// [`ShelfFault::OutOfMemory`] where there is no memory, also for the consumer. With each of them
+    /// [`ShelfFault::OutOfMemory`] if an allocation fails, also for the consumer. With each of them
     /// the count rises by one.
     fn feed<C: Consumer>(&mut self, name: &str, most: u32, to: &mut C) -> Result<(), ShelfFault>
         requires { most ≤ 2 ^ 30 }
@@ -174,7 +174,7 @@ impl<R: Files> Shelf for DiskShelf<'_, R> {
     /// # Errors
     ///
     /// [`ShelfFault::Failed`] where the file can't be opened or read, and
-    /// [`ShelfFault::OutOfMemory`] where there is no memory. With each of them the count rises by one.
+    /// [`ShelfFault::OutOfMemory`] if an allocation fails. With each of them the count rises by one.
     fn read(&mut self, alloc: Global, name: &str, most: u32) -> Result<Vec<u8>, ShelfFault>
         requires { most ≤ 2 ^ 30 }
         ensures still { OnOk result (self.new.count ≡ self.old.count) }

@@ -4,7 +4,7 @@
 //! bytes. Shelves and sinks count their faults, so that a caller can say of every refusal that it came
 //! from outside. Each records, for clauses only, which bytes crossed it: a shelf those that its reads
 //! answered, a sink those that were accepted. [`MemoryShelf`] and
-//! [`MemorySink`] keep everything in memory and fail where they are told to; [`DiskShelf`] and
+//! [`MemorySink`] keep everything in memory and fail where they were set to; [`DiskShelf`] and
 //! [`StdSink`] are thin adapters to the files and the output of the system.
 #![tactic(auto)]
 
@@ -31,5 +31,5 @@ pub use shelf::{Shelf, ShelfFault};
 pub use sink::{Sink, SinkFault, write_all};
 pub use std_sink::StdSink;
 
-/// There was no memory: the only way in which a call with this error fails.
+/// An allocation failed: the only way in which a call with this error fails.
 pub use std::alloc::AllocError as OutOfMemory;

@@ -14,8 +14,8 @@ use crate::shelf::{Shelf, ShelfFault};
 use std::alloc::Global;
 use std::marker::Model;
 
-/// A shelf of files in memory, whose reads fail where they are told to. It tells the bytes that
-/// were last put under a name, and nothing of a name that isn't there.
+/// A shelf of files in memory, whose reads fail where it was set so. Its `told` has the bytes that
+/// were last put under a name, and nothing under a name that isn't there.
 ///
 /// Reads are numbered from 1, in the order in which they were asked for. All names that aren't there
 /// share one count of faults, and a name that is first put begins with it. The number of a read and
@@ -50,7 +50,7 @@ impl Model for MemoryShelf {
 }
 
 impl MemoryShelf {
-    /// A shelf without files. The reads whose numbers are in `fails` fail.
+    /// Returns a shelf without files. The reads whose numbers are in `fails` fail.
     pub fn new(alloc: Global, fails: Vec<u64>) -> MemoryShelf
         ensures files { result.files ≡ [] }
         ensures absent { result.absent ≡ 0 }
@@ -73,7 +73,7 @@ impl MemoryShelf {
     ///
     /// # Errors
     ///
-    /// [`OutOfMemory`] where there is no memory for the name or the bytes. The shelf then stays as
+    /// [`OutOfMemory`] if an allocation fails. The shelf then stays as
     /// it was.
     pub fn put(&mut self, name: &str, bytes: &[u8]) -> Result<(), OutOfMemory>
         ensures told { OnOk result (told_of self.new name.now ≡ Some bytes.now) }
@@ -121,7 +121,7 @@ impl Shelf for MemoryShelf {
     ///
     /// [`ShelfFault::Failed`] exactly where the number of the read is in `fails` or the name isn't
     /// there. The count of the name rises by one there, and no other read raises a count.
-    /// [`ShelfFault::OutOfMemory`] where the consumer has no memory for the bytes: such a read has its
+    /// [`ShelfFault::OutOfMemory`] if an allocation of the consumer fails: such a read has its
     /// number, and raises no count.
     fn feed<C: Consumer>(&mut self, name: &str, most: u32, to: &mut C) -> Result<(), ShelfFault>
         requires { most ≤ 2 ^ 30 }
@@ -171,7 +171,7 @@ impl Shelf for MemoryShelf {
     ///
     /// [`ShelfFault::Failed`] exactly where the number of the read is in `fails` or the name isn't
     /// there. The count of the name rises by one there, and no other read raises a count.
-    /// [`ShelfFault::OutOfMemory`] where there is no memory for the bytes: such a read has its
+    /// [`ShelfFault::OutOfMemory`] if an allocation fails: such a read has its
     /// number, and raises no count.
     fn read(&mut self, alloc: Global, name: &str, most: u32) -> Result<Vec<u8>, ShelfFault>
         requires { most ≤ 2 ^ 30 }

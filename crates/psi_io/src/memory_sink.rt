@@ -10,7 +10,7 @@ use std::alloc::Global;
 use std::marker::Model;
 
 /// A sink in memory, with a room that is reserved when it is made, which takes a bounded number of
-/// bytes in a write and fails at chosen writes. It tells what it holds.
+/// bytes in a write and fails at chosen writes. Its `held` has what it holds.
 ///
 /// Writes are numbered from 1. The number of a write and the count of faults stand still at the
 /// greatest u64.
@@ -43,7 +43,7 @@ impl Model for MemorySink {
 }
 
 impl MemorySink {
-    /// An empty sink with room for `room` bytes, which it reserves. A write takes at most `most`
+    /// Returns an empty sink with room for `room` bytes, which it reserves. A write takes at most `most`
     /// bytes, and the writes whose numbers are in `fails` fail.
     ///
     /// # Errors
@@ -74,14 +74,14 @@ impl MemorySink {
         })
     }
 
-    /// What the sink holds: the bytes that it took since it was made.
+    /// Returns what the sink holds: the bytes that it took since it was made.
     pub fn bytes(&self) -> &[u8]
         ensures { result.now ≡ self.now.bytes }
     {
         self.bytes.as_slice()
     }
 
-    /// The number of its writes that failed.
+    /// Returns the number of its writes that failed.
     pub fn count(&self) -> u64
         ensures { result ≡ self.now.count }
     {

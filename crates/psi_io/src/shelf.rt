@@ -14,7 +14,7 @@ pub enum ShelfFault {
     /// The file isn't there or could not be read. It comes only where the name's count of faults
     /// rose in this call, or stands at the greatest u64.
     Failed,
-    /// There was not enough memory for what the file holds.
+    /// An allocation for what the file holds failed.
     OutOfMemory,
 }
 
@@ -28,12 +28,12 @@ impl From<AllocError> for ShelfFault {
 
 /// Files, each under a name.
 ///
-/// Five meanings belong to a shelf. `told` gives the bytes under a name, where the shelf tells
-/// them: a shelf over real files tells none, and no call changes what a shelf tells. `asked` lists
+/// Five meanings belong to a shelf. `told` gives the bytes under a name, where the model has
+/// them: a shelf over real files has none there, and no call changes `told`. `asked` lists
 /// the reads that the shelf was asked for since it was made, oldest first, whatever came of them.
 /// `gave` lists the answers of the reads that succeeded, oldest first: the name, the bound, and the
 /// bytes that were returned or that the consumer took. A read that fails adds nothing. Every shelf has
-/// it, whatever it tells of its files.
+/// it, whatever `told` has of its files.
 /// `faults` is the count of faults of a name, which never falls. `gives` says of a name that no
 /// read of it is to fail, now or later: no count rises there. A shelf over real files says it of
 /// no name.
@@ -54,7 +54,7 @@ pub trait Shelf {
     /// # Errors
     ///
     /// [`ShelfFault::Failed`] only where the count of this name rose or stands at the greatest u64,
-    /// and [`ShelfFault::OutOfMemory`] where there was not enough memory, here or for the consumer.
+    /// and [`ShelfFault::OutOfMemory`] if an allocation failed, here or for the consumer.
     /// What the consumer took by then is not said.
     fn feed<C: Consumer>(&mut self, name: &str, most: u32, to: &mut C) -> Result<(), ShelfFault>
         requires { most ≤ 2 ^ 30 }
@@ -78,7 +78,7 @@ pub trait Shelf {
     /// # Errors
     ///
     /// [`ShelfFault::Failed`] only where the count of this name rose or stands at the greatest
-    /// u64, and [`ShelfFault::OutOfMemory`] where there was not enough memory.
+    /// u64, and [`ShelfFault::OutOfMemory`] if an allocation failed.
     fn read(&mut self, alloc: Global, name: &str, most: u32) -> Result<Vec<u8>, ShelfFault>
         requires { most ≤ 2 ^ 30 }
         ensures bytes { IfOk result (λ read. IfSome (told self.old name.now) (λ bytes. read.items ≡ take (most + 1) bytes)) }

@@ -14,11 +14,11 @@ pub enum SinkFault {
 
 /// What takes bytes, some of a piece at a time.
 ///
-/// Four meanings belong to a sink. `held` is what it holds, where it tells it: a sink over a
-/// terminal tells nothing. `took` is the bytes that were accepted since the sink was made, by it or by
-/// what is below it: every sink has it. They may be more than a caller was told of, where a write
+/// Four meanings belong to a sink. `held` is what it holds, where the model has it: a sink over a
+/// terminal has none. `took` is the bytes that were accepted since the sink was made, by it or by
+/// what is below it: every sink has it. They may be more than the answers of its calls show, where a write
 /// failed after some bytes had been accepted. `faults` is its count of faults, which never falls. `takes` says of a
-/// number that so many bytes are taken, in however many writes, and none fails: the count doesn't
+/// number of bytes that this many are taken, in however many writes, and none fails: the count doesn't
 /// rise there. A sink over a writer says it of no number.
 pub trait Sink {
     ghost held: { Self → Option (List ℕ) };
@@ -29,7 +29,7 @@ pub trait Sink {
 
     ghost takes: { Self → ℕ → Type 0 } = { λ _ _. ⊥ };
 
-    /// Takes the first bytes of a piece, at least one of a piece that isn't empty, and answers how
+    /// Takes the first bytes of a piece, at least one of a piece that isn't empty, and returns how
     /// many.
     ///
     /// # Errors

@@ -11,7 +11,7 @@ use crate::sink::{Sink, SinkFault};
 use std::io::Write;
 use std::marker::Model;
 
-/// A sink over a writer of the system, as its output. It tells nothing of what it holds, and is
+/// A sink over a writer of the system, as its output. Its `held` has nothing, and it is
 /// seen as the writer, with the meaning that this has of its own, the bytes that the writer accepted
 /// since the sink was made, and the count of faults, which stands still at the greatest u64.
 #[derive(Drop)]
@@ -30,7 +30,7 @@ impl<W: Write> Model for StdSink<W> {
 }
 
 impl<W: Write> StdSink<W> {
-    /// A sink over this writer, with no byte and no fault yet.
+    /// Returns a sink over this writer, with no byte and no fault yet.
     pub fn new(writer: W) -> StdSink<W>
         ensures writer { result.writer ≡ writer }
         ensures took { result.took ≡ [] }

@@ -21,7 +21,7 @@ pub enum Kind {
         to: Queues,
     },
     /// Where the source serves, one customer leaves it for the first queue of the list that has room. It
-    /// leaves the network where the list is empty; where no queue of the list has room, `full` tells
+    /// leaves the network where the list is empty; where no queue of the list has room, `full` says
     /// whether it is lost or stays.
     Service {
         /// The source, not one of the list.
@@ -93,7 +93,7 @@ impl Kind {
     ///
     /// # Errors
     ///
-    /// [`OutOfMemory`] where there is no memory for them. The kind may then have other tables.
+    /// [`OutOfMemory`] if an allocation fails. The kind may then have other tables.
     pub fn index(&mut self, alloc: Global) -> Result<(), OutOfMemory>
         ensures { OnOk result (self.new ≡ self.old) }
     {

@@ -24,5 +24,5 @@ pub use moves::Move;
 pub use refusals::KindRefusal;
 pub use tables::Tables;
 
-/// There was no memory: the only way in which a call with this error fails.
+/// An allocation failed: the only way in which a call with this error fails.
 pub use std::alloc::AllocError as OutOfMemory;

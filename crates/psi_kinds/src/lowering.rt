@@ -21,15 +21,15 @@ use psi_route::{Full, Route, Source};
 use psi_state::{Queues, State};
 use std::alloc::Global;
 
-/// The event of a kind in a network of these capacities: it does to every state what the kind does.
+/// Returns the event of a kind in a network of these capacities: it does to every state what the kind does.
 ///
 /// `caps` are capacities, 1 to 32 queues with room for 1 to 65,535 customers each. Every queue and source
 /// that the kind names is one of these queues, and the number of customers from which a source serves is from
 /// 1 to its queue's capacity; the parts of a guarded kind may name any.
 ///
 /// The refusals come in this order: `Empty`, `Repeated`, `SelfTarget`, `TableLength`, `SizeRange`. Then,
-/// part by part, come `PartRange`, `Repeated` and `EmptyGuard`. `OutOfMemory` is the answer where there is no
-/// memory for the event; no clause says when that is.
+/// part by part, come `PartRange`, `Repeated` and `EmptyGuard`. `OutOfMemory` is the answer if an allocation
+/// for the event fails; no clause says when that is.
 pub fn lower(alloc: Global, caps: State, kind: &Kind) -> Result<Event, KindRefusal>
     requires caps { AreCapacities caps }
     requires named { IsKindOf caps kind.now }
@@ -45,13 +45,13 @@ pub fn lower(alloc: Global, caps: State, kind: &Kind) -> Result<Event, KindRefus
     }
 }
 
-/// The event of a kind that isn't refused in a network of these capacities: what [`lower`] answers for it.
+/// Returns the event of a kind that isn't refused in a network of these capacities: what [`lower`] answers for it.
 ///
 /// `caps` and the kind are such as `lower` takes, and [`refusal_of`](crate::refusal_of) gives no refusal.
 ///
 /// # Errors
 ///
-/// [`OutOfMemory`] where there is no memory for the event; no clause says when that is. The kinds without
+/// [`OutOfMemory`] if an allocation fails; no clause says when that is. The kinds without
 /// tables take none.
 pub fn lower_accepted(alloc: Global, caps: State, kind: &Kind) -> Result<Event, OutOfMemory>
     requires caps { AreCapacities caps }

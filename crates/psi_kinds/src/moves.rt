@@ -22,7 +22,7 @@ pub struct Move {
 impl Kind {
     ghost use Rattle.psi_kinds.specs.Moves.{move_of};
 
-    /// The move that an event of this kind is, if it is one.
+    /// Returns the move that an event of this kind is, if it is one.
     ///
     /// The moves are the services that have one queue to go to and whose customers stay where that queue is
     /// full. A join of one queue does the same, but isn't taken for a move here.

@@ -26,7 +26,7 @@ pub enum KindRefusal {
     PartRange,
     /// The least number of a part is above its most, or its floor above its ceiling.
     EmptyGuard,
-    /// There is no memory for the event.
+    /// An allocation for the event failed.
     OutOfMemory,
 }
 

@@ -48,7 +48,7 @@ impl Row {
         }
     }
 
-    // The same table once more.
+    // Shares the table.
     pub(crate) fn share(&self, alloc: Global) -> Result<Row, OutOfMemory>
         ensures { IfOk result (λ row. row_of row ≡ row_of self.now) }
     {

@@ -43,7 +43,7 @@ impl Tables {
     ///
     /// # Errors
     ///
-    /// [`OutOfMemory`] where there is no memory for one table more. The list then stays as it was, and the
+    /// [`OutOfMemory`] if an allocation fails. The list then stays as it was, and the
     /// table is dropped.
     pub fn push(&mut self, row: Vec<u32>) -> Result<(), OutOfMemory>
         ensures pushed { OnOk result (self.new ≡ self.old ++ row.items ∷ []) }
@@ -61,14 +61,14 @@ impl Tables {
         Ok(())
     }
 
-    /// The number of tables in the list.
+    /// Returns the number of tables in the list.
     pub fn len(&self) -> usize
         ensures { result ≡ length self.now }
     {
         self.rows.len()
     }
 
-    /// The values of table `i`; tables are counted from 0.
+    /// Returns the values of table `i`; tables are counted from 0.
     pub fn row(&self, i: usize) -> &[u32]
         requires { i < length self.now }
         ensures { result.now ≡ slice_index_or self.now i [] }
@@ -80,7 +80,7 @@ impl Tables {
     ///
     /// # Errors
     ///
-    /// [`OutOfMemory`] where there is no memory for them. There may then be other tables.
+    /// [`OutOfMemory`] if an allocation fails. There may then be other tables.
     pub fn index_all(&mut self, alloc: Global) -> Result<(), OutOfMemory>
         ensures { OnOk result (self.new ≡ self.old) }
     {
@@ -92,12 +92,12 @@ impl Tables {
         Ok(())
     }
 
-    /// The same tables once more. Those whose least and greatest values are at hand are shared, so they take no memory of
-    /// their own.
+    /// Returns a copy of the tables. Those whose least and greatest values are kept are shared, so only the list of the
+    /// tables is allocated for them.
     ///
     /// # Errors
     ///
-    /// [`OutOfMemory`] where there is no memory for the list.
+    /// [`OutOfMemory`] if an allocation fails.
     pub fn share(&self, alloc: Global) -> Result<Tables, OutOfMemory>
         ensures { IfOk result (λ tables. tables ≡ self.now) }
     {

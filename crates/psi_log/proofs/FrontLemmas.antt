@@ -1,4 +1,4 @@
--- What is read of a text is read of a longer one that it begins, with more text left behind it.
+-- What is read of a text is read of a longer one that it begins, with more text left after it.
 use Rattle.std.specs.Prelude.{◌≡◌, ℕ, ◌-◌, ◌+◌, ◌<◌, ◌≤◌, ◌^◌, List, [], ◌++◌, length, take, drop, codes, nat_le, nat_lt, Bool, true, ◌==◌, Option, None, Some, Result, Ok, Err, cond, refl}
 use Rattle.std.specs.List.{position, position_or_len}
 use Rattle.std.proofs.Common.{ap, sym, ◌∙◌, subst, arith, append_assoc, length-append}
@@ -26,7 +26,7 @@ IsFront {A = A} reading =
 pub ends_then : (text mid rest : List ℕ) → EndsAs text mid → EndsAs mid rest → EndsAs text rest
 ends_then text mid rest one two = (one.0 ++ two.0, one.1 ∙ ap (λ (t : List ℕ). one.0 ++ t) two.1 ∙ sym (append_assoc one.0 two.0 rest))
 
--- such are nothing read, one after another, and one behind what isn't read of the text
+-- such are nothing read, one after another, and one after what isn't read of the text
 none_front : {A : Type 0} (a : A) → IsFront (λ (text : List ℕ). Ok (a, text))
 none_front {A = A} a text x h = (([], ap (λ (p : A × List ℕ). p.1) (ok_same (a, text) x h)), λ more. ap (λ (p : A × List ℕ). Ok (p.0, p.1 ++ more)) (ok_same (a, text) x h))
 

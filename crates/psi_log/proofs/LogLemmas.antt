@@ -25,7 +25,7 @@ module _ (c : Cursor) (h : Header) (done : ℕ) (begin : LogRegion) (steps : Lis
       ap (λ (k : Header). next_step k (7 + done) (box_before k.version c.region) c.rest) (sym header)
       ∙ ap (λ (d : ℕ). next_step c.header (7 + d) (box_before c.header.version c.region) c.rest) (sym place) ∙ next
 
-  -- a step that is read, and put behind the others with the region after it
+  -- a step that is read, and put after the others with the region after it
   pub lines_more : (after : Cursor) (step : Step) (steps' : List Step) (regions' : List LogRegion) → next_of c ≡ Ok (record { step = step; region = after.region }, after.rest)
       → regions ≡ begin ∷ drop 1 regions → length regions ≡ length steps + 1 → steps' ≡ steps ++ step ∷ [] → regions' ≡ regions ++ after.region ∷ []
       → (regions' ≡ begin ∷ drop 1 regions') × (length regions' ≡ length steps' + 1)

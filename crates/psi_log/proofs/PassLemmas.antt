@@ -40,7 +40,7 @@ steps_left c (Err refusal) = refl
 abbrev cursor_of : Header → LogRegion × List ℕ → Cursor
 cursor_of h b = record { header = h; done = 0; before = b.0; region = b.0; rest = b.1 }
 
--- the log behind a header
+-- the log after a header
 behind_header : (h : Header) (text : List ℕ) → after_header h text ≡ (begin_line h.queues text >>= (λ (b : LogRegion × List ℕ). left_of (cursor_of h b)))
 unfolding after_header begin_line left_of
 behind_header h text = lines (line_of 6 text)

@@ -22,7 +22,7 @@ use Rattle.psi_log.proofs.HeaderLemmas.{header_found, header_again, begin_found,
 abbrev made : Header → LogRegion → List Entry → List ℕ → Certificate
 made h b es x = record { header = h; begin = b; entries = es; final = x }
 
--- three texts behind the header's
+-- three texts after the header's
 joined : (text h b es e rest more last : List ℕ) → text ≡ h ++ rest → rest ≡ b ++ more → more ≡ es ++ last → last ≡ e → text ≡ h ++ b ++ es ++ e
 joined text h b es e rest more last p q r s =
     p ∙ ap (λ (t : List ℕ). h ++ t) (q ∙ ap (λ (t : List ℕ). b ++ t) (r ∙ ap (λ (t : List ℕ). es ++ t) s)) ∙ sym (flat h b es e)

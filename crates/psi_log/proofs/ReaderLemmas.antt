@@ -29,7 +29,7 @@ next_found h n before text x is region r =
     let found = step_found h n before (words_of line.0.0) entry.0 is region entry.1 in
     subst (λ (p : Entry × List ℕ). IsRegion h.queues p.0.region) (ok_same (entry.0, line.0.1) x entry.2) found.1.region
 
--- what a reader holds behind a step that leaves the region in its place
+-- what a reader holds after a step that leaves the region in its place
 module _ (h : Header) (done : ℕ) (rest rest' : List ℕ) (slot spare : RegionSlot) (old : Bool) (kept : IsKept h done slot spare old rest) (small : done < h.horizon) where
   pub stays_kept : (to : RegionSlot) (stays : Bool) → stays ≡ true → HasQueues h.queues to → IsKept h (done + 1) slot to stays rest'
   stays_kept to false is queues = absurd cc
@@ -55,7 +55,7 @@ module _ (h : Header) (done : ℕ) (rest rest' : List ℕ) (slot spare : RegionS
     before = kept.region;
   }
 
-  -- and behind one that puts it into the spare slot
+  -- and after one that puts it into the spare slot
   pub moves_kept : (step : Step) (from to slot' spare' : RegionSlot) (stays : Bool) → from ≡ slot → slot' ≡ to → spare' ≡ slot → stays ≡ false → (stays ≡ false → IsFilled h.queues to)
       → next_step h (7 + done) (box_before h.version (region_in from)) rest ≡ Ok (record { step = step; region = either stays (region_in from) (region_in to) }, rest')
       → IsKept h (done + 1) slot' spare' stays rest'

@@ -1,4 +1,4 @@
--- Lines that go on behind the words of their step, with the region after it.
+-- Lines that go on after the words of their step, with the region after it.
 use Rattle.std.specs.Prelude.{◌≡◌, ℕ, ◌+◌, ◌≤◌, List, [], ◌∷◌, ◌++◌, length, take, drop, codes, Option, Some, IfSome}
 use Rattle.std.specs.List.{slice_get}
 use Rattle.std.proofs.Common.{ap, sym, ◌∙◌, subst, arith}

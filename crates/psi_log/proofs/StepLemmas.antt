@@ -32,7 +32,7 @@ unfolding next_step
 next_step_refused h n before text line (Refused l cause) cut fails = rw (cut, fails) refl
 next_step_refused h n before text line OutOfMemory cut fails = tt
 
--- the steps that are read behind others
+-- the steps that are read after others
 abbrev pub behind : List Entry → Result (List Entry × List ℕ) Refusal → Result (List Entry × List ℕ) Refusal
 behind front (Ok read) = Ok (front ++ read.0, read.1)
 behind front (Err refusal) = Err refusal
@@ -80,7 +80,7 @@ next_refused h count n before text front (Refused l cause) whole fails k size sa
     sym same ∙ ap (λ (j : ℕ). behind front (read_steps h j n before text)) size ∙ ap (behind front) refused
 next_refused h count n before text front OutOfMemory whole fails k size same = tt
 
--- behind the last line what was read is the answer
+-- after the last line what was read is the answer
 pub steps_end : (h : Header) (k n : ℕ) (before : Option Corners) (text : List ℕ) (front : List Entry) → k ≡ 0 → behind front (read_steps h k n before text) ≡ Ok (front, text)
 unfolding read_steps
 steps_end h k n before text front none = rw none (ap (λ (es : List Entry). Ok (es, text)) (append-nil front))

@@ -10,7 +10,7 @@ use Rattle.psi_log_words.specs.Regions.{box_before}
 use Rattle.psi_log.specs.Reading.{read_begin, read_steps, read_end}
 use Rattle.psi_log_scan.specs.Scanned.{next_step}
 
--- how far a log is read: its header, how many steps are read, the regions before and after the last one of them, and the text behind it; where
+-- how far a log is read: its header, how many steps are read, the regions before and after the last one of them, and the text after it; where
 -- no step is read, both are the region at which the run begins
 pub record Cursor : Type 0 where
   pub header : Header
@@ -38,11 +38,11 @@ begun text = do
   begin ← begin_line header.0.queues header.1
   Ok (record { header = header.0; done = 0; before = begin.0; region = begin.0; rest = begin.1 })
 
--- the next step, and the text behind it
+-- the next step, and the text after it
 abbrev pub next_of : Cursor → Result (Entry × List ℕ) Refusal
 next_of c = next_step c.header (7 + c.done) (box_before c.header.version c.region) c.rest
 
--- the state at time zero, where its line is all of the text that is left behind the steps
+-- the state at time zero, where its line is all of the text that is left after the steps
 unfoldable pub ended : Header → List ℕ → Result (List ℕ) Refusal
 ended h text = do
   line ← line_of (7 + h.horizon) text

@@ -25,7 +25,7 @@ read_end n queues (first ∷ state ∷ []) = do
   read_state n state
 read_end n queues words = Err (refused n Shape)
 
--- the lines behind this header
+-- the lines after this header
 module _ (h : Header) where
   -- so many lines of steps, from line n on, where the box from which a box has to be written may be given, and what follows them
   unfoldable pub read_steps : ℕ → ℕ → Option Corners → List ℕ → Result (List Entry × List ℕ) Refusal
@@ -36,7 +36,7 @@ module _ (h : Header) where
     more ← read_steps count (n + 1) (box_before h.version entry.region) line.1
     Ok (entry ∷ more.0, more.1)
 
-  -- the log that a header and the text behind it are
+  -- the log that a header and the text after it are
   unfoldable pub after_header : List ℕ → Result Certificate Refusal
   after_header text = do
     line ← line_of 6 text

@@ -53,7 +53,7 @@ pub record BeginsWith (version : ℕ) (text : List ℕ) (at : ℕ) (s : Step) : 
   pub event : s.event ≤ 1024
   pub there : Stands text 0 at (codes "step" ++ spaced_words (decimal s.number ∷ decimal s.event ∷ []))
 
--- behind the words of a step, which end at a place, its line goes on up to another with this region
+-- after the words of a step, which end at a place, its line goes on up to another with this region
 abbrev pub GoesOn : ℕ → Option Corners → List ℕ → ℕ → ℕ → LogRegion → Type 0
 GoesOn queues before text at end region =
     (h : Header) (n : ℕ) (s : Step) → h.queues ≡ queues → BeginsWith h.version text at s → next_step h n before text ≡ Ok (record { step = s; region = region }, drop end text)

@@ -60,11 +60,11 @@ impl<'t> LogReader<'t> {
 }
 
 impl LogCursor {
-    /// Goes on with a text, from behind the last line that was read.
+    /// Goes on with a text, from after the last line that was read.
     ///
     /// # Errors
     ///
-    /// `AllocError` where memory is wanting, and no clause says when that is.
+    /// `AllocError` if an allocation fails; no clause says when that is.
     pub fn resume<'t>(self, alloc: Global, text: &'t [u8]) -> Result<LogReader<'t>, AllocError>
         ensures value { IfOk result (λ reader. reader ≡ record { header = self.header; done = self.done; before = self.region; region = self.region; rest = text.now }) }
         ensures cursor { IfOk result (λ reader. IsCursor reader) }

@@ -1,4 +1,4 @@
-//! The line before the steps of a log, and the one behind them.
+//! The line before the steps of a log, and the one after them.
 
 ghost use Rattle.std.specs.Prelude.{◌≡◌, ◌≤◌, length, map, Ok, None, IfOk, IfErr};
 ghost use Rattle.psi_log_words.specs.Refusal.{Gives, IsLogError};
@@ -9,7 +9,7 @@ use psi_log_format::{ListedRegion, StateList};
 use psi_log_words::{Cause, LogError, form_of, has_pieces, read_given, read_state};
 use psi_state::State;
 
-/// The region at which the run begins, of the words of its line; the states of a set are put behind those of the list.
+/// The region at which the run begins, of the words of its line; the states of a set are put after those of the list.
 ///
 /// # Errors
 ///

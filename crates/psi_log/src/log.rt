@@ -57,7 +57,7 @@ impl Model for Log {
 }
 
 impl Log {
-    /// The header. Its second clause is how a caller learns what every `Log` keeps.
+    /// Returns the header. Its second clause is how a caller learns what every `Log` keeps.
     pub fn header(&self) -> Header
         ensures value { result ≡ self.now.header }
         ensures log { IsLog self.now }
@@ -65,7 +65,8 @@ impl Log {
         self.header
     }
 
-    /// The form of a region: 0 is the region at which the run begins, and `i` the one after the `i`-th step line.
+    /// Returns the form of a region: 0 is the region at which the run begins, and `i` the one after the `i`-th step
+    /// line.
     pub fn region(&self, i: u32) -> Form
         requires { i ≤ self.now.header.horizon }
         ensures { option_map form (region_at self.now i) ≡ Some result }
@@ -78,7 +79,7 @@ impl Log {
         }
     }
 
-    /// A region, borrowed: regions are counted as in [`Log::region`]. Nothing is copied.
+    /// Returns a region, borrowed: regions are counted as in [`Log::region`]. Nothing is copied.
     #[tactic(auto, using(crate::proofs::ToldLemmas::regions_count, crate::proofs::ToldLemmas::region_told))]
     pub fn look(&self, i: u32) -> BorrowedRegion<'_>
         requires { i ≤ self.now.header.horizon }
@@ -88,7 +89,7 @@ impl Log {
         self.regions.get(i as usize)
     }
 
-    /// The step of the `i`-th step line, counted from 1.
+    /// Returns the step of the `i`-th step line, counted from 1.
     #[tactic(auto, using(crate::proofs::ToldLemmas::steps_count, crate::proofs::ToldLemmas::step_told))]
     pub fn step(&self, i: u32) -> Step
         requires least { 1 ≤ i }
@@ -98,7 +99,7 @@ impl Log {
         self.steps[i as usize - 1]
     }
 
-    /// The state at place `j` of a region that is a set; places are counted from 0, and regions as in
+    /// Returns the state at place `j` of a region that is a set; places are counted from 0, and regions as in
     /// [`Log::region`].
     pub fn state(&self, i: u32, j: u16) -> State
         requires number { i ≤ self.now.header.horizon }
@@ -111,7 +112,7 @@ impl Log {
         }
     }
 
-    /// Whether the state at place `j` of a region that is a set has at most as many customers in each queue as
+    /// Returns whether the state at place `j` of a region that is a set has at most as many customers in each queue as
     /// `most` has; regions and places are counted as in [`Log::state`].
     pub fn state_leq(&self, i: u32, j: u16, most: &State) -> bool
         requires number { i ≤ self.now.header.horizon }
@@ -124,7 +125,7 @@ impl Log {
         }
     }
 
-    /// The state at time zero.
+    /// Returns the state at time zero.
     pub fn end(&self) -> State
         ensures { result ≡ self.now.final }
     {
@@ -162,8 +163,8 @@ fn read_lines(
     Ok((steps, regions))
 }
 
-/// The log that a text is. The clauses `found` and `only` say that what is read is the log of that text, and
-/// that the text of each log of at most 33,554,432 bytes is read as that log, unless memory is wanting.
+/// Returns the log that a text is. The clauses `found` and `only` say that what is read is the log of that text, and
+/// that the text of each log of at most 33,554,432 bytes is read as that log, unless an allocation fails.
 ///
 /// # Errors
 ///

@@ -16,7 +16,7 @@ use std::alloc::Global;
 use std::marker::Model;
 
 /// A log that is read in one pass. It is seen as its header, the number of steps that are read, the regions before and
-/// after the last one of them, and the text behind it; where no step is read yet, both are the region at which the
+/// after the last one of them, and the text after it; where no step is read yet, both are the region at which the
 /// run begins. It holds these two regions and the words of one line, however many lines the text has.
 #[derive(Drop)]
 pub struct LogReader<'t> {
@@ -138,7 +138,7 @@ impl<'t> LogReader<'t> {
         })
     }
 
-    /// The header. Its second clause is how a caller learns what every reader keeps.
+    /// Returns the header. Its second clause is how a caller learns what every reader keeps.
     pub fn header(&self) -> Header
         ensures value { result ≡ self.now.header }
         ensures cursor { IsCursor self.now }
@@ -146,14 +146,14 @@ impl<'t> LogReader<'t> {
         self.header
     }
 
-    /// How many steps are read.
+    /// Returns how many steps are read.
     pub fn done(&self) -> u32
         ensures { result ≡ self.now.done }
     {
         self.done
     }
 
-    /// The next step.
+    /// Returns the next step.
     ///
     /// # Errors
     ///
@@ -190,7 +190,7 @@ impl<'t> LogReader<'t> {
         Ok(read.step)
     }
 
-    /// The region before the last step that was read, borrowed. Nothing is copied.
+    /// Returns the region before the last step that was read, borrowed. Nothing is copied.
     pub fn before(&self) -> BorrowedRegion<'_>
         ensures { shown result ≡ self.entry.now.before }
     {
@@ -200,7 +200,7 @@ impl<'t> LogReader<'t> {
         self.spare.borrow(self.header.queues)
     }
 
-    /// The region after the last step that was read, borrowed. Nothing is copied.
+    /// Returns the region after the last step that was read, borrowed. Nothing is copied.
     pub fn region(&self) -> BorrowedRegion<'_>
         ensures value { shown result ≡ self.entry.now.region }
         ensures width { HasWidth self.entry.now.header.queues result }
@@ -208,15 +208,15 @@ impl<'t> LogReader<'t> {
         self.slot.borrow(self.header.queues)
     }
 
-    /// Whether the last step that was read left the region in its place. It may be false where both regions are the
-    /// same.
+    /// Returns whether the last step that was read left the region in its place. It may be false where both regions are
+    /// the same.
     pub fn stays(&self) -> bool
         ensures { IsTrue result → self.now.before ≡ self.now.region }
     {
         self.stays
     }
 
-    /// The state at time zero, once all steps are read.
+    /// Returns the state at time zero, once all steps are read.
     ///
     /// # Errors
     ///

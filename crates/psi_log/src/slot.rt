@@ -74,8 +74,8 @@ impl RegionSlot<'_> {
     }
 }
 
-// Makes a region the box that the changes make of another which stand in a text from a place on, and answers the place
-// behind them. A box that stood there is written over in its place.
+// Makes a region the box that the changes make of another which stand in a text from a place on, and returns the place
+// after them. A box that stood there is written over in its place.
 fn changes_onto(
     queues: u8,
     from: &Bounds,
@@ -98,8 +98,8 @@ fn changes_onto(
     }
 }
 
-// Reads into a slot the box that stands behind an event, written by what changed from another box as it is to be:
-// whether it is that box, which then isn't put there, and the place behind its line.
+// Reads into a slot the box that stands after an event, written by what changed from another box as it is to be:
+// whether it is that box, which then isn't put there, and the place after its line.
 fn move_onto(
     queues: u8,
     from: &Bounds,
@@ -129,8 +129,8 @@ fn move_onto(
     Some((false, end + 1))
 }
 
-// Reads into a slot the set of one state that stands behind an event as it is to be, by the line of another slot's
-// region where that is such a set too, and answers the place behind its line.
+// Reads into a slot the set of one state that stands after an event as it is to be, by the line of another slot's
+// region where that is such a set too, and returns the place after its line.
 fn like_onto<'t>(
     queues: u8,
     from: &RegionSlot<'t>,
@@ -165,8 +165,8 @@ fn like_onto<'t>(
     Ok(Some(at + like.text.len()))
 }
 
-// Reads into a slot the set that stands behind an event as it is to be: whether it is the set of another slot, as its
-// line ends alike, which then isn't put there, and the place behind its line.
+// Reads into a slot the set that stands after an event as it is to be: whether it is the set of another slot, as its
+// line ends alike, which then isn't put there, and the place after its line.
 fn set_onto<'t>(
     queues: u8,
     from: &RegionSlot<'t>,
@@ -203,8 +203,8 @@ fn set_onto<'t>(
     Ok(Some((false, at + set.text.len())))
 }
 
-// Reads into a slot the region that stands behind an event as it is to be: whether it is that of another slot, which
-// then isn't put there, and the place behind its line.
+// Reads into a slot the region that stands after an event as it is to be: whether it is that of another slot, which
+// then isn't put there, and the place after its line.
 fn region_onto<'t>(
     header: &Header,
     from: &RegionSlot<'t>,

@@ -20,7 +20,7 @@ pub(crate) struct Line {
     pub(crate) region: ListedRegion,
 }
 
-// The words of a step and of the region after it; the states of a set are put behind those of the list.
+// The words of a step and of the region after it; the states of a set are put after those of the list.
 #[tactic(auto, unfolding(psi_log_scan::specs::Lines::read_step))]
 fn read_step(
     header: &Header,

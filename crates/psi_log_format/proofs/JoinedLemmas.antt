@@ -39,7 +39,7 @@ unfolding numbers_text
 numbers_text_first [] some = absurd (omega arith)
 numbers_text_first (x ∷ xs) some = refl
 
--- a text behind a text
+-- a text after a text
 pub then : {old mid new : List ℕ} {at place end : ℕ} (first second both : List ℕ) → Puts old mid at place first → Puts mid new place end second → first ++ second ≡ both → Puts old new at end both
 then {old} {mid} {new} {at} first second both a b is = record {
   front = b.front ∙ ap (λ (t : List ℕ). t ++ second) a.front ∙ append_assoc (take at old) first second ∙ ap (λ (t : List ℕ). take at old ++ t) is;
@@ -48,7 +48,7 @@ then {old} {mid} {new} {at} first second both a b is = record {
   len = b.len ∙ a.len;
 }
 
--- words behind words
+-- words after words
 pub spaced-append : (xs ys : List (List ℕ)) → spaced_words (xs ++ ys) ≡ spaced_words xs ++ spaced_words ys
 unfolding spaced_words
 spaced-append xs ys = flat_map-append spaced xs ys
@@ -67,7 +67,7 @@ pub set-more : (name : List ℕ) (xs : List (List ℕ)) (i : ℕ) (x : List ℕ)
 set-more name xs i x small is =
     ap (λ (ys : List (List ℕ)). name ∷ ys) (ap (map numbers_text) (take_more xs i x small ∙ ap (λ (y : List ℕ). take i xs ++ (y ∷ [])) (sym is)) ∙ map-append numbers_text (take i xs) (x ∷ []))
 
--- the words of queues behind those of others
+-- the words of queues after those of others
 pub picked-append : (from to : Corners) (xs ys : List ℕ) → picked from to (xs ++ ys) ≡ picked from to xs ++ picked from to ys
 picked-append from to xs ys =
     ap (λ (zs : List ℕ). map change_text (map (change_to to) zs)) (filter-append (differs from to) xs ys)

@@ -1,4 +1,4 @@
--- A line in pieces: its first word, the further words each behind a space, and the line feed.
+-- A line in pieces: its first word, the further words each preceded by a space, and the line feed.
 use Rattle.std.specs.Prelude.{◌≡◌, ℕ, List, [], ◌∷◌, ◌++◌, codes}
 use Rattle.std.specs.List.{join_with_byte}
 use Rattle.std.specs.Fmt.{decimal}

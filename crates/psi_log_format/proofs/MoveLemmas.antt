@@ -49,7 +49,7 @@ bit-one : (b : Bool) → (let n : ℕ = (if b then 0 else 1) in n ≡ 1) → b �
 bit-one true e = absurd (omega arith)
 bit-one false e = refl
 
--- behind the last queue both boxes have no number
+-- after the last queue both boxes have no number
 same-past : {from to : Corners} → IsBelow from.lo from.hi → IsBelow to.lo to.hi → length from.lo ≡ length to.lo → (i : ℕ) → length from.lo ≤ i → same from to i ≡ true
 same-past {from} {to} own others alike i past =
     let a = own.same_length in let b = others.same_length in
@@ -63,7 +63,7 @@ module _ (from to : Corners) (old new : List ℕ) (at end left turn : ℕ) (told
       (λ i above below. bit-zero (same from to i) (sym (told.rest i above (omega arith)) ∙ (ap (λ n. bit_at n i) none ∙ bit_at-zero i))) in
       rw (picked-skip from to told.next (length from.lo) told.most alike) told.text
 
-  -- nor is one left behind the last queue
+  -- nor is one left after the last queue
   pub told-last : turn ≡ length from.lo → Puts old new at end (spaced_words (codes "move" ∷ picked from to (numbers_from 0 (length from.lo))))
   told-last last =
       let all : length from.lo ≡ told.next = (let a = told.turns in let b = told.most in omega arith) in
@@ -85,7 +85,7 @@ module _ (from to : Corners) (old new : List ℕ) (at end left turn : ℕ) (told
     pub place-changed : same from to (trailing_zeros w32 left) ≡ false
     place-changed = bit-one (same from to (trailing_zeros w32 left)) (sym (told.rest (trailing_zeros w32 left) place-above lowest.0) ∙ lowest.1)
 
-    -- it is one of the queues, since behind them both have no number
+    -- it is one of the queues, since after them both have no number
     pub place-within : IsBelow from.lo from.hi → IsBelow to.lo to.hi → length from.lo ≡ length to.lo → trailing_zeros w32 left < length from.lo
     place-within own others alike = elim (cases_lt (trailing_zeros w32 left) (length from.lo)) [
       | inl within ↦ within

@@ -1,4 +1,4 @@
--- Regions stay what they are while boxes and states are put behind theirs.
+-- Regions stay what they are while boxes and states are put after theirs.
 use Rattle.std.specs.Prelude.{◌≡◌, ℕ, ◌+◌, ◌-◌, ◌<◌, ◌≤◌, List, [], ◌∷◌, ◌++◌, length, map, take, drop, Some, option_map, refl}
 use Rattle.std.specs.List.{All, slice_get}
 use Rattle.std.proofs.Common.{get_or, ap, sym, ◌∙◌, arith, length-append, subst}
@@ -11,7 +11,7 @@ use Rattle.psi_log_format.specs.declared.region_list.Place.{Place}
 use Rattle.psi_log_format.specs.declared.region_list.Place.TheVariants as place
 use Rattle.psi_log_format.specs.Listed.{nothing, placed_region, IsPlaced}
 
--- the box at a place, where it is the last one, and where it is put behind the others
+-- the box at a place, where it is the last one, and where it is put after the others
 pub last_place : (boxes : List Corners) (i : ℕ) (x y : Corners) → i < length boxes → x ≡ get_or boxes i x → x ≡ y → slice_get boxes i ≡ Some y
 last_place boxes i x y small is same = slice_get-get_or boxes i x small ∙ ap (λ (z : Corners). Some z) (sym is ∙ same)
 
@@ -27,7 +27,7 @@ box_there boxes i b there = ap (λ (c : Corners). in_box c) (get_or_from_slice_g
 pub box_placed : (boxes : List Corners) (i : ℕ) (b : Corners) → slice_get boxes i ≡ Some b → i < length boxes
 box_placed boxes i b there = slice_get_within boxes i b there
 
--- states that are put behind others, by their place
+-- states that are put after others, by their place
 pub front_kept : (old new more : List (List ℕ)) → new ≡ old ++ more → take (length old) new ≡ old
 front_kept old new more is = ap (take (length old)) is ∙ take_at old more (length old) refl
 
@@ -41,7 +41,7 @@ set_placed old new more first count is at size =
     let long : length new ≡ length old + length more = ap length is ∙ length-append old more in
     omega arith
 
--- what stood in a list stands there still once more is put behind
+-- what stood in a list stands there still once more is put after
 front_of : {X : Type 0} (old new : List X) (first count : ℕ) → take (length old) new ≡ old → first + count ≤ length old → take count (drop first new) ≡ take count (drop first old)
 front_of old new first count kept there =
     let size : first + (length old - first) ≡ length old = omega arith in

@@ -66,7 +66,7 @@ rows_room count queues i small =
     let most : suc i * queues ≤ count * queues = mul-le (suc i) queues count queues (omega arith) (omega arith) in
     omega arith
 
--- the first of some states stand in the front of their numbers, and the others behind these
+-- the first of some states stand in the front of their numbers, and the others after these
 rows_front : (count more queues : ℕ) (numbers : List ℕ) → rows count queues (take (count * queues) numbers) ≡ take count (rows (count + more) queues numbers)
 rows_front zero more queues numbers = refl
 rows_front (suc count) more queues numbers =

@@ -1,4 +1,4 @@
--- Texts that are put behind one another in a buffer.
+-- Texts that are put one after another in a buffer.
 use Rattle.std.specs.Prelude.{◌≡◌, ℕ, ◌+◌, List, ◌∷◌, ◌++◌, length, take, map, filter}
 use Rattle.std.specs.List.{flat_map}
 use Rattle.psi_state.specs.State.{Corners}
@@ -10,11 +10,11 @@ pub record Puts (old new : List ℕ) (at end : ℕ) (text : List ℕ) : Type 0 w
   pub place : end ≡ at + length text
   pub len : length new ≡ length old
 
--- each word behind a space
+-- each word after a space
 abbrev pub spaced : List ℕ → List ℕ
 spaced word = 32 ∷ word
 
--- words, each behind a space
+-- words, each preceded by a space
 unfoldable pub spaced_words : List (List ℕ) → List ℕ
 spaced_words words = flat_map spaced words
 

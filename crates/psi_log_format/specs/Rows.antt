@@ -1,4 +1,4 @@
--- States of one length, kept as their numbers one behind another.
+-- States of one length, kept as their numbers one after another.
 use Rattle.std.specs.Prelude.{ℕ, zero, suc, List, [], ◌∷◌, take, drop}
 
 -- so many states of so many queues

@@ -1,4 +1,4 @@
--- The text of a log, line by line. A line is words with one space between two, and a line feed behind the last.
+-- The text of a log, line by line. A line is words with one space between two, and a line feed after the last.
 use Rattle.std.specs.Prelude.{◌≡◌, ℕ, ◌≤◌, List, [], ◌∷◌, ◌++◌, length, slice_index, map, filter, codes, Bool, not, ◌&&◌, ◌==◌, if◌then◌else◌}
 use Rattle.std.specs.List.{join_with_byte}
 use Rattle.std.specs.Fmt.{decimal}

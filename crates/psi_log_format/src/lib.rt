@@ -28,5 +28,5 @@ pub use region_list::RegionList;
 pub use row_list::Rows;
 pub use state_list::StateList;
 
-/// There was no memory: the only way in which a call with this error fails.
+/// An allocation failed: the only way in which a call with this error fails.
 pub use std::alloc::AllocError as OutOfMemory;

@@ -17,14 +17,14 @@ const ROOM: usize = 800_000;
 
 /// A buffer that holds whole lines of a log, seen as their bytes.
 ///
-/// All its memory is taken by `reserve`: room for the longest line, and a table of the digits of small numbers.
-/// A call whose name begins with `add` puts a line behind those that it holds; each other call replaces these,
-/// and none takes memory. The text of a log is the header, the box at which the run begins, a line for each step,
+/// `reserve` allocates all its memory: room for the longest line, and a table of the digits of small numbers.
+/// A call whose name begins with `add` appends a line to those that it holds; each other call replaces these,
+/// and none allocates. The text of a log is the header, the box at which the run begins, a line for each step,
 /// and the state at time zero, one after another.
 #[derive(Drop)]
 pub struct LineBuf {
     table: Vec<Digits>,
-    // The lines are the first `len` bytes; what is behind them is free.
+    // The lines are the first `len` bytes; what is after them is free.
     bytes: Vec<u8>,
     len: usize,
 }
@@ -40,7 +40,7 @@ impl Model for LineBuf {
     ghost invariant = { λ b. (800000 ≤ vec_capacity b.bytes) × (b.len ≤ vec_len b.bytes) × AreDigits b.table.items };
 }
 
-// Lets a vector have at least so many bytes, for which it has the capacity.
+// Lengthens a vector to at least `count` bytes, for which it has the capacity.
 #[inline]
 fn lengthen(bytes: &mut Vec<u8>, count: usize)
     requires { count ≤ vec_capacity bytes.old }
@@ -55,9 +55,9 @@ fn lengthen(bytes: &mut Vec<u8>, count: usize)
 }
 
 impl LineBuf {
-    /// An empty buffer, with room for 800,000 bytes.
+    /// Returns an empty buffer, with room for 800,000 bytes.
     ///
-    /// `OutOfMemory` is the answer where there is no memory for it; no clause says when that is.
+    /// Returns `OutOfMemory` if an allocation fails; no clause says when that is.
     pub fn reserve(alloc: Global) -> Result<LineBuf, OutOfMemory>
         ensures { IfOk result (λ buffer. buffer ≡ []) }
     {
@@ -120,7 +120,7 @@ impl LineBuf {
         self.add_step_move(s, from, to);
     }
 
-    /// Puts the line of a step with the box after it, written whole, behind what it holds, which leaves room for
+    /// Appends the line of a step with the box after it, written whole. What the buffer holds leaves room for
     /// 450 bytes.
     pub fn add_step_box(&mut self, s: &Step, b: &Bounds)
         requires { length self.old + 450 ≤ 800000 }
@@ -130,7 +130,7 @@ impl LineBuf {
         self.len = put_step_box(&mut self.bytes, self.len, &self.table, s, b);
     }
 
-    /// Puts the line of a step with the set of states after it, in ascending order, behind what it holds, which
+    /// Appends the line of a step with the set of states after it, in ascending order. What the buffer holds
     /// leaves room for 51 bytes and 193 for each state.
     pub fn add_step_set(&mut self, s: &Step, states: &[State])
         requires { length self.old + 51 + 193 * length states.now ≤ 800000 }
@@ -140,8 +140,8 @@ impl LineBuf {
         self.len = put_step_set(&mut self.bytes, self.len, &self.table, s, states);
     }
 
-    /// Puts the line of a step with the box `to` after it, written by what changed from the box `from` before
-    /// it, behind what it holds, which leaves room for 1,200 bytes.
+    /// Appends the line of a step with the box `to` after it, written by what changed from the box `from` before
+    /// it. What the buffer holds leaves room for 1,200 bytes.
     pub fn add_step_move(&mut self, s: &Step, from: &Bounds, to: &Bounds)
         requires same { length from.now.lo ≡ length to.now.lo }
         requires room { length self.old + 1200 ≤ 800000 }
@@ -159,7 +159,7 @@ impl LineBuf {
         self.len = put_end(&mut self.bytes, 0, &self.table, x);
     }
 
-    /// The bytes that it holds.
+    /// Returns the bytes that it holds.
     pub fn bytes(&self) -> &[u8]
         ensures { result.now ≡ self.now }
     {

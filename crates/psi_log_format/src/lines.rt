@@ -1,4 +1,4 @@
-//! Whole lines, put behind one another in a buffer that has room for them.
+//! Whole lines, put one after another in a buffer that has room for them.
 
 ghost use Rattle.std.specs.Prelude.{◌≡◌, ◌+◌, ◌*◌, ◌≤◌, length};
 ghost use Rattle.psi_log_format.specs.Log.{in_box, in_set};

@@ -12,7 +12,7 @@ use psi_state::Bounds;
 pub enum ListedRegion {
     /// The states between two corners.
     Box(Bounds),
-    /// So many states of the list, from a place on.
+    /// `count` states of the list, from the place `first` on.
     Set { first: usize, count: u16 },
 }
 
@@ -26,7 +26,7 @@ pub enum BorrowedRegion<'l> {
 }
 
 impl ListedRegion {
-    /// The region, borrowed with the list that its states stand in. Nothing is copied.
+    /// Returns the region, borrowed with the list that its states stand in. Nothing is copied.
     #[inline]
     pub fn borrow<'l>(&'l self, states: &'l StateList) -> BorrowedRegion<'l>
         requires { IsThere states.now.queues states.now.states self.now }

@@ -1,4 +1,4 @@
-//! The pieces of a line, put behind one another in a buffer.
+//! The pieces of a line, put one after another in a buffer.
 
 ghost use Rattle.std.specs.Prelude.{◌≡◌, ◌∷◌, [], ◌++◌, ◌+◌, ◌≤◌, length, decimal, codes};
 ghost use Rattle.psi_log_format.specs.Text.{numbers_text, line_text, number_words};

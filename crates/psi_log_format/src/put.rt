@@ -3,7 +3,7 @@
 ghost use Rattle.std.specs.Prelude.{◌≡◌, ◌+◌, ◌≤◌, length};
 ghost use Rattle.psi_log_format.specs.Room.{Puts};
 
-/// Puts bytes from a place of the buffer on, and answers the place behind them.
+/// Puts bytes from a place of the buffer on, and returns the place after them.
 #[inline]
 pub(crate) fn put(out: &mut [u8], at: usize, text: &[u8]) -> usize
     requires { at + length text.now ≤ length out.old }

@@ -1,4 +1,4 @@
-//! The regions of a log, one behind another.
+//! The regions of a log, one after another.
 
 ghost use Rattle.std.specs.Prelude.{◌≡◌, ◌∷◌, [], ◌++◌, ◌<◌, ◌≤◌, length, take, Some, IfOk, OnOk, OnErr};
 ghost use Rattle.std.specs.List.{slice_get};
@@ -11,16 +11,16 @@ use psi_state::Bounds;
 use std::alloc::{AllocError, Global};
 use std::marker::Model;
 
-// A region by its place: a box in a list of boxes, or so many states of a list, from a place on.
+// A region by its place: a box in a list of boxes, or `count` states of a list, from the place `first` on.
 #[derive(Clone, Copy, Debug)]
 enum Place {
     Box { place: usize },
     Set { first: usize, count: usize },
 }
 
-/// A list of regions, whose states are of so many queues, 1 to 32; it is seen as the number of queues and the regions.
-/// A region takes 24 bytes, and 132 more where it is a box, and another one than the last box before it, or two for
-/// each number of its states; of each the list has room for up to an eighth more.
+/// A list of regions, whose states all have the same number of queues, 1 to 32; it is seen as the number of queues and
+/// the regions. A region takes 24 bytes, and 132 more where it is a box, and another one than the last box before it,
+/// or two for each number of its states; of each the list has room for up to an eighth more.
 #[derive(Drop)]
 pub struct RegionList {
     places: Vec<Place>,
@@ -40,7 +40,7 @@ impl Model for RegionList {
     ghost invariant = { λ l. All (IsPlaced l.boxes.items l.states.states) l.places.items };
 }
 
-// The place of a box in a list, behind which it is put where it isn't the last one.
+// The place of a box in a list, after which it is put where it isn't the last one.
 #[tactic(auto, using(crate::proofs::RegionsLemmas::last_place, crate::proofs::RegionsLemmas::next_place))]
 fn box_place(boxes: &mut Vec<Bounds>, bounds: &Bounds) -> Result<usize, AllocError>
     ensures front { take (length boxes.old.items) boxes.new.items ≡ boxes.old.items }
@@ -55,7 +55,7 @@ fn box_place(boxes: &mut Vec<Bounds>, bounds: &Bounds) -> Result<usize, AllocErr
     Ok(count)
 }
 
-// The place of a region, whose box or states are put behind those of the lists.
+// The place of a region, whose box or states are put after those of the lists.
 #[tactic(auto, using(crate::proofs::RegionsLemmas::box_there, crate::proofs::RegionsLemmas::box_placed, crate::proofs::RegionsLemmas::set_there, crate::proofs::RegionsLemmas::set_placed, crate::proofs::RegionsLemmas::front_kept))]
 fn place_of(
     boxes: &mut Vec<Bounds>,
@@ -86,7 +86,7 @@ fn place_of(
 }
 
 impl RegionList {
-    /// The list of no regions, for states of so many queues, 1 to 32. It does not allocate yet.
+    /// Makes the empty list, for states of `queues` queues, 1 to 32. It does not allocate yet.
     pub fn new(alloc: Global, queues: u8) -> RegionList
         requires some { 1 ≤ queues }
         requires few { queues ≤ 32 }
@@ -99,11 +99,11 @@ impl RegionList {
         }
     }
 
-    /// Puts a region behind the others.
+    /// Appends a region.
     ///
     /// # Errors
     ///
-    /// `AllocError` where memory is wanting, and no clause says when that is; the list is then as it was.
+    /// `AllocError` if an allocation fails; no clause says when that is; the list is then as it was.
     pub fn push(&mut self, region: &BorrowedRegion<'_>) -> Result<(), AllocError>
         requires { HasWidth self.old.queues region.now }
         ensures queues { self.new.queues ≡ self.old.queues }
@@ -116,7 +116,7 @@ impl RegionList {
         Ok(())
     }
 
-    /// The region at a place, counted from 0, borrowed. Nothing is copied.
+    /// Returns the region at a place, counted from 0, borrowed. Nothing is copied.
     #[tactic(auto, using(crate::proofs::RegionsLemmas::region_there, crate::proofs::RegionsLemmas::is_there))]
     pub fn get(&self, i: usize) -> BorrowedRegion<'_>
         requires { i < length self.now.regions }

@@ -1,4 +1,4 @@
-//! The words of a region, each behind a space.
+//! The words of a region, each preceded by a space.
 
 ghost use Rattle.std.specs.Prelude.{◌≡◌, ◌∷◌, [], ◌+◌, ◌*◌, ◌<◌, ◌≤◌, length};
 ghost use Rattle.psi_log_format.specs.Log.{in_box, in_set};
@@ -70,7 +70,7 @@ pub(crate) fn put_move(
     let mut end = put(out, at, b" move");
     // Called for its clause: the corners have one length.
     let _queues = to.len();
-    // The queues that changed and aren't told yet, as bits.
+    // The queues that changed and aren't written yet, as bits.
     let mut left = from.apart(to);
     for _ in 0..from.len() {
         if left == 0 {

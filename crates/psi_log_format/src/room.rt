@@ -7,12 +7,12 @@ use std::alloc::AllocError;
 // How many elements a list that grows gets room for at least.
 const LEAST: usize = 4;
 
-/// Makes room for so many more elements. Where there isn't enough, the list grows by an eighth at least: of a long
+/// Makes space for `count` more elements. Where there isn't enough, the list grows by an eighth at least: of a long
 /// list that doubles up to half might stay unused.
 ///
 /// # Errors
 ///
-/// `AllocError` where memory is wanting; the elements are as they were in either case.
+/// `AllocError` if an allocation fails; the elements are as they were in either case.
 pub(crate) fn make_room<T>(elements: &mut Vec<T>, count: usize) -> Result<(), AllocError>
     ensures elements { elements.new.items ≡ elements.old.items }
     ensures room { OnOk result (vec_len elements.new + count ≤ vec_capacity elements.new) }

@@ -1,4 +1,4 @@
-//! States one behind another, borrowed from the vector of their numbers.
+//! States one after another, borrowed from the vector of their numbers.
 
 ghost use Rattle.std.specs.Prelude.{◌≡◌, ◌↔◌, IsTrue, MatchOption, ◌+◌, ◌*◌, ◌<◌, ◌≤◌, ℕ, nat_le, length, take, drop, slice_index, Some};
 ghost use Rattle.std.specs.Ordering.{is_lt, nat_cmp};
@@ -10,8 +10,8 @@ ghost use Rattle.psi_log_format.specs.Rows.{rows};
 use psi_state::State;
 use std::marker::Model;
 
-/// States of so many queues, 1 to 32, that stand one behind another in a list of states, borrowed from it. They are
-/// seen as the number of queues and the states.
+/// States, all with the same number of queues, 1 to 32, that stand one after another in a list of states, borrowed from
+/// it. They are seen as the number of queues and the states.
 #[derive(Drop)]
 pub struct Rows<'l> {
     queues: u8,
@@ -198,7 +198,7 @@ fn put_few(row: &[u16], x: &mut State)
 }
 
 impl<'l> Rows<'l> {
-    // So many states, whose numbers these are.
+    // `count` states, whose numbers these are.
     pub(crate) fn new(queues: u8, count: usize, numbers: &'l [u16]) -> Rows<'l>
         requires some { 1 ≤ queues }
         requires few { queues ≤ 32 }
@@ -221,7 +221,7 @@ impl<'l> Rows<'l> {
         self.numbers
     }
 
-    /// The number of states.
+    /// Returns the number of states.
     #[inline]
     #[tactic(auto, using(crate::proofs::RowsLemmas::length_rows))]
     pub fn len(&self) -> usize
@@ -230,7 +230,7 @@ impl<'l> Rows<'l> {
         self.count
     }
 
-    /// The same states, borrowed once more.
+    /// Returns the same states, by a second borrow of their numbers.
     #[inline]
     pub fn again(&self) -> Rows<'l>
         ensures { result ≡ self.now }
@@ -242,7 +242,7 @@ impl<'l> Rows<'l> {
         }
     }
 
-    /// So many of the states, from a place on; places are counted from 0.
+    /// Returns `count` of the states, from the place `first` on; places are counted from 0.
     #[tactic(auto, using(crate::proofs::RowsLemmas::length_rows, crate::proofs::RowsLemmas::rows_part, crate::proofs::RowsLemmas::rows_until))]
     pub fn part(&self, first: usize, count: usize) -> Rows<'l>
         requires { first + count ≤ length self.now.states }
@@ -257,7 +257,7 @@ impl<'l> Rows<'l> {
         }
     }
 
-    /// The state at a place, counted from 0. It takes time for the state's queues, wherever it stands.
+    /// Returns the state at a place, counted from 0. It takes time for the state's queues, wherever it stands.
     #[inline]
     pub fn get(&self, place: usize) -> State
         requires { place < length self.now.states }
@@ -266,7 +266,7 @@ impl<'l> Rows<'l> {
         state_of(self.row(place), self.queues)
     }
 
-    /// The numbers of the state at a place, counted from 0, one for each queue. Nothing is copied.
+    /// Returns the numbers of the state at a place, counted from 0, one for each queue. Nothing is copied.
     #[inline]
     #[tactic(auto, using(crate::proofs::RowsLemmas::length_rows, crate::proofs::RowsLemmas::rows_get, crate::proofs::RowsLemmas::rows_room))]
     pub fn row(&self, place: usize) -> &'l [u16]
@@ -278,8 +278,8 @@ impl<'l> Rows<'l> {
         &self.numbers[first..first + self.queues as usize]
     }
 
-    /// Whether the state at a place, counted from 0, is lexicographically below the next one: below it in the first
-    /// queue in which the two differ. Neither is copied.
+    /// Returns whether the state at a place, counted from 0, is lexicographically below the next one: below it in the
+    /// first queue in which the two differ. Neither is copied.
     #[inline]
     pub fn is_below_next(&self, place: usize) -> bool
         requires { place + 1 < length self.now.states }
@@ -290,8 +290,8 @@ impl<'l> Rows<'l> {
         is_less(self.row(place), self.row(place + 1))
     }
 
-    /// Whether the state at a place, counted from 0, is componentwise at most another: it has as many queues, and in
-    /// each at most as many customers. It isn't copied.
+    /// Returns whether the state at a place, counted from 0, is componentwise at most another: it has as many queues,
+    /// and in each at most as many customers. It isn't copied.
     #[inline]
     pub fn leq(&self, place: usize, most: &State) -> bool
         requires { place < length self.now.states }
@@ -300,7 +300,7 @@ impl<'l> Rows<'l> {
         is_below(self.row(place), most)
     }
 
-    /// Whether no queue holds more customers than `most` in any of the states.
+    /// Returns whether no queue holds more customers than `most` in any of the states.
     #[tactic(auto, using(crate::proofs::RowsLemmas::all_rows))]
     pub fn are_at_most(&self, most: u16) -> bool
         ensures { result ≡ list_all (list_all (λ n. nat_le n most)) self.now.states }
@@ -308,7 +308,7 @@ impl<'l> Rows<'l> {
         greatest_of(self.numbers) <= most
     }
 
-    /// Whether these are as many states of as many queues as others, each the same as the other at its place.
+    /// Returns whether these are as many states of as many queues as others, each the same as the other at its place.
     pub fn are_same(&self, other: &Rows<'_>) -> bool
         ensures { IsTrue result ↔ (self.now ≡ other.now) }
     {
@@ -321,7 +321,7 @@ impl<'l> Rows<'l> {
         self.numbers == other.numbers
     }
 
-    /// Whether a state is the one at a place, counted from 0. It isn't copied.
+    /// Returns whether a state is the one at a place, counted from 0. It isn't copied.
     #[inline]
     pub fn is_at(&self, place: usize, x: &State) -> bool
         requires { place < length self.now.states }
@@ -330,7 +330,8 @@ impl<'l> Rows<'l> {
         x.is_row(self.row(place))
     }
 
-    /// The same of a state that has as many queues.
+    /// As [`is_at`](Rows::is_at), of a state that is known to have as many queues: short rows are compared number by
+    /// number.
     #[inline]
     pub fn is_there(&self, place: usize, x: &State) -> bool
         requires place { place < length self.now.states }
@@ -344,7 +345,7 @@ impl<'l> Rows<'l> {
         x.is_row(row)
     }
 
-    /// Puts the state at a place, counted from 0, in the place of another.
+    /// Replaces another state by the one at a place, counted from 0.
     #[inline]
     pub fn get_onto(&self, place: usize, x: &mut State)
         requires { place < length self.now.states }

@@ -13,8 +13,8 @@ use psi_state::State;
 use std::alloc::{AllocError, Global};
 use std::marker::Model;
 
-/// A list of states of so many queues, 1 to 32; it is seen as the number of queues and the states. It takes two bytes
-/// for each queue of each state, and keeps no memory for a state by itself.
+/// A list of states, all with the same number of queues, 1 to 32; it is seen as the number of queues and the states. It
+/// takes two bytes for each queue of each state, and keeps no memory for a state by itself.
 #[derive(Drop)]
 pub struct StateList {
     queues: u8,
@@ -33,7 +33,7 @@ impl Model for StateList {
     ghost invariant = { λ s. (1 ≤ s.queues) × (s.queues ≤ 32) × (length s.numbers.items ≡ s.count * s.queues) };
 }
 
-// Puts the numbers of a state behind others.
+// Puts the numbers of a state after others.
 fn push_numbers(numbers: &mut Vec<u16>, x: &State) -> Result<(), AllocError>
     ensures pushed { OnOk result (numbers.new.items ≡ numbers.old.items ++ x.now) }
     ensures kept { OnErr result (numbers.new.items ≡ numbers.old.items) }
@@ -46,7 +46,7 @@ fn push_numbers(numbers: &mut Vec<u16>, x: &State) -> Result<(), AllocError>
     Ok(())
 }
 
-// Puts numbers behind others.
+// Puts numbers after others.
 #[inline]
 fn push_all(numbers: &mut Vec<u16>, row: &[u16]) -> Result<(), AllocError>
     ensures pushed { OnOk result (numbers.new.items ≡ numbers.old.items ++ row.now) }
@@ -57,7 +57,7 @@ fn push_all(numbers: &mut Vec<u16>, row: &[u16]) -> Result<(), AllocError>
 }
 
 impl StateList {
-    /// The list of no states, for states of so many queues, 1 to 32. It takes no memory yet.
+    /// Makes the empty list, for states of `queues` queues, 1 to 32. It does not allocate yet.
     pub fn new(alloc: Global, queues: u8) -> StateList
         requires some { 1 ≤ queues }
         requires few { queues ≤ 32 }
@@ -70,7 +70,7 @@ impl StateList {
         }
     }
 
-    /// The number of states. It takes the same time whatever that number is.
+    /// Returns the number of states. It takes the same time whatever that number is.
     #[tactic(auto, using(crate::proofs::RowsLemmas::length_rows))]
     pub fn len(&self) -> usize
         ensures { result ≡ length self.now.states }
@@ -86,12 +86,12 @@ impl StateList {
         self.numbers.clear();
     }
 
-    /// Puts a state of the list's number of queues behind the others. The vector grows where it has no room left, so
+    /// Appends a state of the list's number of queues. The vector grows where it has no room left, so
     /// that a state takes time for its queues alone, over many states.
     ///
     /// # Errors
     ///
-    /// `AllocError` where memory is wanting, and no clause says when that is; the list is then as it was.
+    /// `AllocError` if an allocation fails; no clause says when that is; the list is then as it was.
     #[tactic(auto, using(crate::proofs::RowsLemmas::rows_push))]
     pub fn push(&mut self, x: &State) -> Result<(), AllocError>
         requires { length x.now ≡ self.old.queues }
@@ -104,11 +104,11 @@ impl StateList {
         Ok(())
     }
 
-    /// Puts a state behind the others as [`StateList::push`] does, by its numbers.
+    /// Appends a state as [`StateList::push`] does, by its numbers.
     ///
     /// # Errors
     ///
-    /// `AllocError` where memory is wanting, and no clause says when that is; the list is then as it was.
+    /// `AllocError` if an allocation fails; no clause says when that is; the list is then as it was.
     #[inline]
     #[tactic(auto, using(crate::proofs::RowsLemmas::rows_push))]
     pub fn push_row(&mut self, row: &[u16]) -> Result<(), AllocError>
@@ -122,12 +122,12 @@ impl StateList {
         Ok(())
     }
 
-    /// Puts so many states behind the others as [`StateList::push`] does, by their numbers, which stand one behind
+    /// Appends `count` states as [`StateList::push`] does, by their numbers, which stand one after
     /// another. It is quicker than to put each there by itself.
     ///
     /// # Errors
     ///
-    /// `AllocError` where memory is wanting, and no clause says when that is; the list is then as it was.
+    /// `AllocError` if an allocation fails; no clause says when that is; the list is then as it was.
     #[inline(never)]
     pub fn push_rows(&mut self, count: usize, numbers: &[u16]) -> Result<(), AllocError>
         requires { length numbers.now ≡ count * self.old.queues }
@@ -140,11 +140,11 @@ impl StateList {
         Ok(())
     }
 
-    /// Puts states of as many queues behind the others as [`StateList::push`] does.
+    /// Appends states of as many queues as [`StateList::push`] does.
     ///
     /// # Errors
     ///
-    /// `AllocError` where memory is wanting, and no clause says when that is; the list is then as it was.
+    /// `AllocError` if an allocation fails; no clause says when that is; the list is then as it was.
     pub fn push_states(&mut self, states: &Rows<'_>) -> Result<(), AllocError>
         requires { states.now.queues ≡ self.old.queues }
         ensures queues { self.new.queues ≡ self.old.queues }
@@ -162,7 +162,7 @@ impl StateList {
         Rows::new(self.queues, self.count, self.numbers.as_slice())
     }
 
-    /// The state at a place, counted from 0. It takes time for the state's queues, wherever it stands.
+    /// Returns the state at a place, counted from 0. It takes time for the state's queues, wherever it stands.
     pub fn get(&self, place: usize) -> State
         requires { place < length self.now.states }
         ensures { slice_get self.now.states place ≡ Some result }
@@ -170,8 +170,8 @@ impl StateList {
         self.all().get(place)
     }
 
-    /// Whether the state at a place, counted from 0, is lexicographically below the next one: below it in the first
-    /// queue in which the two differ. Neither is copied.
+    /// Returns whether the state at a place, counted from 0, is lexicographically below the next one: below it in the
+    /// first queue in which the two differ. Neither is copied.
     #[inline]
     pub fn is_below_next(&self, place: usize) -> bool
         requires { place + 1 < length self.now.states }
@@ -180,8 +180,8 @@ impl StateList {
         self.all().is_below_next(place)
     }
 
-    /// Whether the state at a place, counted from 0, is componentwise at most another: it has as many queues, and in
-    /// each at most as many customers. It isn't copied.
+    /// Returns whether the state at a place, counted from 0, is componentwise at most another: it has as many queues,
+    /// and in each at most as many customers. It isn't copied.
     pub fn leq(&self, place: usize, most: &State) -> bool
         requires { place < length self.now.states }
         ensures { MatchOption (slice_get self.now.states place) ⊥ (λ x. IsTrue result ↔ IsBelow x most.now) }

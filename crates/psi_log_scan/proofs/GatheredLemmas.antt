@@ -36,7 +36,7 @@ set_behind (x ∷ front) back at i n is =
     let next : at + i ≡ suc (length front + i) = omega arith in
     rw next (ap (λ (ys : List ℕ). x ∷ ys) (set_behind front back (length front) i n refl))
 
--- the first of eight numbers that are put behind others
+-- the first of eight numbers that are put after others
 pub front_put : (numbers part row rest : List ℕ) (filled count : ℕ) → part ≡ take 8 row → filled ≤ length numbers → count ≤ 8 → 32 ≤ length row
     → take (filled + count) (take filled numbers ++ (part ++ rest)) ≡ take filled numbers ++ take count row
 front_put numbers part row rest filled count is few small long =
@@ -45,7 +45,7 @@ front_put numbers part row rest filled count is few small long =
     ap (λ (k : ℕ). take (k + count) (take filled numbers ++ (part ++ rest))) (sym size) ∙ take-append-add (take filled numbers) (part ++ rest) count
     ∙ ap (λ (xs : List ℕ). take filled numbers ++ xs) (take-append-le count part rest (omega arith) ∙ ap (take count) is ∙ take-take count 8 row small)
 
--- a state behind those that wait
+-- a state after those that wait
 pub put_behind : (numbers new row : List ℕ) (filled count q n : ℕ) → filled ≤ length numbers → q < count → take (filled + count) new ≡ take filled numbers ++ row
     → take (filled + count) (set new (filled + q) n) ≡ take filled numbers ++ set row q n
 put_behind numbers new row filled count q n few within is =

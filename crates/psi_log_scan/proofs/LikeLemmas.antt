@@ -62,7 +62,7 @@ between row queue next after =
     sym (ap (λ (k : ℕ). with_commas (take k row)) (sym whole) ∙ ap with_commas (take-add queue (next - queue) row)
     ∙ flat_map-append with_comma (take queue row) (take (next - queue) (drop queue row)))
 
--- what is left of the word behind them
+-- what is left of the word after them
 left_behind : (word row : List ℕ) (place queue next : ℕ) → queue ≤ next → next < length row → drop place word ≡ numbers_text (drop queue row) ++ (10 ∷ [])
     → drop place word ≡ with_commas (take (next - queue) (drop queue row)) ++ (numbers_text (drop next row) ++ (10 ∷ []))
 left_behind word row place queue next after within back =
@@ -76,7 +76,7 @@ behind : (word front rest : List ℕ) (place len : ℕ) → len ≡ length front
 behind word front rest place len size is =
     sym (drop-drop len place word) ∙ ap (drop len) is ∙ ap (λ (k : ℕ). drop k (front ++ rest)) size ∙ drop-append_seam front rest
 
--- the word goes on behind them
+-- the word goes on after them
 pub room_behind : (text word row : List ℕ) (at end place queue next len : ℕ) → IsLike text word row at end place queue → place ≤ length word → queue < next → next < length row
     → length (with_commas (take queue row)) + len ≡ length (with_commas (take next row)) → place + len ≤ length word
 room_behind text word row at end place queue next len like room after within is =
@@ -109,7 +109,7 @@ like_pass text word row at end place queue next same len like after within is fe
       back = behind word front rest place len size left;
     }
 
--- one number with the comma behind it
+-- one number with the comma after it
 one_size : (row : List ℕ) (q : ℕ) → q < length row → length (with_commas (take (q + 1 - q) (drop q row))) ≡ length (decimal (get_or row q 0)) + 1
 one_size row q small =
     let one : q + 1 - q ≡ 0 + 1 = omega arith in

@@ -73,7 +73,7 @@ above_set x q n within high =
     let number = get_or-set_same x q n 0 within in
     above_at x (set x q n) q (take-set x q n) within (length-set x q n) (omega arith)
 
--- states in order, with one more behind the last
+-- states in order, with one more after the last
 rising_onto : (xs : List (List ℕ)) (y : List ℕ) (k : ℕ) → k + 1 ≡ length xs → ascends xs ≡ true → ascends (drop k (xs ++ y ∷ [])) ≡ true → ascends (xs ++ y ∷ []) ≡ true
 rising_onto [] y k some rising last = absurd (omega arith)
 rising_onto (x ∷ []) y zero some rising last = last
@@ -119,14 +119,14 @@ below_behind xs ys y is order =
     let place : length xs - 1 ≡ length ys - 2 = omega arith in
     ap (λ (k : ℕ). ascends (drop k ys)) place ∙ order
 
--- the last of the states is the one that was put behind them
+-- the last of the states is the one that was put after them
 pub ends_in : (xs ys : List (List ℕ)) (y : List ℕ) → ys ≡ xs ++ y ∷ [] → EndsIn ys y
 ends_in xs ys y is =
     let count : length ys ≡ length xs + 1 = ap length is ∙ length-append xs (y ∷ []) in
     let place : length ys - 1 ≡ length xs = omega arith in
     ap (λ (k : ℕ). drop k ys) place ∙ ap (drop (length xs)) is ∙ drop-append_seam xs (y ∷ [])
 
--- a state above the last one is in order behind it
+-- a state above the last one is in order after it
 pub above_last : (xs ys : List (List ℕ)) (x y : List ℕ) → EndsIn xs x → ys ≡ xs ++ y ∷ [] → is_lt (state_cmp x y) ≡ true → ascends (drop (length xs - 1) ys) ≡ true
 above_last xs ys x y last is above =
     let two : drop (length xs - 1) ys ≡ x ∷ y ∷ [] =

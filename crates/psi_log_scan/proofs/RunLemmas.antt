@@ -15,11 +15,11 @@ use Rattle.psi_log_scan.proofs.RowsLemmas.{text_front}
 use Rattle.psi_log_scan.proofs.ScanLemmas.{digit_stands, digit_first, two_digits}
 use Rattle.psi_log_scan.proofs.SetLineLemmas.{part_is}
 
--- numbers, each behind a comma
+-- numbers, each preceded by a comma
 behind : List ℕ → List ℕ
 behind numbers = flat_map (λ n. 44 ∷ decimal n) numbers
 
--- a word is what stands before a number, this number and what stands behind it
+-- a word is what stands before a number, this number and what stands after it
 text_behind : (x : ℕ) (xs : List ℕ) → numbers_text (x ∷ xs) ≡ decimal x ++ behind xs
 unfolding numbers_text behind
 text_behind x [] = sym (append-nil (decimal x))

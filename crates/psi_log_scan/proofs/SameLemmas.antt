@@ -26,7 +26,7 @@ last_some text other most done same some before few front next =
     sym (take-take (most - 8) done text before) ∙ ap (take (most - 8)) front ∙ take-take (most - 8) done other before in
     some_more text other (most - 8) (most - (most - 8)) same (most - 8 + same) (omega arith) (omega arith) fewer next
 
--- a digit of seven bytes behind the word of a step
+-- a digit of seven bytes after the word of a step
 pub digit_behind : (text : List ℕ) (place digit : ℕ) → place < 7 → 12 ≤ length text → 48 + digit ≡ get_or (take (12 - 5) (drop 5 text)) place 0
     → Stands text (5 + place) (5 + (place + 1)) ((48 + digit) ∷ [])
 digit_behind text place digit small room is =

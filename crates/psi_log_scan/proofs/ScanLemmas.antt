@@ -47,7 +47,7 @@ pub two_digits : (text : List ℕ) (at place end first second : ℕ) → 1 ≤ f
 two_digits text at place end first second some few small front last =
     digit_more text at place end first second some (omega arith) small (digit_first text at place first few front) last
 
--- a number and the comma behind it
+-- a number and the comma after it
 pub comma_stands : (text : List ℕ) (at place end n : ℕ) → Stands text at place (decimal n) → Stands text place end (44 ∷ []) → Stands text at end (with_comma n)
 comma_stands text at place end n number comma = then (decimal n) (44 ∷ []) (with_comma n) number comma refl
 
@@ -89,7 +89,7 @@ commas_more text at place end q n x y small is front number =
     sym (ap with_commas (front_more q n x y small is) ∙ flat_map-append with_comma (take q x) (n ∷ []) ∙ ap (λ (t : List ℕ). with_commas (take q x) ++ t) (append-nil (with_comma n))) in
     then (with_commas (take q x)) (with_comma n) (with_commas (take (q + 1) y)) front number whole
 
--- numbers that are joined have a comma behind each but the last
+-- numbers that are joined have a comma after each but the last
 pub text_last : (xs : List ℕ) (n : ℕ) → numbers_text (xs ++ n ∷ []) ≡ with_commas xs ++ decimal n
 unfolding with_commas numbers_text
 text_last [] n = refl
@@ -128,7 +128,7 @@ pub in_push : {X : Type 0} (xs : List X) (x y : X) → In y (xs ++ x ∷ []) →
 in_push [] x y there = elim there [ inl e ↦ inr e | inr t ↦ absurd t ]
 in_push (z ∷ xs) x y there = elim there [ inl e ↦ inl (inl e) | inr t ↦ elim (in_push xs x y t) [ inl u ↦ inl (inr u) | inr e ↦ inr e ] ]
 
--- and one more, behind a space
+-- and one more, after a space
 pub scanned_more : (queues : ℕ) (text : List ℕ) (at place end : ℕ) (old new newer : List (List ℕ)) (x : List ℕ) → AreScanned queues text at place old new
     → newer ≡ new ++ x ∷ [] → Stands text place end (32 ∷ numbers_text x) → IsState queues x → AreScanned queues text at end old newer
 scanned_more queues text at place end old new newer x are is word state =

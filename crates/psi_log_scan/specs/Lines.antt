@@ -27,7 +27,7 @@ read_header text = do
   horizon ← named_line 5 (codes "horizon") 1 (greatest_horizon version) stream.1
   Ok (record { version = version; queues = queues.0; seed = seed.0; stream = stream.0; horizon = horizon.0 }, horizon.1)
 
--- the lines behind this header
+-- the lines after this header
 module _ (h : Header) where
   -- the words of a step and of the region after it, where the box from which a box has to be written may be given
   unfoldable pub read_step : ℕ → Option Corners → List (List ℕ) → Result Entry Refusal

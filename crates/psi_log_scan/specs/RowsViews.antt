@@ -9,7 +9,7 @@ use Rattle.psi_log_scan.specs.Scanned.{Stands, AreScanned}
 abbrev pub IsAlike : List ℕ → ℕ → Run → ℕ → Type 0
 IsAlike text at run count = (i : ℕ) → i < count → slice_index_or run.same i false ≡ true → slice_index text (at + i) ≡ slice_index run.bytes i
 
--- a run's bytes make the row's word behind a space, with whatever number in its queue, and are the same but for that number
+-- a run's bytes make the row's word after a space, with whatever number in its queue, and are the same but for that number
 pub record IsRun (row : List ℕ) (run : Run) : Type 0 where
   pub queue : run.queue < length row
   pub number : 1 ≤ run.width
@@ -23,7 +23,7 @@ pub record IsRun (row : List ℕ) (run : Run) : Type 0 where
 abbrev pub EndsIn : List (List ℕ) → List ℕ → Type 0
 EndsIn states row = drop (length states - 1) states ≡ row ∷ []
 
--- the row stands in the text from one place to another, and was put behind the old states, above the last of them from the first place on
+-- the row stands in the text from one place to another, and was put after the old states, above the last of them from the first place on
 pub record IsNextRow (first : ℕ) (text : List ℕ) (at end : ℕ) (row : List ℕ) (old new : List (List ℕ)) : Type 0 where
   pub within : end ≤ length text
   pub there : Stands text at end (numbers_text row)
@@ -31,7 +31,7 @@ pub record IsNextRow (first : ℕ) (text : List ℕ) (at end : ℕ) (row : List 
   pub states : new ≡ old ++ row ∷ []
   pub order : first < length old → ascends (drop (length old - 1) new) ≡ true
 
--- the states that were put behind the old ones stand in the text from one place to another, each behind a space, and are in order behind the last one
+-- the states that were put after the old ones stand in the text from one place to another, each preceded by a space, and are in order after the last one
 pub record IsRead (queues : ℕ) (text : List ℕ) (at end : ℕ) (old new : List (List ℕ)) : Type 0 where
   pub within : end ≤ length text
   pub more : length old ≤ length new

@@ -17,27 +17,27 @@ use Rattle.psi_log_scan.specs.Lines.{read_step}
 abbrev pub Stands : List ℕ → ℕ → ℕ → List ℕ → Type 0
 Stands text at end word = Puts text text at end word
 
--- a number with a comma behind it
+-- a number with a comma after it
 abbrev pub with_comma : ℕ → List ℕ
 with_comma n = decimal n ++ (44 ∷ [])
 
--- numbers, each with a comma behind it
+-- numbers, each with a comma after it
 unfoldable pub with_commas : List ℕ → List ℕ
 with_commas numbers = flat_map with_comma numbers
 
--- the states that were put behind the old ones are of so many queues, and stand in the text from one place to another, each behind a space
+-- the states that were put after the old ones are of so many queues, and stand in the text from one place to another, each preceded by a space
 pub record AreScanned (queues : ℕ) (text : List ℕ) (at end : ℕ) (old new : List (List ℕ)) : Type 0 where
   pub kept : take (length old) new ≡ old
   pub more : length old ≤ length new
   pub each : (x : List ℕ) → In x (drop (length old) new) → IsState queues x
   pub words : Stands text at end (spaced_words (map numbers_text (drop (length old) new)))
 
--- the end of a line, from behind its event on, that tells these states of so many queues as a set
+-- the end of a line, from after its event on, that tells these states of so many queues as a set
 pub record TellsSet (queues : ℕ) (line : List ℕ) (xs : List (List ℕ)) : Type 0 where
   pub set : IsSet queues xs
   pub words : line ≡ spaced_words (region_words (in_set xs)) ++ (10 ∷ [])
 
--- changes that make a box of another stand in the text from one place to another, each behind a space
+-- changes that make a box of another stand in the text from one place to another, each preceded by a space
 pub record AreChanged (queues : ℕ) (from : Corners) (text : List ℕ) (at end : ℕ) (to : Corners) : Type 0 where
   pub changes : List Change
   pub few : length changes ≤ queues

@@ -10,7 +10,7 @@ use crate::same::are_same;
 use crate::scan::{digit_of, has_byte, number_at, small_at};
 use psi_state::{MOST_EVENTS, Step};
 
-/// Whether a word stands at a place. Callers pass a constant, so that the compiler compares its bytes at once.
+/// Returns whether a word stands at a place. Callers pass a constant, so that the compiler compares its bytes at once.
 #[inline]
 pub fn has_name(text: &[u8], at: usize, word: &[u8]) -> bool
     ensures within { IsTrue result → at + length word.now ≤ length text.now }
@@ -22,7 +22,7 @@ pub fn has_name(text: &[u8], at: usize, word: &[u8]) -> bool
     are_same(&text[at..at + word.len()], word)
 }
 
-// The number of at most seven digits that stands behind the word of a step, and the place behind it.
+// The number of at most seven digits that stands after the word of a step, and the place after it.
 #[inline]
 fn time_at(text: &[u8]) -> Option<(u32, usize)>
     ensures within { IfSome result (λ read. read.1 ≤ length text.now) }
@@ -45,7 +45,7 @@ fn time_at(text: &[u8]) -> Option<(u32, usize)>
     Some((value, 12))
 }
 
-/// The step whose line begins a text, and the place behind its event.
+/// Returns the step whose line begins a text, and the place after its event.
 #[inline]
 #[tactic(auto, using(crate::proofs::SetLineLemmas::step_stands))]
 pub fn step_at(version: u8, text: &[u8]) -> Option<(Step, usize)>

@@ -9,7 +9,7 @@ use psi_log_format::Header;
 use psi_log_words::{LogError, line_of, read_named, read_version, read_words};
 use psi_state::MOST_QUEUES;
 
-/// The greatest horizon of a version, which is also the greatest number of a step.
+/// Returns the greatest horizon of a version, which is also the greatest number of a step.
 pub fn greatest_horizon(version: u8) -> u32
     ensures value { result ≡ greatest_horizon version }
     ensures few { result ≤ 4194304 }
@@ -35,8 +35,8 @@ fn named_line<'t>(
     Ok((number, rest))
 }
 
-/// The header at the beginning of a text, and what follows its five lines. The vector holds the words of one line
-/// after another.
+/// Returns the header at the beginning of a text, and what follows its five lines. The vector holds the words of one
+/// line after another.
 ///
 /// # Errors
 ///

@@ -11,7 +11,7 @@ use crate::same::alike;
 use crate::scan::{has_byte, small_at};
 use crate::set_line::LastSet;
 
-// How many bytes a number takes with the comma behind it; without a branch where it has one or two digits.
+// How many bytes a number takes with the comma after it; without a branch where it has one or two digits.
 #[inline]
 #[tactic(auto, using(crate::proofs::RowsLemmas::length_one, crate::proofs::RowsLemmas::length_two))]
 fn bytes_of(n: u16) -> usize
@@ -24,8 +24,8 @@ fn bytes_of(n: u16) -> usize
     2 + (n >= 10) as usize
 }
 
-// The queue, from one on, up to which the numbers of a row take at most so many bytes, each with the comma behind it,
-// and how many bytes they take. It isn't behind the last queue.
+// The queue, from one on, up to which the numbers of a row take at most `room` bytes, each with the comma after it,
+// and how many bytes they take. It isn't after the last queue.
 #[inline]
 fn pass(row: &[u16], from: usize, room: usize) -> (usize, usize)
     requires from { from < length row.now }
@@ -47,8 +47,8 @@ fn pass(row: &[u16], from: usize, room: usize) -> (usize, usize)
     (last, len)
 }
 
-// Reads the number of a queue that stands at a place with a comma behind it, or with a line feed where it is the last
-// one, and answers the place behind that. The other numbers stay.
+// Reads the number of a queue that stands at a place with a comma after it, or with a line feed where it is the last
+// one, and returns the place after that. The other numbers stay.
 #[inline]
 fn read_number(text: &[u8], at: usize, queue: usize, row: &mut [u16]) -> Option<usize>
     requires queue { queue < length row.old }
@@ -68,8 +68,8 @@ fn read_number(text: &[u8], at: usize, queue: usize, row: &mut [u16]) -> Option<
     Some(end + 1)
 }
 
-// Reads the numbers that stand in a text from a place on, up to a line feed, and answers the place behind it. The row
-// has those of another line, which a word tells with its line feed.
+// Reads the numbers that stand in a text from a place on, up to a line feed, and returns the place after it. The row
+// has those of another line, whose word, with its line feed, is `word`.
 fn read_like(text: &[u8], at: usize, word: &[u8], row: &mut [u16]) -> Option<usize>
     requires some { 1 ≤ length row.old }
     requires few { length row.old ≤ 32 }
@@ -99,8 +99,8 @@ fn read_like(text: &[u8], at: usize, word: &[u8], row: &mut [u16]) -> Option<usi
     None
 }
 
-/// The set of one state whose words stand in a text behind an event, as they are to be; the row has the numbers of
-/// another such set, and has its own from then on. Where nothing is given, nothing is said of the line.
+/// Returns the set of one state whose words stand in a text after an event, as they are to be; the row has the numbers
+/// of another such set, and has its own from then on. Where nothing is given, nothing is said of the line.
 pub fn read_like_set<'t>(
     text: &'t [u8],
     at: usize,

@@ -9,7 +9,7 @@ use crate::scan::{has_byte, small_at, small_with_comma};
 use psi_log_words::{Change, is_change};
 use psi_state::Bounds;
 
-// The change of a queue that stands at a place, and the place behind it.
+// The change of a queue that stands at a place, and the place after it.
 fn change_at(text: &[u8], at: usize, queues: u8) -> Option<(Change, usize)>
     ensures queue { IfSome result (λ read. read.0.queue < queues) }
     ensures range { IfSome result (λ read. (read.0.least < 2 ^ 16) × (read.0.greatest < 2 ^ 16)) }
@@ -37,8 +37,8 @@ fn change_at(text: &[u8], at: usize, queues: u8) -> Option<(Change, usize)>
     ))
 }
 
-/// Makes of a box the one that the changes make of another which stand in a text from a place on, each behind a space,
-/// and answers the place behind them. Where nothing is given, nothing is said of the box.
+/// Makes of a box the one that the changes make of another which stand in a text from a place on, each preceded by a
+/// space, and returns the place after them. Where nothing is given, nothing is said of the box.
 pub fn read_changes_onto(
     text: &[u8],
     at: usize,
@@ -70,8 +70,8 @@ pub fn read_changes_onto(
     Some(end)
 }
 
-/// The box that the changes make of another which stand in a text from a place on, each behind a space, and the place
-/// behind them.
+/// Returns the box that the changes make of another which stand in a text from a place on, each preceded by a space,
+/// and the place after them.
 pub fn read_changes(text: &[u8], at: usize, queues: u8, from: &Bounds) -> Option<(Bounds, usize)>
     requires few { queues ≤ 32 }
     requires same { length from.now.lo ≡ queues }

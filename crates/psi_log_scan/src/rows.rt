@@ -71,7 +71,7 @@ fn is_in_order(states: &StateList, first: usize) -> bool
     states.is_below_next(count - 2)
 }
 
-// Reads the next state and puts it behind those of the list, where it is above the one before it in the set, whose
+// Reads the next state and puts it after those of the list, where it is above the one before it in the set, whose
 // first state has the place `first`.
 #[inline]
 fn next_row(
@@ -136,8 +136,8 @@ fn next_run(
     read_run(text, at, MOST_SPLIT as usize - done, &run, row, states)
 }
 
-/// Puts the states that stand in a text from a place on, each behind a space, behind those of the list, and gives
-/// the place behind them: at most 4,096 states, in ascending order. Where nothing is given, nothing is said of them.
+/// Puts the states that stand in a text from a place on, each preceded by a space, after those of the list, and gives
+/// the place after them: at most 4,096 states, in ascending order. Where nothing is given, nothing is said of them.
 pub(crate) fn read_rows(
     text: &[u8],
     at: usize,

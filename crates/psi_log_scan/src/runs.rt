@@ -1,5 +1,5 @@
 //! Runs of a set's states: such as differ from the one before in the number of one queue alone. What stands in their
-//! words before and behind this number is compared sixteen bytes at once.
+//! words before and after this number is compared sixteen bytes at once.
 
 ghost use Rattle.std.specs.Prelude.{◌≡◌, ◌⊎◌, ◌∷◌, ◌++◌, ◌+◌, ◌-◌, ◌*◌, ◌<◌, ◌≤◌, ◌^◌, ℕ, length, slice_index, slice_index_or, slice_set, take, drop, decimal, true, false, IsTrue, IfOk, IfSome, OnOk};
 ghost use Rattle.psi_log_format.specs.Text.{numbers_text};
@@ -49,7 +49,7 @@ fn array_of(text: &[u8]) -> [u8; 128]
     bytes
 }
 
-// These numbers, and others behind them.
+// These numbers, and others after them.
 fn padded(row: &[u16]) -> [u16; 32]
     requires { length row.now ≤ 32 }
     ensures front { take (length row.now) result ≡ row.now }
@@ -60,7 +60,7 @@ fn padded(row: &[u16]) -> [u16; 32]
     numbers
 }
 
-// So many places that count, and others behind them that don't.
+// `len` places that count, and others after them that don't.
 #[inline]
 fn all_until(len: usize) -> [bool; 128]
     requires { len ≤ 128 }
@@ -73,7 +73,7 @@ fn all_until(len: usize) -> [bool; 128]
     same
 }
 
-// For each of so many places whether it is before a number's digits or behind them.
+// For each of `len` places whether it is before a number's digits or after them.
 #[inline]
 fn around(from: usize, until: usize, len: usize) -> [bool; 128]
     requires within { until ≤ len }
@@ -87,7 +87,7 @@ fn around(from: usize, until: usize, len: usize) -> [bool; 128]
     same
 }
 
-/// The run of a state whose word stands in a text behind a space, the space with it, in which this queue's number
+/// The run of a state whose word stands in a text after a space, the space with it, in which this queue's number
 /// grows. There is none where it is longer than 127 bytes, or the text ends before 128.
 #[inline(never)]
 pub(crate) fn run_of(text: &[u8], at: usize, end: usize, row: &[u16], queue: usize) -> Option<Run>
@@ -154,7 +154,7 @@ fn is_alike(text: &[u8], at: usize, run: &Run) -> bool
     true
 }
 
-// The number of so many digits that stands at a place.
+// The number of `width` digits that stands at a place.
 #[inline(never)]
 fn long_number(text: &[u8], at: usize, width: usize) -> Option<u16>
     requires { at + width ≤ length text.now }
@@ -233,8 +233,8 @@ fn eight(row: &[u16; 32]) -> [u16; 8]
     numbers
 }
 
-// Puts the first of these numbers behind so many others. They are copied to a variable first, and as many at once as
-// the compiler knows of: it asks then neither whether both overlap nor how many they are.
+// Puts the first `count` of these numbers after `filled` others. They are copied to a variable first, and as many at
+// once as the compiler knows of: it asks then neither whether both overlap nor how many they are.
 #[inline]
 fn put_first(numbers: &mut [u16; 160], filled: usize, row: &[u16; 32], count: usize)
     requires room { filled + 32 ≤ 160 }
@@ -250,7 +250,7 @@ fn put_first(numbers: &mut [u16; 160], filled: usize, row: &[u16; 32], count: us
     }
 }
 
-// Puts states that wait, whose numbers these are, onto the list where another may have no room behind them.
+// Puts states that wait, whose numbers these are, onto the list where another may have no room after them.
 #[inline]
 fn make_way(
     numbers: &[u16; 160],
@@ -274,9 +274,9 @@ fn make_way(
     Ok(())
 }
 
-/// Puts the states of a run, at most so many, which stand in a text from a place on, each behind a space, behind those
-/// of the list, the last of which has these numbers; and gives the place behind them. They are put onto the list by
-/// as many as an array of numbers holds.
+/// Appends the states of a run, at most `most`, which stand in a text from a place on, each preceded by a space, to
+/// those of the list, the last of which has these numbers; and gives the place after them. They are put onto the list
+/// by as many as an array of numbers holds.
 #[inline(never)]
 pub(crate) fn read_run(
     text: &[u8],

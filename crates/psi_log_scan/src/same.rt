@@ -44,7 +44,7 @@ fn same_of_eight(bytes: &[u8], others: &[u8]) -> usize
     ((own ^ other).trailing_zeros() / 8) as usize
 }
 
-// How many of so many bytes two texts begin with that are the same, where they have no eight.
+// With how many equal bytes two texts of fewer than eight bytes begin.
 fn few_alike(text: &[u8], other: &[u8]) -> usize
     ensures within { result ≤ length text.now }
     ensures other { result ≤ length other.now }

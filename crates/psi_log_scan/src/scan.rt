@@ -5,7 +5,7 @@ ghost use Rattle.std.specs.Prelude.{◌≡◌, ℕ, ◌∷◌, [], ◌+◌, ◌<
 ghost use Rattle.psi_log_format.specs.Text.{numbers_text};
 ghost use Rattle.psi_log_scan.specs.Scanned.{Stands, with_comma, with_commas};
 
-/// Whether a byte stands at a place.
+/// Returns whether a byte stands at a place.
 #[inline]
 #[tactic(auto, using(crate::proofs::ScanLemmas::byte_stands))]
 pub fn has_byte(text: &[u8], at: usize, byte: u8) -> bool
@@ -15,7 +15,7 @@ pub fn has_byte(text: &[u8], at: usize, byte: u8) -> bool
     at < text.len() && text[at] == byte
 }
 
-/// Whether a word stands at a place.
+/// Returns whether a word stands at a place.
 pub fn has_word(text: &[u8], at: usize, word: &[u8]) -> bool
     ensures within { IsTrue result → at + length word.now ≤ length text.now }
     ensures there { IsTrue result → Stands text.now at (at + length word.now) word.now }
@@ -56,7 +56,7 @@ fn digit_at(text: &[u8], at: usize) -> Option<u32>
     None
 }
 
-/// The number of at most seven digits that stands at a place, and the place behind it.
+/// The number of at most seven digits that stands at a place, and the place after it.
 #[inline]
 pub(crate) fn number_at(text: &[u8], at: usize) -> Option<(u32, usize)>
     ensures within { IfSome result (λ read. read.1 ≤ length text.now) }
@@ -77,7 +77,7 @@ pub(crate) fn number_at(text: &[u8], at: usize) -> Option<(u32, usize)>
     Some((value, end))
 }
 
-// The number of 16 bits that stands at a place, and the place behind it.
+// The number of 16 bits that stands at a place, and the place after it.
 #[inline(never)]
 fn any_small_at(text: &[u8], at: usize) -> Option<(u16, usize)>
     ensures within { IfSome result (λ read. read.1 ≤ length text.now) }
@@ -90,7 +90,7 @@ fn any_small_at(text: &[u8], at: usize) -> Option<(u16, usize)>
     Some((number as u16, end))
 }
 
-/// The number of 16 bits that stands at a place, and the place behind it; at once where it has one or two digits.
+/// The number of 16 bits that stands at a place, and the place after it; at once where it has one or two digits.
 #[inline]
 #[tactic(auto, using(crate::proofs::ScanLemmas::digit_first, crate::proofs::ScanLemmas::two_digits))]
 pub(crate) fn small_at(text: &[u8], at: usize) -> Option<(u16, usize)>
@@ -109,7 +109,7 @@ pub(crate) fn small_at(text: &[u8], at: usize) -> Option<(u16, usize)>
     any_small_at(text, at)
 }
 
-// The number of 16 bits that stands at a place with a comma behind it, and the place behind the comma.
+// The number of 16 bits that stands at a place with a comma after it, and the place after the comma.
 #[inline(never)]
 fn any_with_comma(text: &[u8], at: usize) -> Option<(u16, usize)>
     ensures within { IfSome result (λ read. read.1 ≤ length text.now) }
@@ -122,8 +122,8 @@ fn any_with_comma(text: &[u8], at: usize) -> Option<(u16, usize)>
     Some((number, end + 1))
 }
 
-/// The number of 16 bits that stands at a place with a comma behind it, and the place behind the comma; at once where it
-/// has one or two digits. At `last`, and before it, two bytes more stand behind a place.
+/// The number of 16 bits that stands at a place with a comma after it, and the place after the comma; at once where it
+/// has one or two digits. At `last`, and before it, two bytes more stand after a place.
 #[inline]
 pub(crate) fn small_with_comma(text: &[u8], at: usize, last: usize) -> Option<(u16, usize)>
     requires { last + 2 < length text.now }
@@ -145,7 +145,7 @@ pub(crate) fn small_with_comma(text: &[u8], at: usize, last: usize) -> Option<(u
     any_with_comma(text, at)
 }
 
-/// Reads the numbers of a row that stand at a place, joined by commas, and answers the place behind them. Where nothing
+/// Reads the numbers of a row that stand at a place, joined by commas, and returns the place after them. Where nothing
 /// is given, nothing is said of the row.
 #[inline(never)]
 pub(crate) fn read_row(text: &[u8], at: usize, row: &mut [u16]) -> Option<usize>

@@ -11,10 +11,10 @@ use psi_log_format::StateList;
 use psi_state::MOST_SPLIT;
 use std::alloc::AllocError;
 
-/// The end of a set's line, from behind its event on, and the place of its states in a list of states.
+/// The end of a set's line, from after its event on, and the place of its states in a list of states.
 #[derive(Clone, Copy, Debug)]
 pub struct LastSet<'t> {
-    /// The bytes from behind its event to its line feed.
+    /// The bytes from after its event to its line feed.
     pub text: &'t [u8],
     /// The place of its first state, counted from 0.
     pub first: usize,
@@ -22,7 +22,7 @@ pub struct LastSet<'t> {
     pub count: u16,
 }
 
-/// The set whose words stand in a text behind an event, as they are to be; its states are put behind those of the
+/// Returns the set whose words stand in a text after an event, as they are to be; its states are put after those of the
 /// list. Where nothing is given, nothing is said of the line.
 pub fn read_new_set<'t>(
     queues: u8,

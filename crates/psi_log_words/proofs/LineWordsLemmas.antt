@@ -17,7 +17,7 @@ take_onto zero xs ys = refl
 take_onto (suc n) [] ys = refl
 take_onto {X} (suc n) (x ∷ xs) ys = ap (λ (zs : List X). x ∷ zs) (take_onto n xs ys)
 
--- a word that is put behind fewer, and one that isn't
+-- a word that is put after fewer, and one that isn't
 pub front_more : {V : Type 0} (view : V → List ℕ) (n : ℕ) (vs more : List V) (v : V) → more ≡ vs ++ v ∷ [] → length vs < n → map view more ≡ take n (map view vs ++ view v ∷ [])
 front_more view n vs more v is few =
     let whole : map view more ≡ map view vs ++ view v ∷ [] = ap (map view) is ∙ map-append view vs (v ∷ []) in

@@ -16,7 +16,7 @@ use Rattle.psi_log_words.specs.Regions.{read_change, queues_ascend, is_change, c
 use Rattle.psi_log_words.proofs.TurnLemmas.{onto, onto_none, turn, turn_ends}
 use Rattle.psi_log_words.proofs.PieceTurnsLemmas.{bind_refused}
 
--- the queue behind the last change's
+-- the queue after the last change's
 abbrev pub behind_last : List Change → ℕ
 behind_last [] = 0
 behind_last (c ∷ []) = c.queue + 1
@@ -143,7 +143,7 @@ pub read_turn : {V : Type 0} (view : V → List ℕ) (n queues : ℕ) (front : L
     → onto (front ++ c ∷ []) (each (λ word. read_change n queues (pieces_of word)) (map view (drop (i + 1) vs))) ≡ whole
 read_turn view n queues front i vs d c whole small read same = sym (turn view (λ word. read_change n queues (pieces_of word)) front i vs d c small read) ∙ same
 
--- behind the last word
+-- after the last word
 pub read_ends : {V : Type 0} (view : V → List ℕ) (n queues : ℕ) (front : List Change) (i : ℕ) (vs : List V) → length vs ≤ i
     → onto front (each (λ word. read_change n queues (pieces_of word)) (map view (drop i vs))) ≡ each (λ word. read_change n queues (pieces_of word)) (map view vs)
     → each (λ word. read_change n queues (pieces_of word)) (map view vs) ≡ Ok front

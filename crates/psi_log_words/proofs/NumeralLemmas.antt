@@ -78,7 +78,7 @@ numeral_front word some one =
     numeral_from (take_while is_digit word) (front_digits word) (omega arith)
     (λ zero. long ∙ one (sym (get_or-take (prefix_len is_digit word) word 0 0 (omega arith)) ∙ zero))
 
--- a word with another byte behind its digits is no numeral
+-- a word with another byte after its digits is no numeral
 pub other_behind : (word : List ℕ) (i : ℕ) → i < length word → is_digit (get_or word i 0) ≡ false → is_numeral word ≡ false
 other_behind word i small other =
     false_from_ne_true (is_numeral word) (λ is. (let all = (numeral_parts word is).0 in let none = list_all_at is_digit word i 0 small other in absurd cc))

@@ -1,4 +1,4 @@
--- The first piece of a word, up to its first comma, and the pieces behind it.
+-- The first piece of a word, up to its first comma, and the pieces after it.
 use Rattle.std.specs.Prelude.{◌≡◌, ◌≢◌, ◌⊎◌, ℕ, ◌+◌, ◌<◌, ◌≤◌, ◌^◌, List, [], ◌∷◌, length, take, drop, Bool, true, false, not, nat_lt, ◌==◌, Ok, Err, refl}
 use Rattle.std.specs.List.{prefix_len, take_while, position_or_len, before_first, after_first}
 use Rattle.std.specs.Str.Parse.{digits_value}

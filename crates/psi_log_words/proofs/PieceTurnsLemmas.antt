@@ -51,7 +51,7 @@ unfolding each
 piece_refused reading front i word rest (Refused line cause) whole left small same fails = sym same ∙ rw (rest_first word rest i left small, fails) refl
 piece_refused reading front i word rest OutOfMemory whole left small same fails = tt
 
--- and behind the last all is read
+-- and after the last all is read
 pub pieces_end : (reading : List ℕ → Result ℕ Refusal) (x : List ℕ) (i : ℕ) (word : List ℕ) (whole : Result (List ℕ) Refusal) → length (pieces_of word) ≤ i → length x ≤ i
     → onto (take i x) (each reading (drop i (pieces_of word))) ≡ whole → whole ≡ Ok x
 unfolding each

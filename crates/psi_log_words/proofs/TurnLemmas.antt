@@ -11,7 +11,7 @@ use Rattle.psi_log_words.specs.Words.{has_pieces, pieces_of}
 use Rattle.psi_log_words.specs.declared.refusals.LogError.{LogError}
 use Rattle.psi_log_words.specs.declared.refusals.LogError.TheVariants.{Refused, OutOfMemory}
 
--- a test of words: one that passes it takes the loop one step on, another ends it, and behind the last word none fails
+-- a test of words: one that passes it takes the loop one step on, another ends it, and after the last word none fails
 pub shaped_turn : {V : Type 0} (view : V → List ℕ) (count i : ℕ) (vs : List V) (v : V) → i < length vs → v ≡ get_or vs i v → has_pieces count (view v) ≡ true
     → list_all (has_pieces count) (map view (drop i vs)) ≡ list_all (has_pieces count) (map view (drop (i + 1) vs))
 shaped_turn view count i vs v small is passes = rw (drop_more vs i v small, ← is, passes) refl
@@ -23,7 +23,7 @@ shaped_fails view count i vs v small is fails = rw (drop_more vs i v small, ← 
 pub shaped_ends : {V : Type 0} (view : V → List ℕ) (count i : ℕ) (vs : List V) → length vs ≤ i → list_all (has_pieces count) (map view (drop i vs)) ≡ true
 shaped_ends view count i vs past = rw (drop_of_length-le vs past) refl
 
--- what is read of the rest, behind what was read before it
+-- what is read of the rest, after what was read before it
 abbrev pub onto : {B : Type 0} → List B → Result (List B) Refusal → Result (List B) Refusal
 onto front (Ok rest) = Ok (front ++ rest)
 onto front (Err refusal) = Err refusal
@@ -50,7 +50,7 @@ unfolding each
 turn_refused view reading front i vs d (Refused line cause) whole small same fails = sym same ∙ rw (drop_more vs i d small, fails) refl
 turn_refused view reading front i vs d OutOfMemory whole small same fails = tt
 
--- behind the last member all is read
+-- after the last member all is read
 pub turn_ends : {V A B : Type 0} (view : V → A) (reading : A → Result B Refusal) (front : List B) (i : ℕ) (vs : List V) → length vs ≤ i
     → onto front (each reading (map view (drop i vs))) ≡ Ok front
 unfolding each
@@ -65,7 +65,7 @@ front_push xs ys n small = take-append-le n xs ys small
 pub pieces_long : (count : ℕ) (word : List ℕ) → has_pieces count word ≡ true → length (pieces_of word) ≡ count
 pieces_long count word is = eqb-true (length (pieces_of word)) count is
 
--- a loop that puts what it has read behind a list
+-- a loop that puts what it has read after a list
 pub turn_push : {V A B : Type 0} (view : V → A) (reading : A → Result B Refusal) (old new : List B) (n i : ℕ) (vs : List V) (d : V) (b : B) (whole : Result (List B) Refusal)
     → new ≡ old ++ b ∷ [] → n ≤ length old → i < length vs → onto (drop n old) (each reading (map view (drop i vs))) ≡ whole → reading (view (get_or vs i d)) ≡ Ok b
     → onto (drop n new) (each reading (map view (drop (i + 1) vs))) ≡ whole

@@ -48,7 +48,7 @@ abbrev pub IsLogError : {Y : Type 0} → LogError → Result Y Refusal → Type 
 IsLogError (Refused line cause) reading = reading ≡ Err (record { line = line; cause = cause })
 IsLogError OutOfMemory reading = Unit {0}
 
--- the answer, seen by view, is the reading's, unless memory is wanting
+-- the answer, seen by view, is the reading's, unless an allocation fails
 abbrev pub Gives : {X Y : Type 0} → (X → Y) → Result X LogError → Result Y Refusal → Type 0
 Gives view (Ok x) reading = reading ≡ Ok (view x)
 Gives view (Err error) reading = IsLogError error reading

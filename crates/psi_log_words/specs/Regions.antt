@@ -21,7 +21,7 @@ pub data Given : Type 0 where
   -- a box, by the box before it and the words of what changed
   given_move : (from : Corners) (changes : List (List ℕ)) → Given
 
--- the words behind `move`: at most 32, each of three pieces
+-- the words after `move`: at most 32, each of three pieces
 unfoldable pub move_form : ℕ → Corners → List (List ℕ) → Result Given Refusal
 move_form n from words = do
   shaped ← holds_or (refused n Shape) (nat_le (length words) 32 && list_all (has_pieces 3) words)
@@ -59,14 +59,14 @@ box_before version (in_set states) = None
 
 -- a region of states of so many queues, on line n
 module _ (n queues : ℕ) where
-  -- the words behind `box`: two states
+  -- the words after `box`: two states
   unfoldable pub box_form : List (List ℕ) → Result Given Refusal
   box_form (lo ∷ hi ∷ []) = do
     shaped ← holds_or (refused n Shape) (has_pieces queues lo && has_pieces queues hi)
     Ok (given_box lo hi)
   box_form words = Err (refused n Shape)
 
-  -- the words behind `set`: 1 to 4,096 states
+  -- the words after `set`: 1 to 4,096 states
   unfoldable pub set_form : List (List ℕ) → Result Given Refusal
   set_form words = do
     shaped ← holds_or (refused n Shape) (nat_le 1 (length words) && nat_le (length words) 4096 && list_all (has_pieces queues) words)

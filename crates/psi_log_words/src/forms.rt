@@ -22,7 +22,7 @@ pub enum Given<'w> {
     Move(&'w Bounds, &'w [&'w [u8]]),
 }
 
-// Whether each word has so many pieces.
+// Whether each word has `count` pieces.
 #[tactic(auto, using(crate::proofs::TurnLemmas::shaped_turn, crate::proofs::TurnLemmas::shaped_fails, crate::proofs::TurnLemmas::shaped_ends))]
 fn are_shaped(count: usize, words: &[&[u8]]) -> bool
     ensures { result ≡ list_all (has_pieces count) (map (λ word. word.now) words.now) }
@@ -35,7 +35,7 @@ fn are_shaped(count: usize, words: &[&[u8]]) -> bool
     true
 }
 
-// The words behind `box`: two states.
+// The words after `box`: two states.
 #[tactic(auto, unfolding(crate::specs::Regions::box_form))]
 fn box_form<'w>(line: u32, queues: u8, words: &'w [&'w [u8]]) -> Result<Given<'w>, LogError>
     ensures value { Gives given result (box_form line queues (map (λ word. word.now) words.now)) }
@@ -53,7 +53,7 @@ fn box_form<'w>(line: u32, queues: u8, words: &'w [&'w [u8]]) -> Result<Given<'w
     }
 }
 
-// The words behind `set`: 1 to 4,096 states.
+// The words after `set`: 1 to 4,096 states.
 #[tactic(auto, unfolding(crate::specs::Regions::set_form))]
 fn set_form<'w>(line: u32, queues: u8, words: &'w [&'w [u8]]) -> Result<Given<'w>, LogError>
     ensures value { Gives given result (set_form line queues (map (λ word. word.now) words.now)) }
@@ -69,7 +69,7 @@ fn set_form<'w>(line: u32, queues: u8, words: &'w [&'w [u8]]) -> Result<Given<'w
     }
 }
 
-// The words behind `move`: at most 32, each of three pieces.
+// The words after `move`: at most 32, each of three pieces.
 #[tactic(auto, unfolding(crate::specs::Regions::move_form))]
 fn move_form<'w>(line: u32, from: &'w Bounds, words: &'w [&'w [u8]]) -> Result<Given<'w>, LogError>
     ensures value { Gives given result (move_form line from.now (map (λ word. word.now) words.now)) }
@@ -82,7 +82,7 @@ fn move_form<'w>(line: u32, from: &'w Bounds, words: &'w [&'w [u8]]) -> Result<G
     }
 }
 
-/// The form of a region's words. Where a box before them is given, a box has to be written by what changed
+/// Returns the form of a region's words. Where a box before them is given, a box has to be written by what changed
 /// from it.
 ///
 /// # Errors

@@ -41,7 +41,7 @@ fn read_change(line: u32, queues: u8, word: &[u8]) -> Result<Change, LogError>
     })
 }
 
-/// Whether the least number is at most the greatest, and they aren't both those that the queue had.
+/// Returns whether the least number is at most the greatest, and they aren't both those that the queue had.
 pub fn is_change(from: &Bounds, c: &Change) -> bool
     requires { c.now.queue < length from.now.lo }
     ensures { result ≡ is_change from.now (change c.now) }

@@ -50,7 +50,7 @@ fn numeral(word: &[u8]) -> Option<(u64, usize)>
     Some((value, count))
 }
 
-/// A number from `least` to `most`.
+/// Returns a number from `least` to `most`.
 ///
 /// # Errors
 ///
@@ -68,7 +68,7 @@ pub fn number_in(line: u32, least: u64, most: u64, word: &[u8]) -> Result<u64, L
     Err(Cause::Number.at(line))
 }
 
-/// The number from 0 to `most` that is the first piece of a word, and what follows the comma behind it; nothing
+/// Returns the number from 0 to `most` that is the first piece of a word, and what follows the comma after it; nothing
 /// where there is none.
 ///
 /// # Errors

@@ -41,7 +41,7 @@ pub enum LogError {
 }
 
 impl Cause {
-    /// The number of the cause.
+    /// Returns the number of the cause.
     pub fn code(self) -> u8
         ensures { result ≡ code_of self }
     {
@@ -56,7 +56,7 @@ impl Cause {
         }
     }
 
-    /// The refusal of a line for this cause.
+    /// Returns the refusal of a line for this cause.
     pub fn at(self, line: u32) -> LogError
         ensures { result ≡ Refused line (code_of self) }
     {

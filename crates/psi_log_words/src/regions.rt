@@ -16,7 +16,7 @@ use crate::refusals::{Cause, LogError};
 use psi_log_format::{ListedRegion, StateList};
 use psi_state::{Bounds, State};
 
-/// The numbers of a state, of a word that has one piece for each queue.
+/// Returns the numbers of a state, of a word that has one piece for each queue.
 ///
 /// # Errors
 ///
@@ -39,7 +39,7 @@ pub fn read_state(line: u32, queues: u8, word: &[u8]) -> Result<State, LogError>
     Ok(x)
 }
 
-// The states of words, put behind those of the list.
+// The states of words, put after those of the list.
 #[tactic(auto, using(crate::proofs::TurnLemmas::onto_none, crate::proofs::TurnLemmas::turn_ends))]
 fn read_states(
     line: u32,
@@ -108,7 +108,7 @@ fn read_box(line: u32, queues: u8, lo: &[u8], hi: &[u8]) -> Result<Bounds, LogEr
     Ok(Bounds::new(lo, hi))
 }
 
-// The states of a set, put behind those of the list, of words that have one piece for each queue.
+// The states of a set, put after those of the list, of words that have one piece for each queue.
 #[tactic(auto, unfolding(crate::specs::Regions::read_given), using(crate::proofs::TurnLemmas::each_length, crate::proofs::TurnLemmas::rest_whole, crate::proofs::TurnLemmas::rest_there))]
 fn read_set(
     line: u32,
@@ -139,7 +139,7 @@ fn read_set(
     })
 }
 
-/// The region of words in their form; the states of a set are put behind those of the list.
+/// Returns the region of words in their form; the states of a set are put after those of the list.
 ///
 /// # Errors
 ///

@@ -20,7 +20,7 @@ fn feed_at(text: &[u8]) -> Option<usize>
     text.iter().position(|byte| *byte == b'\n')
 }
 
-/// A line, where it begins the text, and what follows its line feed.
+/// Returns a line, where it begins the text, and what follows its line feed.
 ///
 /// # Errors
 ///
@@ -39,7 +39,7 @@ pub fn line_of(line: u32, text: &[u8]) -> Result<(&[u8], &[u8]), LogError>
     }
 }
 
-// Puts a word behind others, where they aren't 4,101 yet.
+// Puts a word after others, where they aren't 4,101 yet.
 fn keep<'t>(words: &mut Vec<&'t [u8]>, word: &'t [u8]) -> Result<(), AllocError>
     requires { vec_len words.old ≤ 4101 }
     ensures { OnOk result (map (λ word. word.now) words.new.items ≡ take 4101 (map (λ word. word.now) words.old.items ++ word.now ∷ [])) }
@@ -50,7 +50,7 @@ fn keep<'t>(words: &mut Vec<&'t [u8]>, word: &'t [u8]) -> Result<(), AllocError>
     Ok(())
 }
 
-/// The words of the line that begins a text, in place of those that the vector holds, and what follows the
+/// Returns the words of the line that begins a text, in place of those that the vector holds, and what follows the
 /// line feed: two words are parted by each space. Of more than 4,101 words, which no line may have, the first 4,101
 /// are kept. The vector's memory stays from line to line.
 ///
@@ -95,7 +95,7 @@ fn commas(word: &[u8]) -> usize
     count
 }
 
-/// Whether the word has so many pieces.
+/// Returns whether the word has `count` pieces, which commas separate.
 #[tactic(auto, using(crate::proofs::ValueLemmas::pieces_count))]
 pub fn has_pieces(count: usize, word: &[u8]) -> bool
     ensures { result ≡ has_pieces count word.now }
@@ -103,7 +103,7 @@ pub fn has_pieces(count: usize, word: &[u8]) -> bool
     commas(word) + 1 == count
 }
 
-/// The version that line 1 names.
+/// Returns the version that line 1 names.
 ///
 /// # Errors
 ///
@@ -129,7 +129,7 @@ pub fn read_version(line: &[u8]) -> Result<u8, LogError>
     Err(Cause::Version.at(1))
 }
 
-/// The number from `least` to `most` that the words of a line name.
+/// Returns the number from `least` to `most` that the words of a line name.
 ///
 /// # Errors
 ///

@@ -107,7 +107,7 @@ module _ (split : ℕ) (f : ℕ → List ℕ → List ℕ) (caps : List ℕ) (ev
       (few-next k (f (horizon - (more + done))) (region_after split f caps horizon (more + done)) (few-after k done more few))
 
   module _ (valid : AreCapacities caps) (closed : AreClosed caps f) (most : horizon < 10 ^ 7) (named : (t : ℕ) → events t < 10 ^ 4) where
-    -- the line of a step behind which there is such a set
+    -- the line of a step after which there is such a set
     line-short : (k done : ℕ) → HasFew k (region_after split f caps horizon (suc done)) → length (step_line split f caps events horizon done) ≤ 22 + k * (6 * length caps + 1)
     unfolding step_line
     line-short k done few =

@@ -47,7 +47,7 @@ sent-waits a b waiting text more s =
           subst b.takes e (s.takes_on n takes));
     }
 
--- what waits of a text goes on with a piece behind it
+-- what waits of a text goes on with a piece after it
 pub sent-more : (a b c : SinkState) (waiting still text piece : List ℕ) → IsSent a b waiting text → IsSent b c still (waiting ++ piece) → IsSent a c still (text ++ piece)
 sent-more a b c waiting still text piece s r =
     let count : length (text ++ piece) ≡ length text + length piece = length-append text piece in
@@ -107,7 +107,7 @@ sends-stopped (Err fault) a b waiting text err s = s
 abbrev pub rest_of : List ℕ → ℕ → List ℕ
 rest_of text n = take (length text - n) (drop n text)
 
--- a text is its front with the rest behind it, wherever it is cut
+-- a text is its front with the rest after it, wherever it is cut
 cut-text : (text : List ℕ) (n : ℕ) → take n text ++ rest_of text n ≡ text
 cut-text text n = ap (λ (xs : List ℕ). take n text ++ xs) (take_rest text n) ∙ take-append-drop n text
 
@@ -117,7 +117,7 @@ cut-behind old text n = append_assoc old (take n text) (rest_of text n) ∙ ap (
 cut-twice : (old text : List ℕ) (n m : ℕ) → ((old ++ take n text) ++ take m (rest_of text n)) ++ rest_of (rest_of text n) m ≡ old ++ text
 cut-twice old text n m = cut-behind (old ++ take n text) (rest_of text n) m ∙ cut-behind old text n
 
--- a text is put behind what waits: the block is filled with its front and written, then the whole blocks of the rest are written, and what is left waits
+-- a text is put after what waits: the block is filled with its front and written, then the whole blocks of the rest are written, and what is left waits
 pub stopped-first : (a b : SinkState) (old text full : List ℕ) (n : ℕ) → full ≡ old ++ take n text → IsStopped a b full → IsStopped a b (old ++ text)
 stopped-first a b old text full n is s =
     subst (λ (xs : List ℕ). IsStopped a b xs) (cut-behind old text n)
@@ -164,7 +164,7 @@ sent-put a b block held bytes after is s = subst (λ (xs : List ℕ). IsSent a b
 pub stopped-passed : (a b : SinkState) (block held bytes : List ℕ) → bytes ≡ held → IsStopped a b (block ++ bytes) → IsStopped a b (block ++ held)
 stopped-passed a b block held bytes is s = subst (λ (xs : List ℕ). IsStopped a b (block ++ xs)) is s
 
--- a line is held behind what waits
+-- a line is held after what waits
 pub sent-next : (a b : SinkState) (block held line after text next : List ℕ) → after ≡ held ++ line → next ≡ text ++ line → IsSent a b (block ++ held) text
     → IsSent a b (block ++ after) next
 sent-next a b block held line after text next more is s =

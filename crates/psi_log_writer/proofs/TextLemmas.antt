@@ -113,7 +113,7 @@ module _ (split : ℕ) (f : ℕ → List ℕ → List ℕ) (caps : List ℕ) (ev
       let later = text_before-later h state place (h.horizon + 3 - place) in
       (later.0, later.1 ∙ text_before-whole h state (h.horizon + 3 - place + place) version (omega arith))
 
-  -- what is put behind nothing stands alone
+  -- what is put after nothing stands alone
   alone : (old new text : List ℕ) → length old ≤ 0 → new ≡ text → new ≡ old ++ text
   alone [] new text none is = is
   alone (x ∷ xs) new text none is = absurd (omega arith)
@@ -140,7 +140,7 @@ module _ (split : ℕ) (f : ℕ → List ℕ → List ℕ) (caps : List ℕ) (ev
       line-alone h state old new (end_text state) place (suc (suc done)) (omega arith)
       (ap (λ (b : Bool). if b then 8192 else 0) (le-ltb done h.horizon (omega arith))) held (line_at-end h state done (omega arith)) is
 
--- the same of a network's runs under these words
+-- the lemmas on `text_before`, for `text_in` of a network's runs under these words
 module _ {E : Type 0} (function : E → List ℕ → List ℕ) (system : Parts E) (words : ℕ → ℕ) (h : Header) (state : List ℕ) where
   pub text_in-none : text_in function system words h state 0 ≡ []
   text_in-none = text_before-none system.split (system_functions function system words) system.caps (event_numbers system words) h state

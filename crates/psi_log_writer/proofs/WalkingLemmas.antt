@@ -121,7 +121,7 @@ line-set function system words (Some r) s states front line number event told sa
 if_some-at : {A : Type 0} (P : A → Type 0) (o : Option A) (a : A) → o ≡ Some a → IfSome o P → P a
 if_some-at P o a is some = subst (λ v. IfSome v P) is some
 
--- a line that is put behind others
+-- a line that is put after others
 pub line-same : {E : Type 0} (function : E → List ℕ → List ℕ) (s t : Parts E) (v w : ℕ → ℕ) (h : Header) (state : List ℕ) (place : ℕ) (old new : List ℕ) → s ≡ t → v ≡ w
     → new ≡ old ++ line_in function s v h state place → new ≡ old ++ line_in function t w h state place
 line-same {E} function s t v w h state place old new first second is =

@@ -16,7 +16,7 @@ abbrev pub box_words : Option Corners → Corners → List (List ℕ)
 box_words None to = region_words (in_box to)
 box_words (Some from) to = move_words from to
 
--- how many bytes of lines may be held where what stands at a place is put behind them: only the line of a step is put behind others
+-- how many bytes of lines may be held where what stands at a place is put after them: only the line of a step is put after others
 abbrev pub most_held : ℕ → ℕ → ℕ
 most_held horizon zero = 0
 most_held horizon (suc zero) = 0
@@ -58,7 +58,7 @@ module _ (split : ℕ) (f : Functions) (caps : List ℕ) (events : ℕ → ℕ) 
       header_text h ++ begin_text (region_of (start caps))
       ++ entries_text h.version (region_of (start caps)) (map (entry_after split f caps events h.horizon) (numbers_from 0 done))
 
-  -- what stands at a place of a log: the lines of the header at 0, that of the begin at 1, those of the steps, and behind them that of the end
+  -- what stands at a place of a log: the lines of the header at 0, that of the begin at 1, those of the steps, and after them that of the end
   unfoldable pub line_at : Header → List ℕ → ℕ → List ℕ
   line_at h state zero = header_text h
   line_at h state (suc zero) = begin_text (region_of (start caps))
@@ -69,15 +69,17 @@ module _ (split : ℕ) (f : Functions) (caps : List ℕ) (events : ℕ → ℕ) 
   text_before h state zero = []
   text_before h state (suc place) = text_before h state place ++ line_at h state place
 
--- the same of a network's runs under these words
+-- `step_line`, of a network's runs under these words
 abbrev pub line_of : {E : Type 0} → (E → List ℕ → List ℕ) → Parts E → (ℕ → ℕ) → ℕ → ℕ → List ℕ
 line_of function system words horizon done =
     step_line system.split (system_functions function system words) system.caps (event_numbers system words) horizon done
 
+-- `line_at`, of a network's runs under these words
 abbrev pub line_in : {E : Type 0} → (E → List ℕ → List ℕ) → Parts E → (ℕ → ℕ) → Header → List ℕ → ℕ → List ℕ
 line_in function system words h state place =
     line_at system.split (system_functions function system words) system.caps (event_numbers system words) h state place
 
+-- `text_before`, of a network's runs under these words
 abbrev pub text_in : {E : Type 0} → (E → List ℕ → List ℕ) → Parts E → (ℕ → ℕ) → Header → List ℕ → ℕ → List ℕ
 text_in function system words h state place =
     text_before system.split (system_functions function system words) system.caps (event_numbers system words) h state place
@@ -87,7 +89,7 @@ abbrev pub IsToldAfter : {E : Type 0} → (E → List ℕ → List ℕ) → Part
 IsToldAfter function system words horizon done told =
     IsTold system.caps (region_after system.split (system_functions function system words) system.caps horizon done) told
 
--- the same of the region of a network's run after so many steps
+-- there is ample room, as `IsAmple` says it, after so many steps of a network's run
 abbrev pub IsAmpleAfter : {E : Type 0} → (E → List ℕ → List ℕ) → Parts E → (ℕ → ℕ) → ℕ → ℕ → ℕ → ℕ → Type 0
 IsAmpleAfter function system words left room horizon done =
     IsAmple system.caps (region_after system.split (system_functions function system words) system.caps horizon done) left room

@@ -14,7 +14,7 @@ const SIZE: usize = 65_536;
 /// A block of 65,536 bytes in which the lines of a text are gathered, so that a sink is written to once a
 /// block and not once a line. It is seen as the bytes that wait in it.
 ///
-/// Only `reserve` takes memory.
+/// Only `reserve` allocates.
 #[derive(Drop)]
 pub struct Block {
     bytes: Vec<u8>,
@@ -31,9 +31,9 @@ impl Model for Block {
 }
 
 impl Block {
-    /// An empty block, with its room of 65,536 bytes.
+    /// Returns an empty block, with its room of 65,536 bytes.
     ///
-    /// `OutOfMemory` is the answer where there is no memory for it; no clause says when that is.
+    /// Returns `OutOfMemory` if an allocation fails; no clause says when that is.
     pub fn reserve(alloc: Global) -> Result<Block, OutOfMemory>
         ensures { IfOk result (λ block. block ≡ []) }
     {
@@ -48,7 +48,7 @@ impl Block {
         self.bytes.clear();
     }
 
-    /// Puts a text behind what waits, and writes whole blocks to the sink as soon as they are full.
+    /// Puts a text after what waits, and writes whole blocks to the sink as soon as they are full.
     pub(crate) fn put<O: Sink>(&mut self, text: &[u8], out: &mut O) -> Result<(), SinkFault>
         ensures { Sends result
             (record { held = O.held out.old; took = O.took out.old; faults = O.faults out.old; takes = O.takes out.old })

@@ -11,5 +11,5 @@ pub use block::Block;
 pub use laws::logs_are_accepted;
 pub use writing::{log_fits, write_log};
 
-/// There was no memory: the only way in which a call with this error fails.
+/// An allocation failed: the only way in which a call with this error fails.
 pub use std::alloc::AllocError as OutOfMemory;

@@ -18,9 +18,9 @@ use psi_state::{Bounds, State, Step};
 // How many bytes of lines are held before they are put into the block.
 const MANY: usize = 8_192;
 
-/// Puts what stands at a place of the log of the header's run behind the lines that are held: the header's lines at 0,
-/// the line of the begin at 1, those of the steps, and behind them that of the end. The run goes on by the step.
-/// Behind those that are held only the line of a step is put; they have at most 8,192 bytes then.
+/// Appends what stands at a place of the log of the header's run to the lines that are held: the header's lines at 0,
+/// the line of the begin at 1, those of the steps, and after them that of the end. The run goes on by the step.
+/// Only the line of a step is appended to others; these have at most 8,192 bytes then.
 ///
 /// `told` is the box of the region before the step, where it isn't split, and that of the region after it then.
 pub(crate) fn next_line<E: EventLaw, P: Past + Drop, F: Follower + Drop>(
@@ -52,7 +52,7 @@ pub(crate) fn next_line<E: EventLaw, P: Past + Drop, F: Follower + Drop>(
     }
 }
 
-/// How many bytes may be held where the lines of a place are put behind them.
+/// How many bytes may be held where the lines of a place are put after them.
 pub(crate) fn most_held(horizon: u32, place: u64) -> usize
     ensures { result ≡ most_held horizon place }
 {
@@ -82,7 +82,7 @@ fn begin_line<E: EventLaw, P: Past + Drop, F: Follower + Drop>(
     Some(whole)
 }
 
-// Does the next step of the run, and puts its line behind those that are held, which have at most 8,192 bytes.
+// Does the next step of the run, and puts its line after those that are held, which have at most 8,192 bytes.
 // `told` is the box of the region before the step, where it isn't split, and that of the region after it then: it is
 // written in its place, since a box has some size.
 fn step_line<E: EventLaw, P: Past + Drop, F: Follower + Drop>(
@@ -115,7 +115,7 @@ fn step_line<E: EventLaw, P: Past + Drop, F: Follower + Drop>(
     }
 }
 
-// Puts the line of a step with the box after it behind those that are held: by what changed where the region
+// Appends the line of a step with the box after it to those that are held: by what changed where the region
 // before is a box, and else whole.
 fn box_line(step: &Step, before: &Option<Bounds>, after: &Bounds, line: &mut LineBuf)
     requires same { IfSome before.now (λ b. length b.lo ≡ length after.now.lo) }

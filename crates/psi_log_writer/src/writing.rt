@@ -18,14 +18,14 @@ use psi_past::Past;
 use psi_region::Follower;
 use psi_state::{Bounds, State};
 
-/// Whether the log of the run of the header's horizon, with this state at its end, has at most 33,554,432
+/// Returns whether the log of the run of the header's horizon, with this state at its end, has at most 33,554,432
 /// bytes, so that it may be written.
 ///
 /// The run is that of the plan's network and words, from the header's horizon, 1 to 2 to the power `limit`
-/// steps before time zero; the header tells version 2. The run is done at most once, and the lengths of its
+/// steps before time zero; the header has version 2. The run is done at most once, and the lengths of its
 /// lines are added up until those that are left surely fit; no line is kept. The plan's network and its past's
-/// words stay as they were. The call takes no memory. What a checker says of the log is told at
-/// [`logs_are_accepted`](crate::logs_are_accepted).
+/// words stay as they were. The call does not allocate.
+/// [`logs_are_accepted`](crate::logs_are_accepted) has what a checker says of the log.
 pub fn log_fits<E: EventLaw, P: Past + Drop, F: Follower + Drop>(
     plan: &mut Plan<'_, E, P, F>,
     header: &Header,
@@ -82,7 +82,7 @@ fn surely_fits<E: EventLaw, P: Past + Drop, F: Follower + Drop>(
     is_roomy(plan, left, room) || is_ample(plan, told, left, room)
 }
 
-// Whether the lines of so many steps, and the last line, surely fit in the room, whatever regions these have. It is
+// Whether the lines of `left` steps, and the last line, surely fit in `room` bytes, whatever regions these have. It is
 // asked at each 64th step, and answered by the queues, the digits of the capacities and the split number.
 fn is_roomy<E: EventLaw, P: Past + Drop, F: Follower + Drop>(
     plan: &Plan<'_, E, P, F>,
@@ -100,7 +100,8 @@ fn is_roomy<E: EventLaw, P: Past + Drop, F: Follower + Drop>(
     left as usize * width as usize + 200 <= room
 }
 
-// The number of bytes that a step's line has at most, with so many queues, digits of a capacity, and states of a set.
+// The number of bytes that a step's line has at most, with these numbers of queues, of digits of a capacity and of
+// states of a set.
 fn width_of(queues: u8, digits: u8, split: u16) -> u32
     requires queues { queues ≤ 32 }
     requires digits { digits ≤ 5 }
@@ -167,10 +168,10 @@ fn is_ample<E: EventLaw, P: Past + Drop, F: Follower + Drop>(
 /// Writes the log of the run of the header's horizon, with this state at its end, to a sink.
 ///
 /// The run is that of the plan's network and words, from the header's horizon, 1 to 2 to the power `limit`
-/// steps before time zero; the header tells version 2. It is done once, and the lines of some steps at a time are
+/// steps before time zero; the header has version 2. It is done once, and the lines of some steps at a time are
 /// put into the block; a block goes to the sink when it is full, and the last one at the end. What waited in the
-/// block before is let go. The plan's network and its past's words stay as they were. The call takes no
-/// memory. What a checker says of the log is told at [`logs_are_accepted`](crate::logs_are_accepted).
+/// block before is let go. The plan's network and its past's words stay as they were. The call does not
+/// allocate. [`logs_are_accepted`](crate::logs_are_accepted) has what a checker says of the log.
 ///
 /// # Errors
 ///

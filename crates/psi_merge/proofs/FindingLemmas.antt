@@ -147,7 +147,7 @@ with_files-append told [] others c = refl
 with_files-append told (name ∷ names) others c =
     go_on-both (λ d. with_files told d names) (λ d. with_files told d others) (λ d. with_files told d (names ++ others)) (with_file told c name) (with_files-append told names others)
 
--- files have this report together, where the shelf tells them
+-- files have this report together, where the shelf's model has them
 abbrev pub HasReport : (List (List ℕ) → Option (Result Contents Reply)) → List (List ℕ) → Contents → Type 0
 HasReport found names c = IfSome (found names) (λ whole. whole ≡ Ok c)
 
@@ -160,7 +160,7 @@ has-ok None c has = tt
 has-ok (Some (Ok d)) c has = refl
 has-ok (Some (Err reply)) c has = absurd cc
 
--- a file behind those that have a report, with others behind it
+-- a file after those that have a report, with others after it
 module _ {S : Type 0} (view : S → List ℕ) (told : List ℕ → Option (List ℕ)) (first : Contents) (names : List S) (whole : Contents) (i : ℕ) (x : S)
     (small : i < length names) (is : x ≡ get_or names i x) (has : HasReport (with_files told first) (map view (take i names)) whole) where
   pub split-at : map view (take i names) ++ view x ∷ map view (drop (i + 1) names) ≡ map view names
@@ -169,7 +169,7 @@ module _ {S : Type 0} (view : S → List ℕ) (told : List ℕ → Option (List 
       ∙ ap (λ (rest : List S). map view (take i names) ++ map view rest) (sym (drop_more names i x small))
       ∙ sym (map-append view (take i names) (drop i names)) ∙ ap (map view) (take-append-drop i names)
 
-  -- what is found with more files behind those
+  -- what is found with more files after those
   found-behind : (others : List (List ℕ)) (Is : Result Contents Reply → Type 0) → IfSome (with_files told whole others) Is → IfSome (with_files told first (map view (take i names) ++ others)) Is
   found-behind others Is is = rw (with_files-append told (map view (take i names)) others first)
       (ok-go_on (λ d. with_files told d others) (with_files told first (map view (take i names))) whole Is has is)
@@ -213,7 +213,7 @@ asked-more before between after names name earlier last =
     last ∙ ap (λ (reads : List Read). reads ++ read_of name ∷ []) earlier ∙ append_assoc before (map read_of names) (read_of name ∷ [])
     ∙ ap (λ (reads : List Read). before ++ reads) (sym (map-append read_of names (name ∷ [])))
 
--- more reads behind the first
+-- more reads after the first
 asked-behind : (before between after : List Read) (name : List ℕ) (names : List (List ℕ)) → between ≡ before ++ read_of name ∷ [] → after ≡ between ++ map read_of names
     → after ≡ before ++ map read_of (name ∷ names)
 asked-behind before between after name names first rest =
@@ -245,7 +245,7 @@ missed-over told other_told asked_before asked_between asked_after before betwee
     (rose-over (before name) (between name) (after name) (after name) (counts name) missed.0 (omega arith), missed.1)
 missed-over told other_told asked_before asked_between asked_after before between after counts name OutOfMemory missed = tt
 
--- the first file, and those behind it
+-- the first file, and those after it
 abbrev pub next-first : (told : List ℕ → Option (List ℕ)) (name : List ℕ) (names : List (List ℕ)) → IsNext (whole_of told) (name ∷ names) name
 next-first told name names = record { before = []; behind = names; place = refl; merged = tt }
 
@@ -258,7 +258,7 @@ next-behind told name names c there other next = record {
   merged = ok-go_on (λ d. with_files told d next.before) (report_at told name) c IsOk there next.merged;
 }
 
--- a file that is missed, behind those that have a report
+-- a file that is missed, after those that have a report
 module _ {S : Type 0} (view : S → List ℕ) (told other_told : List ℕ → Option (List ℕ)) (first : Contents) (names : List S) (whole : Contents) (i : ℕ) (x : S)
     (small : i < length names) (is : x ≡ get_or names i x) (has : HasReport (with_files told first) (map view (take i names)) whole)
     (asked_before asked_between asked_after : List Read) (before between after : List ℕ → ℕ) (counts : (other : List ℕ) → before other ≤ between other)
@@ -275,7 +275,7 @@ module _ {S : Type 0} (view : S → List ℕ) (told other_told : List ℕ → Op
     cause = missed-over told other_told asked_before asked_between asked_after before between after counts (view x) ending missed;
   }
 
--- all files behind the first
+-- all files after the first
 module _ (told : List ℕ → Option (List ℕ)) (name : List ℕ) (names : List (List ℕ)) (c : Contents) (there : IfSome (report_at told name) (λ found. found ≡ Ok c))
     (asked_before asked_between asked_after : List Read) (asked : asked_between ≡ asked_before ++ read_of name ∷ []) where
   asked-rest : (result : Result Contents Ending) → IfOk result (λ d. asked_after ≡ asked_between ++ map read_of names) → IfOk result (λ d. asked_after ≡ asked_before ++ map read_of (name ∷ names))
@@ -307,7 +307,7 @@ module _ (told : List ℕ → Option (List ℕ)) (name : List ℕ) (names : List
       cause = missed-rest result found.cause;
     }
 
--- the shelf tells the same behind the first
+-- the shelf's model has the same after the first
 module _ (told other_told : List ℕ → Option (List ℕ)) (name : List ℕ) (names : List (List ℕ)) (c : Contents) (same : other_told ≡ told)
     (there : IfSome (report_at told name) (λ found. found ≡ Ok c)) where
   pub found-all : (asked_before asked_between asked_after : List Read) (before between after : List ℕ → ℕ) (result : Result Contents Ending)
@@ -319,7 +319,7 @@ module _ (told other_told : List ℕ → Option (List ℕ)) (name : List ℕ) (n
       (subst (λ (t : List ℕ → Option (List ℕ)).
       AreFound (record { told = t; asked_before = asked_between; asked_after = asked_after; faults_before = between; faults_after = after }) (with_files t c) names result) same found)
 
-  -- where each file that is needed is given, those behind the first are
+  -- where each file that is needed is given, those after the first are
   pub given-behind : (gives gives_on : List ℕ → Type 0) → ((other : List ℕ) → gives other → gives_on other) → AreNextGiven gives (whole_of told) (name ∷ names)
       → AreNextGiven gives_on (with_files other_told c) names
   given-behind gives gives_on on given other next =

@@ -21,7 +21,7 @@ module _ {S : Type 0} (view : S → List ℕ) (names : List S) (i : ℕ) (x : S)
 pub files-end : {S : Type 0} (view : S → List ℕ) (names : List S) (i : ℕ) → length names ≤ i → list_all is_file (map view (drop i names)) ≡ true
 files-end view names i past = rw (drop_all i names past) refl
 
--- the first word and those behind it are all
+-- the first word and those after it are all
 pub split-words : {S : Type 0} (view : S → List ℕ) (names : List S) (x : S) (word : List ℕ) → 1 ≤ length names → x ≡ get_or names 0 x → word ≡ view x
     → word ∷ map view (take (length names - 1) (drop 1 names)) ≡ map view names
 split-words view [] x word some is same = absurd (omega arith)
@@ -38,7 +38,7 @@ given-words : (gives : List ℕ → Type 0) (told : List ℕ → Option (List �
     → AreNextGiven gives (whole_of told) words
 given-words gives told words are given name next = given name (record { files = are; next = next })
 
--- then those behind the first are given as they come to be needed
+-- then those after the first are given as they come to be needed
 pub given-split : {S : Type 0} (view : S → List ℕ) (gives : List ℕ → Type 0) (told : List ℕ → Option (List ℕ)) (names : List S) (x : S) (word : List ℕ)
     → 1 ≤ length names → x ≡ get_or names 0 x → word ≡ view x → list_all is_file (map view names) ≡ true → AreGiven gives told (map view names)
     → AreNextGiven gives (whole_of told) (word ∷ map view (take (length names - 1) (drop 1 names)))

@@ -27,9 +27,9 @@ HasFiles call = are_files call.words ≡ true
 
 -- what the status of a call says of it
 pub record IsRun (call : Call) (result : Status) : Type 0 where
-  -- where the shelf tells the files that are read, a status of a reply, that is one from 0 to 5, is the reply's, whatever counts rose
+  -- where the shelf's model has the files that are read, a status of a reply, that is one from 0 to 5, is the reply's, whatever counts rose
   pub status : IfSome (reply_to_call call) (λ reply. IsReplied result → result ≡ reply.status)
-  -- and with such a status each sink that tells what it holds grew by exactly the reply's text
+  -- and with such a status each sink whose model has what it holds grew by exactly the reply's text
   pub out : IfSome (reply_to_call call) (λ reply. IsReplied result → Grew call.out reply.out)
   pub err : IfSome (reply_to_call call) (λ reply. IsReplied result → Grew call.err reply.err)
   -- each file is read once, in the words' order and with its limit, only where those before it are accepted and merged, and nothing else is read
@@ -54,7 +54,7 @@ AreReports net told (word ∷ words) (outcomes ∷ lists) =
     (told word ≡ Some (report_text net outcomes)) × AreReports net told words lists
 AreReports net told words lists = ⊥
 
--- the lists, one behind the other
+-- the lists, one after another
 abbrev pub all_of : List (List Outcome) → List Outcome
 all_of lists = flat_map (λ outcomes. outcomes) lists
 
@@ -69,7 +69,7 @@ pub record IsMerged (call : Call) (result : Status) (net : Network) (lists : Lis
   pub text : Grew call.out (report_text net (all_of lists))
 
 -- where the words are files, the shelf tells of them the reports of lists of samples of one network, no count rose and memory didn't run out,
--- out grew by the report of all lists, one behind the other
+-- out grew by the report of all lists, one after another
 abbrev pub MergesReports : Call → Status → Type 0
 MergesReports call result = (net : Network) (lists : List (List Outcome)) → are_files call.words ≡ true → AreReports net call.shelf.told call.words lists
     → AreFewOf net (all_of lists) → ¬ (HasFailed call.out) → ¬ (HasFailed call.err) → ¬ (HasUnread call.shelf call.words) → ¬ (result ≡ OutOfMemory)

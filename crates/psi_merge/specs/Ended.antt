@@ -40,7 +40,7 @@ ending_of OutOfMemory = no_memory
 abbrev pub ending_reply : Ending → Reply
 ending_reply ending = ended_reply faults (ending_of ending)
 
--- the work on files ends without a report: with this reply, unless a file couldn't be read or memory ran out
+-- the work on files ends without a report: with this reply, unless a file couldn't be read or an allocation failed
 abbrev pub MayEnd : Ending → Result Contents Reply → Type 0
 MayEnd (Merged text) whole = ⊥
 MayEnd Usage whole = ⊥
@@ -73,11 +73,11 @@ pub record IsReplyTo (words : List (List ℕ)) (reply : Reply) : Type 0 where
   pub reported : IsReported reply.status → reply.out ≡ []
   pub printed : reply.status ≡ status.Done → reply.err ≡ []
 
--- the cause of an ending: a reply is one that the words can have, a file is unread, or memory ran out in the work on files
+-- the cause of an ending: a reply is one that the words can have, a file is unread, or an allocation failed in the work on files
 abbrev pub IsCaused : ShelfSeen → List (List ℕ) → Ended → Type 0
 IsCaused shelf words = IsCausedBy (IsReplyTo words) (λ line. (cause : HasUnread shelf words) × (line ≡ unread_line cause.last.name)) (are_files words ≡ true)
 
--- the line of a failed read, or memory ran out
+-- the line of a failed read, or an allocation failed
 abbrev pub IsUnreadOf : List ℕ → Ending → Type 0
 IsUnreadOf name (Unread line) = line.items ≡ unread_line name
 IsUnreadOf name OutOfMemory = Unit {0}
@@ -95,7 +95,7 @@ abbrev pub MayBe : Result Contents Ending → Result Contents Reply → Type 0
 MayBe (Ok c) whole = whole ≡ Ok c
 MayBe (Err ending) whole = MayEnd ending whole
 
--- what is found of a file: the answer where the shelf tells it, and a read of it failed where it couldn't be read
+-- what is found of a file: the answer where the shelf's model has it, and a read of it failed where it couldn't be read
 pub record IsFound (shelf : ShelfSeen) (name : List ℕ) (found : Option (Result Contents Reply)) (result : Result Contents Ending) : Type 0 where
   pub answer : IfSome found (MayBe result)
   pub cause : IfErr result (IsMissed shelf name)

@@ -9,7 +9,7 @@ use Rattle.psi_merge.specs.Reports.{Refusal}
 abbrev pub refused : Refusal → ReportError
 refused refusal = Refused refusal.line refusal.cause
 
--- the answer is the reading's, unless memory is wanting
+-- the answer is the reading's, unless an allocation fails
 abbrev pub Gives : Result Contents ReportError → Result Contents Refusal → Type 0
 Gives (Ok c) reading = reading ≡ Ok c
 Gives (Err (Refused line cause)) reading = reading ≡ Err (record { line = line; cause = cause })

@@ -65,7 +65,7 @@ abbrev pub report_reply : List ℕ → Result Contents Refusal → Result Conten
 report_reply name (Ok c) = Ok c
 report_reply name (Err refusal) = Err (line_reply Refused (refused_line name refusal))
 
--- the report of a file, where the shelf tells it
+-- the report of a file, where the shelf's model has it
 abbrev pub report_at : (List ℕ → Option (List ℕ)) → List ℕ → Option (Result Contents Reply)
 report_at told name = option_and_then (λ bytes. Some (report_reply name (report_in bytes))) (told name)
 
@@ -111,6 +111,6 @@ abbrev pub whole_reply : Result Contents Reply → Reply
 whole_reply (Ok c) = text_reply (text_of c)
 whole_reply (Err reply) = reply
 
--- the reply to words, where the shelf tells the files that are read
+-- the reply to words, where the shelf's model has the files that are read
 unfoldable pub reply_to : (List ℕ → Option (List ℕ)) → List (List ℕ) → Option Reply
 reply_to told words = if are_files words then option_and_then (λ whole. Some (whole_reply whole)) (whole_of told words) else Some (line_reply Usage usage_line)

@@ -24,7 +24,7 @@ pub record HasAskedTo (shelf : ShelfSeen) (found : List (List ℕ) → Option (R
   pub next : IsNext found names name
   pub asked : HasAsked shelf (map read_of (next.before ++ name ∷ []))
 
--- the words are files, and this one is needed: those before it are accepted and merged, where the shelf tells them
+-- the words are files, and this one is needed: those before it are accepted and merged, where the shelf's model has them
 pub record IsNeeded (told : List ℕ → Option (List ℕ)) (words : List (List ℕ)) (name : List ℕ) : Type 0 where
   pub files : are_files words ≡ true
   pub next : IsNext (whole_of told) words name

@@ -5,8 +5,8 @@ ghost use Rattle.std.specs.Prelude.{◌≡◌};
 use crate::status::Status;
 use psi_program::Text;
 
-/// How the work of a call ends, once its memory is taken and before anything is written. Each line ends with a line
-/// feed and tells the name of the file.
+/// How the work of a call ends, after its allocations and before anything is written. Each line ends with a line
+/// feed and has the name of the file.
 #[derive(Drop, Debug)]
 pub(crate) enum Ending {
     /// With the text of the report of all files.
@@ -21,7 +21,7 @@ pub(crate) enum Ending {
     TooLarge(Vec<u8>),
     /// A file couldn't be read; with the line for err.
     Unread(Vec<u8>),
-    /// There was not enough memory.
+    /// An allocation failed.
     OutOfMemory,
 }
 

@@ -70,14 +70,14 @@ fn unread(alloc: Global, name: &str) -> Ending
 fn report_at<F: Shelf>(alloc: Global, shelf: &mut F, name: &str) -> Result<Report, Ending>
     ensures found { (told : List ℕ → Option (List ℕ)) → AgreesSince told (F.gave shelf.old) (F.gave shelf.new) → IsFound (seen_with (record { gave_before = F.gave shelf.old; gave_after = F.gave shelf.new; asked_before = F.asked shelf.old; asked_after = F.asked shelf.new; faults_before = F.faults shelf.old; faults_after = F.faults shelf.new }) told) name.now
         (report_at told name.now) result }
-    // The answers agree with what the shelf tells.
+    // The answers agree with what the shelf's model has.
     ensures agrees { AgreesSince (F.told shelf.old) (F.gave shelf.old) (F.gave shelf.new) }
     // Where the shelf gives the file, no read of it failed, and no count rose.
     ensures read { F.gives shelf.old name.now → IfErr result HasRead }
     ensures spared { F.gives shelf.old name.now → F.faults shelf.new ≡ F.faults shelf.old }
     // The file is read once, with its limit.
     ensures asked { F.asked shelf.new ≡ F.asked shelf.old ++ read_of name.now ∷ [] }
-    // The shelf tells and gives what it did, and no count fell.
+    // What the shelf's model has and what the shelf gives stay as they were, and no count fell.
     ensures same { F.told shelf.new ≡ F.told shelf.old }
     ensures gives { (other : List ℕ) → F.gives shelf.old other → F.gives shelf.new other }
     ensures counts { (other : List ℕ) → F.faults shelf.old other ≤ F.faults shelf.new other }
@@ -103,14 +103,14 @@ fn with_file<F: Shelf>(
 ) -> Result<Report, Ending>
     ensures found { (told : List ℕ → Option (List ℕ)) → AgreesSince told (F.gave shelf.old) (F.gave shelf.new) → IsFound (seen_with (record { gave_before = F.gave shelf.old; gave_after = F.gave shelf.new; asked_before = F.asked shelf.old; asked_after = F.asked shelf.new; faults_before = F.faults shelf.old; faults_after = F.faults shelf.new }) told) name.now
         (with_file told whole name.now) result }
-    // The answers agree with what the shelf tells.
+    // The answers agree with what the shelf's model has.
     ensures agrees { AgreesSince (F.told shelf.old) (F.gave shelf.old) (F.gave shelf.new) }
     // Where the shelf gives the file, no read of it failed, and no count rose.
     ensures read { F.gives shelf.old name.now → IfErr result HasRead }
     ensures spared { F.gives shelf.old name.now → F.faults shelf.new ≡ F.faults shelf.old }
     // The file is read once, with its limit.
     ensures asked { F.asked shelf.new ≡ F.asked shelf.old ++ read_of name.now ∷ [] }
-    // The shelf tells and gives what it did, and no count fell.
+    // What the shelf's model has and what the shelf gives stay as they were, and no count fell.
     ensures same { F.told shelf.new ≡ F.told shelf.old }
     ensures gives { (other : List ℕ) → F.gives shelf.old other → F.gives shelf.new other }
     ensures counts { (other : List ℕ) → F.faults shelf.old other ≤ F.faults shelf.new other }
@@ -134,7 +134,7 @@ fn with_files<F: Shelf>(
 ) -> Result<Report, Ending>
     ensures found { (told : List ℕ → Option (List ℕ)) → AgreesSince told (F.gave shelf.old) (F.gave shelf.new) → AreFound (seen_with (record { gave_before = F.gave shelf.old; gave_after = F.gave shelf.new; asked_before = F.asked shelf.old; asked_after = F.asked shelf.new; faults_before = F.faults shelf.old; faults_after = F.faults shelf.new }) told)
         (with_files told first) (map string_bytes names.now) result }
-    // The answers agree with what the shelf tells.
+    // The answers agree with what the shelf's model has.
     ensures agrees { AgreesSince (F.told shelf.old) (F.gave shelf.old) (F.gave shelf.new) }
     // Where the shelf gives each file that is needed, no read failed, and no count rose.
     ensures read { AreNextGiven (F.gives shelf.old) (with_files (F.told shelf.old) first) (map string_bytes names.now) → IfErr result HasRead }
@@ -159,7 +159,7 @@ fn whole_of<F: Shelf>(
 ) -> Result<Report, Ending>
     ensures found { (told : List ℕ → Option (List ℕ)) → AgreesSince told (F.gave shelf.old) (F.gave shelf.new) → AreFound (seen_with (record { gave_before = F.gave shelf.old; gave_after = F.gave shelf.new; asked_before = F.asked shelf.old; asked_after = F.asked shelf.new; faults_before = F.faults shelf.old; faults_after = F.faults shelf.new }) told)
         (whole_of told) (first.now ∷ map string_bytes rest.now) result }
-    // The answers agree with what the shelf tells.
+    // The answers agree with what the shelf's model has.
     ensures agrees { AgreesSince (F.told shelf.old) (F.gave shelf.old) (F.gave shelf.new) }
     // Where the shelf gives each file that is needed, no read failed, and no count rose.
     ensures read { AreNextGiven (F.gives shelf.old) (whole_of (F.told shelf.old)) (first.now ∷ map string_bytes rest.now) → IfErr result HasRead }
@@ -193,10 +193,10 @@ fn all_files(words: &[String]) -> bool
     true
 }
 
-/// The work for the words, before the first byte is written. Words that aren't names of files take no memory.
+/// The work for the words, before the first byte is written. Words that aren't names of files allocate nothing.
 pub(crate) fn work<F: Shelf>(alloc: Global, words: &[String], shelf: &mut F) -> Ending
     ensures ending { (told : List ℕ → Option (List ℕ)) → AgreesSince told (F.gave shelf.old) (F.gave shelf.new) → IsEnding (seen_with (record { gave_before = F.gave shelf.old; gave_after = F.gave shelf.new; asked_before = F.asked shelf.old; asked_after = F.asked shelf.new; faults_before = F.faults shelf.old; faults_after = F.faults shelf.new }) told) (map string_bytes words.now) (ending_of result) }
-    // The answers agree with what the shelf tells.
+    // The answers agree with what the shelf's model has.
     ensures agrees { AgreesSince (F.told shelf.old) (F.gave shelf.old) (F.gave shelf.new) }
     // Where the shelf gives each file that is needed, no read failed, and no count rose.
     ensures read { AreGiven (F.gives shelf.old) (F.told shelf.old) (map string_bytes words.now) → HasRead result }

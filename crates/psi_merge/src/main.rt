@@ -1,7 +1,7 @@
 //! The program `psi_merge`: one report of many.
 //!
 //! `psi_merge FILE..` reads reports of samples of one network, as `psi report` prints them, and prints the report of
-//! all samples: the lists of samples, one behind the other in the order of the words.
+//! all samples: the lists of samples, one after another in the order of the words.
 #![tactic(auto)]
 
 ghost use Rattle.std.specs.Process.{exit_status};

@@ -14,7 +14,7 @@ use psi_io::{Shelf, Sink};
 use psi_program::finish;
 use std::alloc::Global;
 
-/// Reads the reports in the files that the words name, and prints the report of all their samples; it answers how that
+/// Reads the reports in the files that the words name, and prints the report of all their samples; it returns how that
 /// ended.
 ///
 /// The words are names of files, one at least, none of which begins with a minus sign. Each file is read in the order of
@@ -22,7 +22,7 @@ use std::alloc::Global;
 /// 1,048,576 bytes. The report of all is that of the samples of the first file, then those of the second, and so on: its
 /// counts and sums are the sums of theirs, its horizons are all of theirs, and its extremes the least and the greatest
 /// of theirs. Nothing is written to out unless all files are read and merged, and with any other status but `WriteFault`
-/// one line to err tells why.
+/// one line to err gives the reason.
 ///
 /// | Status | Line |
 /// |---|---|
@@ -35,17 +35,17 @@ use std::alloc::Global;
 ///
 /// FILE is the word that names the first file for which there is no report of all. L is the first line of it that is
 /// wrong, counted from 1, or 0 for the text as a whole; of another network, the line of the first sum that isn't of the
-/// queue or the reward of the first file's sum at its place; where a number would be too large, the line of that number.
-/// CAUSE and NAME are `0 TooLong`, `1 Row` where a line is no row of a report, `2 Text` where each line is a row but the
-/// text isn't that of the report that they tell, and `3 Samples` where the rows aren't those of samples of a network:
-/// horizons are powers of two of at most 2^22 that ascend, their counts are those of the samples that are met, there
-/// are 1 to 32 queues and at most 64 rewards, of which no two of a kind have one name, queues hold 0 to 65,535
-/// customers, rewards come to a magnitude of at most 2,097,120,000,000,000, and each sum is one that so many values with
-/// this least and this greatest may have. A count of 2^64 or more, or a sum whose magnitude is 10^37 or more, is too
-/// large.
+/// queue or the reward of the first file's sum at its place; where a number would be too large, the line of that
+/// number. CAUSE and NAME are `0 TooLong`, `1 Row` where a line is no row of a report, `2 Text` where each line is a
+/// row but the text isn't that of the report that they make up, and `3 Samples` where the rows aren't those of samples
+/// of a network: horizons are powers of two of at most 2^22 that ascend, their counts are those of the samples that are
+/// met, there are 1 to 32 queues and at most 64 rewards, of which no two of a kind have one name, queues hold 0 to
+/// 65,535 customers, rewards come to a magnitude of at most 2,097,120,000,000,000, and each sum is one that as many
+/// values as samples are met may have, with this least and this greatest. A count of 2^64 or more, or a sum whose
+/// magnitude is 10^37 or more, is too large.
 ///
 /// A file is needed only where those before it are accepted and merged. Each that is needed is read once, in the order of
-/// the words and up to one byte more than it may have; none is read behind one that is refused or couldn't be read.
+/// the words and up to one byte more than it may have; none is read after one that is refused or couldn't be read.
 /// Where the shelf gives each file that is needed, and out and err take their texts, no count rises, and the status is
 /// neither `ReadFault` nor `WriteFault`.
 pub(crate) fn run<F: Shelf, O: Sink, E: Sink>(
@@ -64,7 +64,7 @@ pub(crate) fn run<F: Shelf, O: Sink, E: Sink>(
     }) result }
 
     // The headline: the reports of lists of samples of one network that a file may describe are merged into the report
-    // of all lists, one behind the other.
+    // of all lists, one after another.
     ensures headline { MergesReports (record {
       words = map string_bytes words.now;
       shelf = record { told = F.told shelf.old; asked_before = F.asked shelf.old; asked_after = F.asked shelf.new; faults_before = F.faults shelf.old; faults_after = F.faults shelf.new };
@@ -73,14 +73,14 @@ pub(crate) fn run<F: Shelf, O: Sink, E: Sink>(
     }) result }
 
     // What crossed the edges is a run of the program: the same over the bytes that were read and accepted, whatever the
-    // shelf and the sinks tell.
+    // models of the shelf and the sinks have.
     ensures edge { HasRun IsRunOf (map string_bytes words.now)
         (record { gave = F.gave shelf.old; out = O.took out.old; err = E.took err.old; tally = record { asked = F.asked shelf.old; files = F.faults shelf.old; out = O.faults out.old; err = E.faults err.old } })
         (record { gave = F.gave shelf.new; out = O.took out.new; err = E.took err.new; tally = record { asked = F.asked shelf.new; files = F.faults shelf.new; out = O.faults out.new; err = E.faults err.new } })
         (status_code result) }
 
-    // Where the shelf gives each file that is needed, and out and err take the reply's texts and the line on memory that ran out, no
-    // count of faults rises in this call, and the status is the reply's or `OutOfMemory`.
+    // Where the shelf gives each file that is needed, and out and err take the reply's texts and the line that reports
+    // out of memory, no count of faults rises in this call, and the status is the reply's or `OutOfMemory`.
     ensures spared { (reply : Reply) → reply_to (F.told shelf.old) (map string_bytes words.now) ≡ Some reply
         → AreGiven (F.gives shelf.old) (F.told shelf.old) (map string_bytes words.now)
         → AreTaken (O.takes out.old) (E.takes err.old) (map string_bytes words.now) reply

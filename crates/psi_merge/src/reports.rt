@@ -18,7 +18,7 @@ pub enum Cause {
     TooLong,
     /// The line is no row of a report.
     Row,
-    /// Each line is a row, but the text isn't that of the report that the rows tell.
+    /// Each line is a row, but the text isn't that of the report that the rows make up.
     Text,
     /// The rows aren't those of samples of a network: counts don't add up, horizons don't ascend or aren't powers of
     /// two, a figure is missing, out of its range or of a name that stood before, or a sum isn't one that its extremes

@@ -10,24 +10,24 @@ pub enum Status {
     Done,
     /// The words aren't names of files, one at least.
     Usage,
-    /// A file is no report; its line, the cause and its name are told.
+    /// A file is no report; the line printed has its line, the cause and its name.
     Refused,
-    /// A report is of another network than the first; the line that differs and its name are told.
+    /// A report is of another network than the first; the line printed has the line that differs and its name.
     OtherNetwork,
-    /// With a report a count or a sum would be greater than a report may tell; the line of that number and its name are
-    /// told.
+    /// With a report a count or a sum would be greater than a report may have; the line printed has the line of that
+    /// number and its name.
     TooLarge,
-    /// A file couldn't be read; its name is told. It comes only where the shelf's count of that name rose.
+    /// A file couldn't be read; the line printed has its name. It comes only where the shelf's count of that name rose.
     ReadFault,
     /// A text couldn't be written whole. It comes only where the count of out or of err rose, and nothing more is
     /// written to either.
     WriteFault,
-    /// There was not enough memory. It comes only before the first byte is written.
+    /// An allocation failed. It comes only before the first byte is written.
     OutOfMemory,
 }
 
 impl Status {
-    /// The exit status of the program: 0, or 2 to 8 in the order of the variants.
+    /// Returns the exit status of the program: 0, or 2 to 8 in the order of the variants.
     pub fn code(&self) -> u8
         ensures { result ≡ status_code self.now }
     {

@@ -9,7 +9,7 @@ abbrev pub IsNetError : {Y : Type 0} → NetError → Result Y NetRefusal → Ty
 IsNetError (Refused refusal) reading = reading ≡ Err refusal
 IsNetError OutOfMemory reading = Unit {0}
 
--- the answer, seen by view, is the reading's, unless memory is wanting
+-- the answer, seen by view, is the reading's, unless an allocation fails
 abbrev pub Reads : {X Y : Type 0} → (X → Y) → Result X NetError → Result Y NetRefusal → Type 0
 Reads view (Ok x) reading = reading ≡ Ok (view x)
 Reads view (Err error) reading = IsNetError error reading

@@ -93,7 +93,7 @@ fn no_unknown_event_key(place: Place, word: KindWord, table: &Table) -> Result<(
     }
 }
 
-// A kind that was judged without memory, as one of those that take some.
+// A kind that was judged without allocating, as one of those that allocate.
 fn as_read(kind: Result<Kind, NetRefusal>) -> Result<Kind, NetError>
     ensures { (reading : Result Kind NetRefusal) → Gives (λ kind. kind) kind reading → Reads (λ kind. kind) result reading }
 {

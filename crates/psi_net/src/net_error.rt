@@ -11,7 +11,7 @@ use std::alloc::{AllocError, AllocFailed};
 pub enum NetError {
     /// The bytes are refused.
     Refused(NetRefusal),
-    /// There is no memory for the network or for its reading.
+    /// An allocation for the network or for its reading failed.
     OutOfMemory,
 }
 
@@ -31,7 +31,7 @@ impl<T: Drop> From<AllocFailed<T>> for NetError {
     }
 }
 
-/// What a reading that takes no memory gives, or the return of its refusal from one that takes some.
+/// What a reading that does not allocate gives, or the return of its refusal from one that allocates.
 #[macro_export]
 macro_rules! judged {
     ($reading:expr) => {

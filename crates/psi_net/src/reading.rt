@@ -145,13 +145,13 @@ fn text_draft(alloc: Global, text: &str) -> Result<Draft, NetError>
     }
 }
 
-/// The network of a file's bytes: a TOML 1.1 document of at most 1,048,576 bytes.
+/// Returns the network of a file's bytes: a TOML 1.1 document of at most 1,048,576 bytes.
 ///
 /// | Key at the top | Value | Default |
 /// |---|---|---|
 /// | `version` | 1 or 2 | required |
 /// | `limit` | 0 to 20, in version 2 to 22: horizons are at most 2 to the power `limit` steps | 18 |
-/// | `split` | 1 to 4,096: regions of at most so many states are followed state by state | 256 |
+/// | `split` | 1 to 4,096: regions of at most this number of states are followed state by state | 256 |
 /// | `queue` | array of 1 to 32 tables | required |
 /// | `event` | array of 1 to 1,024 tables | required |
 /// | `reward` | array of at most 64 tables | empty |
@@ -189,8 +189,8 @@ fn text_draft(alloc: Global, text: &str) -> Result<Draft, NetError>
 /// `Refused` with the first refusal in the order of the file's judging (see [`NetRefusal`]):
 /// the length and the document; at the top `version`, unknown keys, `limit`, `split`, `queue`, `event`,
 /// `reward`; in an array its tables in order; in a table unknown keys (of an event or a reward after
-/// `kind`), then the keys as listed, and behind those of an event the counts up to it: expanded events,
-/// index values, total rate. `OutOfMemory` where there is no memory.
+/// `kind`), then the keys as listed, and after those of an event the counts up to it: expanded events,
+/// index values, total rate. `OutOfMemory` if an allocation fails.
 #[tactic(auto, unfolding(crate::specs::Reading::network_of))]
 pub fn net_of(alloc: Global, bytes: &[u8]) -> Result<Net, NetError>
     ensures network { IfOk result (λ net. network_of bytes.now ≡ Ok net) }

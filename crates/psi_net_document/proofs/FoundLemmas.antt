@@ -6,7 +6,7 @@ use Rattle.std.proofs.lemmas.List.{drop_more}
 use Rattle.std.proofs.Math.ListN.{drop_of_length-le}
 use Rattle.psi_net_document.specs.Targets.{are_below}
 
--- a test of numbers that all have to pass: one that does takes the loop one step on, another ends it, and behind the last place none fails
+-- a test of numbers that all have to pass: one that does takes the loop one step on, another ends it, and after the last place none fails
 pub all_turn : (p : ℕ → Bool) (xs : List ℕ) (i : ℕ) → i < length xs → p (slice_index xs i) ≡ true → list_all p (drop i xs) ≡ list_all p (drop (i + 1) xs)
 all_turn p xs i small passes = rw (drop_more xs i 0 small, passes) refl
 

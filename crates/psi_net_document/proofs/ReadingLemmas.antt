@@ -77,7 +77,7 @@ each_kept_below {S} P step m keep (d ∷ ds) n s t count start h =
     let first = bind_ok (step n s d) (λ (u : S). each step (n + 1) u ds) t h in
     each_kept_below P step m keep ds (n + 1) first.0 t (omega arith) (keep n s first.0 d (omega arith) start first.1) first.2
 
--- the same of steps that don't ask for their count
+-- `each_kept_below`, of steps for which their count does not matter
 pub each_kept : {S : Type 0} (P : ℕ → S → Type 0) (step : ℕ → S → Data → Result S NetRefusal)
     → ((n : ℕ) (s t : S) (d : Data) → P n s → step n s d ≡ Ok t → P (n + 1) t)
     → (ds : List Data) (n m : ℕ) (s t : S) → m ≡ n + length ds → P n s → each step n s ds ≡ Ok t → P m t

@@ -19,7 +19,7 @@ pub turn_fails : {V S : Type 0} (view : V → Data) (step : ℕ → S → Data �
 unfolding each
 turn_fails view step n i s vs v refusal small is fails = rw (drop_more vs i v small, ← is, fails) refl
 
--- behind the last element all is read
+-- after the last element all is read
 pub turn_ends : {V S : Type 0} (view : V → Data) (step : ℕ → S → Data → Result S NetRefusal) (n i : ℕ) (s : S) (vs : List V)
     → length vs ≤ i → each step n s (map view (drop i vs)) ≡ Ok s
 unfolding each

@@ -48,7 +48,7 @@ bytes_before : (key : String Global) (keys : List (String Global)) → AllByRecu
 bytes_before key [] before = tt
 bytes_before key (other ∷ keys) before = (before.0, bytes_before key keys before.1)
 
--- a loop over keys in byte order: those behind one are in byte order
+-- a loop over keys in byte order: those after one are in byte order
 pub order_on : (key : String Global) (keys all : List (String Global)) → all ≡ key ∷ keys → IsStrictlySortedBy string_cmp all → IsStrictlySortedBy string_cmp keys
 unfolding IsStrictlySortedBy
 order_on key keys all is order = (subst (λ (ks : List (String Global)). IsStrictlySortedBy string_cmp ks) is order).1

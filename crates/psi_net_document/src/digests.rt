@@ -1,11 +1,11 @@
-//! Numbers by which most texts are told apart at once.
+//! Numbers by which most texts are distinguished at once.
 
 ghost use Rattle.std.specs.Prelude.{◌+◌, ◌<◌, ◌≤◌, length};
 
 use indexmap::IndexSet;
 use psi_net_model::Name;
 
-// The fingerprints of at most 32 names, by their places; behind the last one stands 0.
+// The fingerprints of at most 32 names, by their places; after the last one stands 0.
 pub(crate) fn fingerprints(names: &IndexSet<Name>) -> [u64; 32] {
     let mut all = [0; 32];
     for (place, name) in names.as_slice().iter().take(32).enumerate() {

@@ -26,7 +26,7 @@ macro_rules! read {
     };
 }
 
-/// The value at a key of a table, where it has the key.
+/// Reads the value at a key of a table, where it has the key.
 pub fn find<'t>(table: &'t Table, key: &str) -> Option<&'t Value>
     ensures { seen result ≡ get_member key.now (table_view table.now) }
 {
@@ -71,7 +71,7 @@ pub fn no_unknown(
     Ok(())
 }
 
-/// The value of a required key, of what [`find`] found.
+/// Reads the value of a required key, of what [`find`] found.
 ///
 /// # Errors
 ///
@@ -90,7 +90,7 @@ pub fn present<'t>(
     }
 }
 
-/// An integer from `lo` to `hi`.
+/// Reads an integer from `lo` to `hi`.
 ///
 /// # Errors
 ///
@@ -118,7 +118,7 @@ pub fn number_in(
     }
 }
 
-/// A required integer from `lo` to `hi`.
+/// Reads a required integer from `lo` to `hi`.
 ///
 /// # Errors
 ///
@@ -137,7 +137,7 @@ pub fn required_number(
     number_in(place, key, lo, hi, value)
 }
 
-/// An integer from `lo` to `hi`, or the default, which lies between them.
+/// Reads an integer from `lo` to `hi`, or the default, which lies between them.
 ///
 /// # Errors
 ///
@@ -161,7 +161,7 @@ pub fn number_or(
     }
 }
 
-/// An integer from `-most` to `most`.
+/// Reads an integer from `-most` to `most`.
 ///
 /// # Errors
 ///
@@ -184,7 +184,7 @@ pub fn integer_in(place: Place, key: &str, most: u32, value: &Value) -> Result<i
     }
 }
 
-/// An integer from `-most` to `most`, 0 by default.
+/// Reads an integer from `-most` to `most`, 0 by default.
 ///
 /// # Errors
 ///
@@ -205,7 +205,7 @@ pub fn integer_or_zero(
     }
 }
 
-/// A string.
+/// Reads a string.
 ///
 /// # Errors
 ///
@@ -220,7 +220,7 @@ pub fn text_in<'t>(place: Place, key: &str, value: &'t Value) -> Result<&'t str,
     }
 }
 
-/// The elements of an array, in their order.
+/// Reads the elements of an array, in their order.
 ///
 /// # Errors
 ///
@@ -235,7 +235,7 @@ pub fn array_in<'t>(place: Place, key: &str, value: &'t Value) -> Result<&'t [Va
     }
 }
 
-/// The elements of an array of 1 to `most` elements, in their order.
+/// Reads the elements of an array of 1 to `most` elements, in their order.
 ///
 /// # Errors
 ///
@@ -262,7 +262,7 @@ pub fn elements_in<'t>(
     Ok(values)
 }
 
-/// The elements of an array of exactly `count` elements, in their order.
+/// Reads the elements of an array of exactly `count` elements, in their order.
 ///
 /// # Errors
 ///
@@ -284,7 +284,7 @@ pub fn counted_in<'t>(
     Ok(values)
 }
 
-/// An element of an array that is a table.
+/// Reads an element of an array that is a table.
 ///
 /// # Errors
 ///

@@ -19,7 +19,7 @@ pub struct KnownNames {
 }
 
 impl KnownNames {
-    /// The names of these queues.
+    /// Returns the names of these queues.
     pub fn new(list: IndexSet<Name>) -> KnownNames
         requires { length list.keys ≤ 32 }
         ensures { result.list ≡ list }

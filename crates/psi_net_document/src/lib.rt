@@ -1,8 +1,8 @@
 //! Reading a document: its places, why something is refused there, and the values of its keys.
 //!
 //! A document is a TOML table. Each reading takes what a look-up of a key found, and gives a value or the
-//! refusal at that key; one reading after another, the first refusal is the answer. No reading here takes
-//! memory, so none can run out of it. Names refer to the
+//! refusal at that key; one reading after another, the first refusal is the answer. No reading here allocates,
+//! so none can run out of memory. Names refer to the
 //! queues that were read before ([`KnownNames`]).
 #![tactic(auto)]
 

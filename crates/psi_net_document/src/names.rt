@@ -27,7 +27,7 @@ fn name_in(place: Place, key: &str, value: &Value) -> Result<Name, NetRefusal>
     }
 }
 
-/// A required string in the form of a name.
+/// Reads a required string in the form of a name.
 ///
 /// # Errors
 ///

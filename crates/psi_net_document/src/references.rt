@@ -61,7 +61,7 @@ fn number_of(known: &KnownNames, text: &str) -> Option<usize>
     }
 }
 
-/// The number of the queue that a value names, counted from 0.
+/// Reads the number of the queue that a value names, counted from 0.
 ///
 /// # Errors
 ///
@@ -83,7 +83,7 @@ pub fn queue_in(
     }
 }
 
-/// The number of the queue that the value of a required key names, counted from 0.
+/// Reads the number of the queue that the value of a required key names, counted from 0.
 ///
 /// # Errors
 ///
@@ -100,7 +100,7 @@ pub fn required_queue(
     queue_in(place, key, known, value)
 }
 
-/// The number of the queue that a value names and that is none of the event's sources, counted from 0.
+/// Reads the number of the queue that a value names and that is none of the event's sources, counted from 0.
 ///
 /// # Errors
 ///
@@ -123,7 +123,7 @@ pub fn target_in(
     Ok(queue)
 }
 
-/// The number of the queue that the value of a required key names and that is none of the event's sources.
+/// Reads the number of the queue that the value of a required key names and that is none of the event's sources.
 ///
 /// # Errors
 ///
@@ -200,7 +200,7 @@ fn all_targets(
     Ok(queues)
 }
 
-/// The queues that the elements of an array name, in their order: each one once, and none of the event's
+/// Reads the queues that the elements of an array name, in their order: each one once, and none of the event's
 /// sources.
 ///
 /// # Errors
@@ -223,7 +223,7 @@ pub fn targets_in(
     all_targets(place, key, known, sources, values)
 }
 
-/// The queues that a list of at least one name names, as [`targets_in`] has them.
+/// Reads the queues that a list of at least one name names, as [`targets_in`] has them.
 ///
 /// # Errors
 ///
@@ -246,7 +246,7 @@ pub fn some_targets_in(
     all_targets(place, key, known, sources, values)
 }
 
-/// The queues that the list at a required key names, at least one, as [`targets_in`] has them.
+/// Reads the queues that the list at a required key names, at least one, as [`targets_in`] has them.
 ///
 /// # Errors
 ///

@@ -56,7 +56,7 @@ pub struct NetRefusal {
     pub key: Option<Name>,
 }
 
-/// Why a value of a file is refused; [`NetRefusal`] tells what each cause is.
+/// Why a value of a file is refused; [`NetRefusal`] has what each cause is.
 #[derive(Clone, Copy, Debug)]
 pub enum Cause {
     /// The file has too many bytes: 0.
@@ -126,7 +126,7 @@ impl Cause {
         }
     }
 
-    /// The refusal of the value at a key of a place; a key that hasn't the form of a name isn't given.
+    /// Returns the refusal of the value at a key of a place; a key that hasn't the form of a name isn't given.
     pub fn at_key(self, place: Place, key: &str) -> NetRefusal
         ensures { result ≡ at_key self place key.now }
     {
@@ -138,7 +138,7 @@ impl Cause {
         }
     }
 
-    /// The refusal of what stands at a place, without a key.
+    /// Returns the refusal of what stands at a place, without a key.
     pub fn at_place(self, place: Place) -> NetRefusal
         ensures { result ≡ at_place self place }
     {

@@ -13,7 +13,7 @@ few bytes named =
     let sized = (and_parts (nat_le 1 (length bytes) && nat_le (length bytes) 32) (list_all is_name_byte bytes) named).0 in
     leb-true (length bytes) 32 (and_parts (nat_le 1 (length bytes)) (nat_le (length bytes) 32) sized).1
 
--- the bytes, and zeros behind them, are 32
+-- the bytes, and zeros after them, are 32
 pub full : (bytes : List ℕ) → length bytes ≤ 32 → length (bytes ++ drop (length bytes) (replicate 32 0)) ≡ 32
 full bytes small = omega (arith, length-append {A = ℕ}, length-drop {A = ℕ})
 

@@ -12,7 +12,7 @@ use Rattle.psi_net_model.specs.Expansion.{at_server, served, served_by, expanded
 use Rattle.psi_net_model.specs.declared.entries.Queue.{Queue}
 use Rattle.psi_net_model.specs.declared.entries.NamedEvent.{NamedEvent}
 
--- the total of two lists of events, one behind the other
+-- the total of two lists of events, one after another
 pub total_map : (f : NamedEvent → ℕ) (xs ys : List NamedEvent) → total (map f (xs ++ ys)) ≡ total (map f xs) + total (map f ys)
 total_map f [] ys = omega arith
 total_map f (x ∷ xs) ys = (let rest = total_map f xs ys in omega arith)
@@ -56,7 +56,7 @@ pub served_more : (n : ℕ) (event : NamedEvent) → served_by (n + 1) event ≡
 unfolding served_by
 served_more n event = map_more (served event) n
 
--- no server, and one server more behind others
+-- no server, and one server more after others
 pub served_start : (events : List NamedEvent) (event : NamedEvent) → events ≡ events ++ served_by 0 event
 unfolding served_by
 served_start events event = sym (append-nil events)

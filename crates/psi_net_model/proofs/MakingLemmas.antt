@@ -45,7 +45,7 @@ pub queues_count : (n : ℕ) → length (generated_queues n) ≡ queue_count n
 unfolding generated_queues
 queues_count n = length-map (numbers_from 1 (queue_count n)) (nth_queue n) ∙ length_numbers 1 (queue_count n)
 
--- events behind others, expanded over servers
+-- events after others, expanded over servers
 pub none_passing : (queues : List Queue) (before : List NamedEvent) → before ≡ before ++ flat_map (expanded queues) (map passing_event (numbers_from 1 0))
 none_passing queues before = sym (append-nil before)
 
@@ -70,7 +70,7 @@ odd_more queues before middle after n odd bulk negative =
 pub even_more : (queues : List Queue) (before : List NamedEvent) (n : ℕ) → (n % 2 ≡ 1 → ⊥) → before ≡ before ++ flat_map (expanded queues) (odd_events n)
 even_more queues before n even = rw (ne_eqb (n % 2) 1 even) (sym (append-nil before))
 
--- the events one part behind another
+-- the events one part after another
 pub all_joined : (n : ℕ) (queues : List Queue) (first passing leaving all : List NamedEvent) → queues ≡ generated_queues n → first ≡ [] ++ expanded queues arrival_event
     → passing ≡ first ++ flat_map (expanded queues) (map passing_event (numbers_from 1 (queue_count n - 1))) → leaving ≡ passing ++ expanded queues (leaving_event (queue_count n))
     → all ≡ leaving ++ flat_map (expanded queues) (odd_events n) → all ≡ generated_events n

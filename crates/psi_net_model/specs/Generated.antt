@@ -20,7 +20,7 @@ server_of i = record { queue = i - 1; k = 1 }
 abbrev pub arrival_event : NamedEvent
 arrival_event = record { name = codes "in"; server = 1; rate = 8; kind = Arrival (0 ∷ 1 ∷ []) }
 
--- a customer for whom the next queue has no room stays behind odd i, and is lost behind even i
+-- a customer for whom the next queue has no room stays after odd i, and is lost after even i
 abbrev pub full_behind : ℕ → Full
 full_behind i = if i % 2 == 1 then Stay else Lost
 

@@ -1,4 +1,4 @@
--- A name is told by its bytes: behind them its array of 32 has zeros.
+-- A name is determined by its bytes: after them its array of 32 has zeros.
 use Rattle.std.specs.Prelude.{◌≡◌, ℕ, ◌-◌, ◌≤◌, List, length, take, drop, replicate, ◌++◌}
 use Rattle.psi_state.specs.ArraysKept.{filled}
 use Rattle.psi_net_model.specs.declared.name.Name.TheInside.{Inside}
@@ -7,7 +7,7 @@ use Rattle.psi_net_model.specs.declared.name.Name.TheInside.{Inside}
 abbrev inside : List ℕ → ℕ → Inside
 inside cells len = record { cells = cells; len = len }
 
--- behind its bytes a name's array of 32 has zeros alone
+-- after its bytes a name's array of 32 has zeros alone
 pub padded : (cells : List ℕ) (len : ℕ) → len ≤ 32 → length cells ≡ 32 → drop len cells ≡ replicate (32 - len) 0
     → inside (take len cells ++ replicate (32 - length (take len cells)) 0) (length (take len cells)) ≡ inside cells len
 padded cells len few full rest = filled inside 0 cells len few full rest

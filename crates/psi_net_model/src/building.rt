@@ -16,7 +16,7 @@ use psi_reward::{Reward, RewardKind};
 use psi_state::State;
 use std::alloc::{AllocError, Global};
 
-/// The capacities of the queues, in their order: those of the network's states.
+/// Returns the capacities of the queues, in their order: those of the network's states.
 #[tactic(auto, using(crate::proofs::QueueLemmas::capacities_kept))]
 pub fn capacities(queues: &[Queue]) -> State
     requires { AreListed queues.now }
@@ -83,7 +83,7 @@ pub(crate) fn wheel(alloc: Global, rates: &[u32]) -> Result<Wheel, OutOfMemory>
     }
 }
 
-/// The reward of a kind that isn't refused, with these capacities.
+/// Returns the reward of a kind that isn't refused, with these capacities.
 #[tactic(auto, using(crate::proofs::RewardLemmas::not_refused))]
 pub fn accepted_reward(caps: State, kind: RewardKind) -> Reward
     requires valid { AreCapacities caps }

@@ -15,7 +15,7 @@ use std::alloc::Global;
 /// The most index values that the expanded events of a network may have together.
 pub const MOST_INDEX_VALUES: u32 = 262_144;
 
-/// The single source of a kind: the queue, and its server, from which the event takes a customer. `None` for
+/// Returns the single source of a kind: the queue, and its server, from which the event takes a customer. `None` for
 /// a kind without one: an arrival, a batch, a join, a guarded event, and where `from` is left out.
 pub fn source_of(kind: &Kind) -> Option<Source>
     ensures { result ≡ source_of kind.now }
@@ -32,7 +32,7 @@ pub fn source_of(kind: &Kind) -> Option<Source>
     }
 }
 
-/// How many servers the queue of the source has, and 1 where there is no source: an event becomes as many.
+/// Returns how many servers the queue of the source has, and 1 where there is no source: an event becomes as many.
 #[tactic(auto, using(crate::proofs::ServersLemmas::servers_read))]
 pub fn servers_at(queues: &[Queue], source: Option<Source>) -> u16
     requires { IfSome source (λ source. source.queue < length queues.now) }
@@ -95,12 +95,12 @@ fn at_server(alloc: Global, k: u16, kind: &Kind) -> Result<Kind, OutOfMemory>
     Ok(kind)
 }
 
-/// Puts the event behind the others once for each of the first `servers` servers of its source, in their
+/// Appends the event once for each of the first `servers` servers of its source, in their
 /// order.
 ///
 /// # Errors
 ///
-/// [`OutOfMemory`] where there is no memory for them; some of them may then stand behind the others.
+/// [`OutOfMemory`] if an allocation fails; some of them may then stand after the others.
 #[tactic(auto, using(crate::proofs::CopyLemmas::served_start, crate::proofs::CopyLemmas::served_next))]
 pub fn push_expanded(
     alloc: Global,
@@ -132,7 +132,7 @@ fn index_all(alloc: Global, events: &mut [NamedEvent]) -> Result<(), OutOfMemory
     Ok(())
 }
 
-// The events one behind the other, each once for each server of its source.
+// The events one after another, each once for each server of its source.
 #[tactic(auto, using(crate::proofs::CopyLemmas::expanded_more))]
 fn all_served(
     alloc: Global,
@@ -150,12 +150,12 @@ fn all_served(
     Ok(all)
 }
 
-/// What was said of a network whose events aren't expanded yet, with each event once for each server of its source, in
-/// their order. The tables of an index event are made once, and its servers share them.
+/// Returns what was said of a network whose events aren't expanded yet, with each event once for each server of its
+/// source, in their order. The tables of an index event are made once, and its servers share them.
 ///
 /// # Errors
 ///
-/// [`OutOfMemory`] where there is no memory for the events.
+/// [`OutOfMemory`] if an allocation fails.
 pub fn expand(alloc: Global, draft: Draft) -> Result<Draft, OutOfMemory>
     requires sources { AreSourced draft.queues.items draft.events.items }
     requires whole { IsWhole draft }
@@ -190,7 +190,7 @@ fn table_values(tables: &Tables) -> Option<u32>
     Some(values as u32)
 }
 
-/// The number of index values of a kind, one for each target and number of its customers, and `None` exactly
+/// Returns the number of index values of a kind, one for each target and number of its customers, and `None` exactly
 /// where it is above [`MOST_INDEX_VALUES`]. Only an index has any.
 pub fn index_values(kind: &Kind) -> Option<u32>
     ensures { MatchOption result (most_index_values < values_in kind.now) (λ values. (values ≡ values_in kind.now) × (values ≤ most_index_values)) }

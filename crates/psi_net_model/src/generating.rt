@@ -31,7 +31,7 @@ fn queue_count(number: u16) -> u8
     4 + (number % 13) as u8
 }
 
-// The name that is a letter and a number behind it.
+// The name that is a letter and a number after it.
 fn numbered(alloc: Global, letter: &str, i: u8) -> Result<Name, OutOfMemory>
     requires { is_name (letter.now ++ decimal i) ≡ true }
     ensures { IfOk result (λ name. name ≡ letter.now ++ decimal i) }
@@ -175,7 +175,7 @@ fn negative_event(last: u8) -> NamedEvent
     }
 }
 
-// Puts an event behind the others, expanded over the servers of its source.
+// Appends an event, expanded over the servers of its source.
 fn push_event(
     alloc: Global,
     queues: &[Queue],
@@ -189,7 +189,7 @@ fn push_event(
     push_expanded(alloc, events, event, servers)
 }
 
-// Puts the services of so many queues behind the other events.
+// Appends the services of `count` queues to the events.
 #[tactic(auto, using(crate::proofs::MakingLemmas::none_passing, crate::proofs::MakingLemmas::passing_more))]
 fn push_passing(
     alloc: Global,
@@ -208,7 +208,7 @@ fn push_passing(
     Ok(())
 }
 
-// Puts the events of an odd number behind the others.
+// Appends the events of an odd number.
 #[tactic(auto, using(crate::proofs::MakingLemmas::odd_more, crate::proofs::MakingLemmas::even_more))]
 fn push_odd(
     alloc: Global,
@@ -242,7 +242,7 @@ fn all_events(alloc: Global, number: u16, queues: &[Queue]) -> Result<Vec<NamedE
     Ok(events)
 }
 
-// The first so many queues.
+// The first `count` queues.
 #[tactic(auto, using(crate::proofs::MakingLemmas::numbers_next, crate::proofs::MakingLemmas::numbers_room))]
 fn first_queues(count: u8) -> Queues
     requires { count ≤ 32 }
@@ -255,7 +255,7 @@ fn first_queues(count: u8) -> Queues
     queues
 }
 
-// So many weights of 1.
+// `count` weights of 1.
 fn ones(alloc: Global, count: u8) -> Result<Numbers, OutOfMemory>
     ensures { IfOk result (λ weights. weights ≡ replicate count (pos 1)) }
 {
@@ -299,7 +299,7 @@ fn all_rewards(alloc: Global, number: u16, caps: State) -> Result<Vec<RewardEntr
     Ok(rewards)
 }
 
-/// The network of a number: a large valid network, for trials.
+/// Returns the network of a number: a large valid network, for trials.
 ///
 /// It has `q`, 4 plus the number modulo 13, queues `q1`, `q2`, .., of which the i-th, i from 1, has
 /// capacity 8 plus `5 i + number` modulo 25, in customers, and 1 plus `i + number` modulo 3 servers. Its
@@ -318,7 +318,7 @@ fn all_rewards(alloc: Global, number: u16, caps: State) -> Result<Vec<RewardEntr
 ///
 /// # Errors
 ///
-/// [`OutOfMemory`] where there is no memory for the network.
+/// [`OutOfMemory`] if an allocation fails.
 #[tactic(auto, using(crate::proofs::KeptGeneratedLemmas::queues_kept, crate::proofs::KeptGeneratedLemmas::capacities_count, crate::proofs::KeptGeneratedLemmas::generated_kept), unfolding(crate::specs::Generated::generated_network))]
 pub fn generated(alloc: Global, number: u16) -> Result<Net, OutOfMemory>
     ensures { IfOk result (λ net. net ≡ generated_network number) }

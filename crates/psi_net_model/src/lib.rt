@@ -22,5 +22,5 @@ pub use generating::generated;
 pub use name::{Name, name_from, name_of};
 pub use net::Net;
 
-/// There was no memory: the only way in which a call with this error fails.
+/// An allocation failed: the only way in which a call with this error fails.
 pub use std::alloc::AllocError as OutOfMemory;

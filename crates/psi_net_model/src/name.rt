@@ -41,7 +41,7 @@ impl Model for Name {
 }
 
 impl Name {
-    /// The bytes of the name, all of them ASCII.
+    /// Returns the bytes of the name, all of them ASCII.
     pub fn bytes(&self) -> &[u8]
         ensures value { result.now ≡ self.now }
         ensures form { IsTrue (is_name self.now) }
@@ -102,7 +102,7 @@ fn is_name(bytes: &[u8]) -> bool
     1 <= bytes.len() && bytes.len() <= 32 && are_name_bytes(bytes)
 }
 
-/// The name of bytes that have the form of one.
+/// Returns the name of bytes that have the form of one.
 #[tactic(auto, using(crate::proofs::CellsLemmas::few, crate::proofs::CellsLemmas::filled, crate::proofs::CellsLemmas::full, crate::proofs::CellsLemmas::front))]
 pub fn name_from(bytes: &[u8]) -> Name
     requires { is_name bytes.now ≡ true }
@@ -117,7 +117,7 @@ pub fn name_from(bytes: &[u8]) -> Name
     }
 }
 
-/// The name that a text is, or `None` where it hasn't the form of one: 1 to 32 bytes among the ASCII letters
+/// Returns the name that a text is, or `None` where it hasn't the form of one: 1 to 32 bytes among the ASCII letters
 /// and digits, `_` and `-`.
 pub fn name_of(text: &str) -> Option<Name>
     ensures { result ≡ name_of text.now }

@@ -55,11 +55,11 @@ impl Net {
     ghost use Rattle.psi_kinds.specs.Kinds.{do_kind};
     ghost use Rattle.psi_kinds.specs.Moves.{moved, IsMove, move_of};
 
-    /// The network of what was said of it, of which nothing is refused.
+    /// Returns the network of what was said of it, of which nothing is refused.
     ///
     /// # Errors
     ///
-    /// [`OutOfMemory`] where there is no memory for what a sample runs.
+    /// [`OutOfMemory`] if an allocation fails.
     #[tactic(auto, using(crate::proofs::QueueLemmas::capacities_kept))]
     pub fn made(alloc: Global, draft: Draft) -> Result<Net, OutOfMemory>
         requires kept { IsNetwork (drafted draft) }
@@ -81,7 +81,7 @@ impl Net {
         })
     }
 
-    /// The number of queues, 1 to 32.
+    /// Returns the number of queues, 1 to 32.
     ///
     /// Its second clause is how a caller learns what every network keeps.
     pub fn queues(&self) -> u8
@@ -91,7 +91,7 @@ impl Net {
         self.queues.len() as u8
     }
 
-    /// The name of queue `i`; queues are counted from 0.
+    /// Returns the name of queue `i`; queues are counted from 0.
     pub fn name(&self, i: u8) -> Name
         requires { i < length self.now.queues }
         ensures { option_map (λ q. q.name) (slice_get self.now.queues i) ≡ Some result }
@@ -99,7 +99,7 @@ impl Net {
         self.queues[i as usize].name
     }
 
-    /// The capacity of queue `i`, in customers, 1 to 65,535; queues are counted from 0.
+    /// Returns the capacity of queue `i`, in customers, 1 to 65,535; queues are counted from 0.
     pub fn capacity(&self, i: u8) -> u16
         requires { i < length self.now.queues }
         ensures { option_map (λ q. q.capacity) (slice_get self.now.queues i) ≡ Some result }
@@ -107,7 +107,7 @@ impl Net {
         self.queues[i as usize].capacity
     }
 
-    /// The number of servers of queue `i`, 1 to 64 and at most its capacity; queues are counted from 0.
+    /// Returns the number of servers of queue `i`, 1 to 64 and at most its capacity; queues are counted from 0.
     pub fn servers(&self, i: u8) -> u16
         requires { i < length self.now.queues }
         ensures { option_map (λ q. q.servers) (slice_get self.now.queues i) ≡ Some result }
@@ -115,7 +115,7 @@ impl Net {
         self.queues[i as usize].servers
     }
 
-    /// The number of events, expanded over servers, 1 to 1,024.
+    /// Returns the number of events, expanded over servers, 1 to 1,024.
     pub fn events(&self) -> u16
         ensures count { result ≡ length self.now.events }
         ensures kept { IsNetwork self.now }
@@ -123,7 +123,7 @@ impl Net {
         self.events.len() as u16
     }
 
-    /// The name of event `e`; expanded events are counted from 0. The servers' events of one table share
+    /// Returns the name of event `e`; expanded events are counted from 0. The servers' events of one table share
     /// its name.
     pub fn event_name(&self, e: u16) -> Name
         requires { e < length self.now.events }
@@ -132,7 +132,7 @@ impl Net {
         self.events[e as usize].name
     }
 
-    /// The number of the server of event `e`, counted from 1, and 1 for an event without a single source;
+    /// Returns the number of the server of event `e`, counted from 1, and 1 for an event without a single source;
     /// expanded events are counted from 0.
     pub fn event_server(&self, e: u16) -> u16
         requires { e < length self.now.events }
@@ -141,7 +141,7 @@ impl Net {
         self.events[e as usize].server
     }
 
-    /// The rate of event `e`, 1 to 1,048,576; expanded events are counted from 0.
+    /// Returns the rate of event `e`, 1 to 1,048,576; expanded events are counted from 0.
     pub fn event_rate(&self, e: u16) -> u32
         requires { e < length self.now.events }
         ensures { option_map (λ v. v.rate) (slice_get self.now.events e) ≡ Some result }
@@ -149,7 +149,7 @@ impl Net {
         self.events[e as usize].rate
     }
 
-    /// The move that event `e` is, if it is one; expanded events are counted from 0.
+    /// Returns the move that event `e` is, if it is one; expanded events are counted from 0.
     ///
     /// An event is a move where it is a service with one queue to go to, and customers stay where that queue
     /// is full: then one customer goes from queue to queue, or nothing changes. The last clause says that
@@ -173,14 +173,14 @@ impl Net {
         &self.events[e as usize]
     }
 
-    /// The number of rewards, 0 to 64.
+    /// Returns the number of rewards, 0 to 64.
     pub fn rewards(&self) -> u8
         ensures { result ≡ length self.now.rewards }
     {
         self.rewards.len() as u8
     }
 
-    /// The name of reward `r`; rewards are counted from 0.
+    /// Returns the name of reward `r`; rewards are counted from 0.
     #[tactic(auto, using(crate::proofs::PartsLemmas::got_named))]
     pub fn reward_name(&self, r: u8) -> Name
         requires { r < length self.now.rewards }
@@ -189,7 +189,7 @@ impl Net {
         self.rewards[r as usize].name
     }
 
-    /// The reward `r`, with the network's capacities; rewards are counted from 0.
+    /// Returns the reward `r`, with the network's capacities; rewards are counted from 0.
     #[tactic(auto, using(crate::proofs::PartsLemmas::got_named))]
     pub fn reward(&self, r: u8) -> &Reward
         requires { r < length self.now.rewards }
@@ -199,7 +199,7 @@ impl Net {
         &self.rewards[r as usize].reward
     }
 
-    /// The network as a sample runs it: its capacities, its events in order, the wheel of their rates in
+    /// Returns the network as a sample runs it: its capacities, its events in order, the wheel of their rates in
     /// that order, its limit and its split number.
     ///
     /// Its last clause says what every network keeps.

@@ -5,7 +5,7 @@ use Rattle.std.specs.Prelude.{length, slice_index}
 use Rattle.rand_chacha.specs.ChaCha.{ChaCha, word_at}
 use Rattle.psi_past.specs.Drawn.{Draws}
 
--- more behind others
+-- more after others
 pub draws-more : (some more both at next : ℕ) (g h k : ChaCha) (xs ys zs : List ℕ) → Draws some at g h xs ys → Draws more next h k ys zs
     → next ≡ at + some → both ≡ some + more → Draws both at g k xs zs
 draws-more some more both at next g h k xs ys zs first second place sum = record {

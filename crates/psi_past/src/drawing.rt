@@ -26,7 +26,7 @@ pub(crate) fn draw(generator: &mut ChaCha20Rng, place: u32, out: &mut [u32])
     }
 }
 
-// Draws so many blocks, the first of which has this number.
+// Draws `blocks` blocks, the first of which has the number `first`.
 fn draw_blocks(generator: &mut ChaCha20Rng, first: usize, out: &mut [u32], blocks: usize)
     requires place { generator.old.word_pos ≡ 64 * first }
     requires few { first < 2 ^ 32 }
@@ -35,7 +35,7 @@ fn draw_blocks(generator: &mut ChaCha20Rng, first: usize, out: &mut [u32], block
     ensures { Draws (64 * blocks) 0 generator.old generator.new out.old out.new }
 {
     for block in 0..blocks {
-        // It stands there already. But as the place is told to be a block's first, the compiler
+        // It stands there already. But as the place is set to a block's first, the compiler
         // knows that nothing is left of the block before, and doesn't ask so at each word.
         generator.set_word_pos((BLOCK * (first + block)) as u128);
         draw_block(generator, out, BLOCK * block);

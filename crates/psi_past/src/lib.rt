@@ -21,5 +21,5 @@ pub use past::Past;
 pub use seed::SeedPast;
 pub use windowed::Windowed;
 
-/// There was no memory: the only way in which a call with this error fails.
+/// An allocation failed: the only way in which a call with this error fails.
 pub use std::alloc::AllocError as OutOfMemory;

@@ -20,7 +20,7 @@ impl Model for ListPast {
 }
 
 impl ListPast {
-    /// The past whose word at each place is that of the list, and 0 past the list's end.
+    /// Returns the past whose word at each place is that of the list, and 0 past the list's end.
     pub fn new(words: Vec<u32>) -> ListPast
         ensures { result ≡ words.items }
     {

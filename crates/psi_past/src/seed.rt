@@ -44,7 +44,7 @@ impl Model for SeedPast {
 }
 
 impl SeedPast {
-    /// The past of a seed and a stream's number, each any number of 64 bits.
+    /// Returns the past of a seed and a stream's number, each any number of 64 bits.
     pub fn new(seed: u64, stream: u64) -> SeedPast
         ensures { result ≡ record { seed = seed; stream = stream } }
     {

@@ -36,7 +36,7 @@ impl<P: Past + Drop> Model for Windowed<P> {
 }
 
 impl<P: Past + Drop> Windowed<P> {
-    /// A past, of which no word is drawn yet.
+    /// Returns a past, of which no word is drawn yet.
     pub fn new(past: P) -> Windowed<P>
         ensures { result ≡ past }
     {

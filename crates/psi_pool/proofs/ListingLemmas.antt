@@ -48,7 +48,7 @@ there-last xs y x some read tied =
     let more = positive (length xs) some in
     subst (λ (w : List ℕ). In w xs) (sym (same-from_cmp x y tied ∙ read)) (In-got xs (length xs - 1) y (omega arith))
 
--- a state above each of an ascending list comes behind it
+-- a state above each of an ascending list comes after it
 pub rising-more : (xs : List (List ℕ)) (x : List ℕ) → IsRising xs → ((z : List ℕ) → In z xs → state_cmp z x ≡ Less) → IsRising (xs ++ x ∷ [])
 rising-more [] x rising above = (λ z none. absurd none, tt)
 rising-more (y ∷ xs) x rising above = (
@@ -185,7 +185,7 @@ In-listed (x ∷ xs) z member = elim member [
   | inr t ↦ (let found = In-listed xs z t in (suc found.0, (let small = found.1 in omega arith), found.2))
 ]
 
--- of the states of a list and of the first nodes, so many still wait, and the others stand behind these in the nodes
+-- of the states of a list and of the first nodes, so many still wait, and the others stand after these in the nodes
 pub record IsMerging (all xs : List (List ℕ)) (nodes : List Node) (total listed aside : ℕ) : Type 0 where
   pub there : (z : List ℕ) → In z all → ListedIn xs listed z ⊎ (StandsIn nodes 0 aside z ⊎ StandsIn nodes (listed + aside) total z)
   pub back : (z : List ℕ) → ListedIn xs listed z ⊎ (StandsIn nodes 0 aside z ⊎ StandsIn nodes (listed + aside) total z) → In z all
@@ -239,7 +239,7 @@ module _ (nodes : List Node) (place : ℕ) (w : Node) (within : place < length n
   pub written-other : (i : ℕ) → (i ≡ place → ⊥) → (node_at (slice_set nodes place w) i).state ≡ (node_at nodes i).state
   written-other i apart = ap (λ (n : Node). n.state) (get_or-set_other nodes place i w (record { state = []; next = 4096 }) apart)
 
--- the last listed state that waits comes behind those that wait
+-- the last listed state that waits comes after those that wait
 pub merging-listed : (all xs : List (List ℕ)) (nodes : List Node) (total listed aside : ℕ) (w : Node) → IsMerging all xs nodes total (suc listed) aside
     → w.state ≡ get_or xs listed [] → IsMerging all xs (slice_set nodes (listed + aside) w) total listed aside
 merging-listed all xs nodes total listed aside w merging came =
@@ -306,7 +306,7 @@ merging-listed all xs nodes total listed aside w merging came =
       room = omega arith;
     }
 
--- the last of the first nodes comes behind those that wait
+-- the last of the first nodes comes after those that wait
 pub merging-node : (all xs : List (List ℕ)) (nodes : List Node) (total listed aside : ℕ) (w : Node) → IsMerging all xs nodes total (suc listed) (suc aside)
     → w.state ≡ (node_at nodes aside).state → IsMerging all xs (slice_set nodes (suc listed + aside) w) total (suc listed) aside
 merging-node all xs nodes total listed aside w merging came =

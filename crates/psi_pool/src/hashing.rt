@@ -5,7 +5,7 @@ ghost use Rattle.psi_pool.specs.BucketsKept.{bucket};
 
 use psi_state::State;
 
-/// The bucket of a state among so many.
+/// Returns the bucket of a state among `used` buckets.
 #[inline]
 #[tactic(auto, unfolding(crate::specs::BucketsKept::bucket))]
 pub(crate) fn bucket_of(x: &State, used: usize) -> usize

@@ -29,7 +29,7 @@ pub(crate) struct Node {
     pub(crate) next: u16,
 }
 
-/// So many nodes, all of them free.
+/// Makes `most` nodes, all of them free.
 pub(crate) fn free_nodes(alloc: Global, most: u16) -> Result<Vec<Node>, AllocError>
     ensures { IfOk result (λ nodes. length nodes.items ≡ most) }
 {
@@ -43,7 +43,7 @@ pub(crate) fn free_nodes(alloc: Global, most: u16) -> Result<Vec<Node>, AllocErr
     Ok(nodes)
 }
 
-/// The heads of so many buckets, all of them empty.
+/// Makes the heads of `count` buckets, all of them empty.
 pub(crate) fn free_heads(alloc: Global, count: u16) -> Result<Vec<u16>, AllocError>
     ensures count { IfOk result (λ heads. length heads.items ≡ count) }
     ensures none { IfOk result (λ heads. (b : ℕ) → b < count → slice_index heads.items b ≡ 4096) }
@@ -84,7 +84,7 @@ pub(crate) fn has(nodes: &[Node], heads: &[u16], home: usize, x: &State) -> bool
     false
 }
 
-// Links the node at a place into its bucket where its state is new, and answers whether it is.
+// Links the node at a place into its bucket where its state is new, and returns whether it is.
 #[inline]
 fn link(nodes: &mut [Node], heads: &mut [u16], place: usize) -> bool
     requires place { place < length nodes.old }
@@ -176,7 +176,7 @@ pub(crate) fn move_first<E: EventLaw>(nodes: &mut [Node], len: usize, e: &E)
     move_on(&mut nodes[..len], e);
 }
 
-/// Links the first `len` nodes again, into the first `used` buckets. Answers how many nodes are in use from then on.
+/// Links the first `len` nodes again, into the first `used` buckets. Returns how many nodes are in use from then on.
 pub(crate) fn relink(nodes: &mut [Node], heads: &mut [u16], used: usize, len: usize) -> usize
     requires some { 1 ≤ used }
     requires few { used ≤ 16385 }
@@ -224,9 +224,9 @@ fn link_all(nodes: &mut [Node], heads: &mut [u16]) -> usize
     left
 }
 
-/// Lists the states of the first `len` nodes in ascending order where the nodes are in it, and answers 0 then. Else some
-/// states aren't listed, and the answer is how many nodes have one of these: the listed ones and these are put into the
-/// first nodes, in their order where these are ascending by themselves.
+/// Lists the states of the first `len` nodes in ascending order where the nodes are in it, and returns 0 then. Else
+/// some states aren't listed, and the answer is how many nodes have one of these: the listed ones and these are put
+/// into the first nodes, in their order where these are ascending by themselves.
 pub(crate) fn list_first(nodes: &mut [Node], len: usize, out: &mut Vec<State>) -> usize
     requires len { len ≤ length nodes.old }
     requires room { len ≤ vec_capacity out.old }
@@ -291,7 +291,7 @@ fn list_ascending(nodes: &mut [Node], out: &mut Vec<State>) -> usize
     aside
 }
 
-// Puts a state behind ascending ones that it is above. The answer is whether it is among them then.
+// Puts a state after ascending ones that it is above. The answer is whether it is among them then.
 #[inline]
 fn extend(out: &mut Vec<State>, x: &State) -> bool
     requires rising { IsRising out.old.items }

@@ -32,7 +32,7 @@ impl Model for Pace {
 }
 
 impl Pace {
-    /// The pace of a list whose first step is to come: repeats are taken out after 4 steps.
+    /// Returns the pace of a list whose first step is to come: repeats are taken out after 4 steps.
     pub fn start() -> Pace
         ensures { result ≡ counts_of 4 }
     {
@@ -50,7 +50,7 @@ impl Pace {
         self.left = self.left.min(self.every.saturating_sub(1));
     }
 
-    /// Counts a step, and answers whether repeats are to be taken out after it.
+    /// Counts a step, and returns whether repeats are to be taken out after it.
     #[inline]
     pub fn is_due(&mut self) -> bool
         ensures counted { self.new ≡ record { every = self.old.every; left = self.old.left - 1 } }

@@ -27,8 +27,8 @@ const MERGES: u8 = 3;
 /// A set of at most `most` states, seen as the lexicographically ascending list of them, and the count of the steps
 /// after which nodes are given back.
 ///
-/// All its memory is taken by `reserve`: one vector of nodes, linked by index, the heads of the buckets, and
-/// room for the list of the states. No other call takes memory. The work of a step grows with the number of
+/// `reserve` allocates all its memory: one vector of nodes, linked by index, the heads of the buckets, and
+/// room for the list of the states. No other call allocates. The work of a step grows with the number of
 /// states, not with the room for them: it moves each on. States that became one may stand in several nodes until
 /// the next links, which come after 4 to 1,024 steps: these pass over four buckets for each state, and look for
 /// each among those of its bucket. Where all steps of the count are left, each state stands in one node. The hash is fixed, so a network can be made whose states share one bucket,
@@ -55,9 +55,9 @@ impl Model for Pool {
 }
 
 impl Pool {
-    /// The empty set, with room for `most` states: 1 to 4,096.
+    /// Returns the empty set, with room for `most` states: 1 to 4,096.
     ///
-    /// `OutOfMemory` is the answer where there is no memory for it; no clause says when that is.
+    /// Returns `OutOfMemory` if an allocation fails; no clause says when that is.
     pub fn reserve(alloc: Global, most: u16) -> Result<Pool, OutOfMemory>
         requires least { 1 ≤ most }
         requires most { most ≤ 4096 }
@@ -73,7 +73,7 @@ impl Pool {
         })
     }
 
-    /// The number of states.
+    /// Returns the number of states.
     ///
     /// The work may grow with the square of their number where another call than `contains` or `most` came after the
     /// last `insert`. Its other clauses are those of `most`.
@@ -85,7 +85,7 @@ impl Pool {
         self.table.count()
     }
 
-    /// The number of states that there is room for.
+    /// Returns the number of states that there is room for.
     ///
     /// Its other clauses are how a caller learns what every `Pool` keeps: there are no more states than
     /// there is room for, and their list is ascending without repeats.
@@ -105,14 +105,14 @@ impl Pool {
         self.pace = Pace::start();
     }
 
-    /// Whether `x` is in the set.
+    /// Returns whether `x` is in the set.
     pub fn contains(&self, x: &State) -> bool
         ensures { IsTrue result ↔ In x.now self.now.states }
     {
         self.table.has(x)
     }
 
-    /// Puts `x` into the set, and answers whether it was not there. There has to be room for it, or it is
+    /// Puts `x` into the set, and returns whether it was not there. There has to be room for it, or it is
     /// there already.
     pub fn insert(&mut self, x: State) -> bool
         requires room { (length self.old.states < self.old.most) ⊎ In x self.old.states }
@@ -125,8 +125,8 @@ impl Pool {
         self.table.put(x)
     }
 
-    /// Puts `x` into the set, whether it was there or not: cheaper than `insert`, which tells. There has to be room
-    /// for a state more.
+    /// Puts `x` into the set, whether it was there or not: cheaper than `insert`, which returns which. There has to be
+    /// space for a state more.
     #[inline]
     pub fn add(&mut self, x: State)
         requires room { length self.old.states < self.old.most }
@@ -153,7 +153,7 @@ impl Pool {
         link_when_due(&mut self.table, &mut self.pace);
     }
 
-    /// The states in ascending order. The set stays as it is.
+    /// Returns the states in ascending order. The set stays as it is.
     pub fn walk(&mut self) -> &[State]
         ensures states { result.now ≡ self.old.states }
         ensures* same { sem 𝓛 (follows_so the_row the_row self.entry.ghost_name none (λ _ _. ⊤) (λ v. v ≡ self.old)) }
@@ -162,7 +162,7 @@ impl Pool {
         self.order.as_slice()
     }
 
-    /// The state of a set that has one, and `None` where it has none or several.
+    /// Returns the state of a set that has one, and `None` where it has none or several.
     pub fn only(&self) -> Option<State>
         ensures { result ≡ single self.now.states }
     {

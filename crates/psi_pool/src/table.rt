@@ -32,7 +32,7 @@ pub(crate) struct Table {
     pub(crate) is_linked: bool,
 }
 
-// The number of buckets for so many states: four for each keep the chains short where the hash spreads the
+// The number of buckets for `states` states: four for each keep the chains short where the hash spreads the
 // states, which no clause promises.
 fn buckets_for(states: u16) -> u16
     requires { states ≤ 4096 }
@@ -99,7 +99,7 @@ impl Table {
         has(nodes, heads, home, x)
     }
 
-    /// Puts the state in where it isn't there, and answers whether it was not. The nodes are linked.
+    /// Puts the state in where it isn't there, and returns whether it was not. The nodes are linked.
     pub(crate) fn put(&mut self, x: State) -> bool
         requires table { IsTable self.old }
         requires linked { self.old.is_linked ≡ true }

@@ -11,7 +11,7 @@ use std::process::ExitCode;
 use std::rt::Env;
 use std::{env, io};
 
-/// The exit status where there is no memory for the words; that of each program where there was not enough memory.
+/// The exit status if an allocation for the arguments fails; that of each program if an allocation fails.
 const NO_MEMORY: u8 = 8;
 
 /// The exit status where the system can't give the words, as those that aren't UTF-8.
@@ -24,8 +24,8 @@ const NO_WORDS: u8 = 13;
 pub trait Program {
     ghost is_run: { Self → Run → Type 0 } = { λ _ _. Unit {0} };
 
-    /// Does what the words ask for, over a shelf of files and two sinks, and answers the exit status. What crosses these
-    /// in the call is a run of the program, whatever the shelf and the sinks tell.
+    /// Does what the words ask for, over a shelf of files and two sinks, and returns the exit status. What crosses
+    /// these in the call is a run of the program, whatever the models of the shelf and the sinks have.
     fn run<F: Shelf, O: Sink, E: Sink>(
         &self,
         alloc: Global,
@@ -51,8 +51,8 @@ fn words<R: Env + Alloc<A = Global>>(rt: &R) -> io::Result<Vec<String>> {
 
 /// Runs a program once, over the words of the system, a shelf and two sinks.
 ///
-/// The exit status is 8 where there is no memory for the words, and 13 where the system can't give them; the shelf and
-/// the sinks are then left alone. Otherwise what crosses the shelf and the sinks is a run of the program.
+/// The exit status is 8 if an allocation for the arguments fails, and 13 where the system can't give them; the shelf
+/// and the sinks are then left alone. Otherwise what crosses the shelf and the sinks is a run of the program.
 pub fn start<P: Program, R: Env + Alloc<A = Global>, F: Shelf, O: Sink, E: Sink>(
     program: &P,
     rt: &R,

@@ -24,8 +24,8 @@ fn status_of<S: Copy>(written: Result<(), SinkFault>, status: S, fault: S) -> S
     }
 }
 
-/// Writes the text with which a call ends, as one piece, and answers the call's status, or the one of a fault where the
-/// text couldn't be written whole. It takes no memory.
+/// Writes the text with which a call ends, as one piece, and returns the call's status, or the one of a fault where the
+/// text couldn't be written whole. It does not allocate.
 pub fn finish<S: Copy, O: Sink, E: Sink>(
     status: S,
     fault: S,

@@ -25,7 +25,7 @@ numbers-length rates words (suc t) =
     let sum = length-append (numbers_below rates words t) (unless_idle (length rates) number) in
     omega arith
 
--- the numbers of a list of words stand behind those of the places before it
+-- the numbers of a list of words stand after those of the places before it
 numbers-behind : (rates : List ℕ) (words : ℕ → ℕ) (first n : ℕ) (drawn : List ℕ) → ((i : ℕ) → i < n → slice_index drawn i ≡ words (first + i))
     → numbers_below rates words first ++ numbers_below rates (slice_index drawn) n ≡ numbers_below rates words (first + n)
 numbers-behind rates words first zero drawn are =

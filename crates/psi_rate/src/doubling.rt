@@ -36,11 +36,11 @@ pub trait Answers {
         ensures asked { IsAsked self.new };
 }
 
-/// The first answer among those at the horizons 1, 2, 4, .., 2 to the power `limit`, with its horizon; nothing exactly
-/// where none of these has one. The horizons are doubled as those of coupling from the past (Propp and Wilson 1996).
-/// `limit` is at most 22.
+/// Returns the first answer among those at the horizons 1, 2, 4, .., 2 to the power `limit`, with its horizon; nothing
+/// exactly where none of these has one. The horizons are doubled as those of coupling from the past (Propp and Wilson
+/// 1996). `limit` is at most 22.
 ///
-/// What it stands for is the same afterwards. The call takes no memory but what the answers take.
+/// What it stands for is the same afterwards. The call allocates only what the answers allocate.
 pub fn first_answer<R: Answers>(run: &mut R, limit: u8) -> Option<(u32, R::Answer)>
     requires most { limit ≤ 22 }
     requires allowed { (exponent : ℕ) → exponent ≤ limit → R.Allows (R.standing run.old) (2 ^ exponent) }
@@ -51,7 +51,7 @@ pub fn first_answer<R: Answers>(run: &mut R, limit: u8) -> Option<(u32, R::Answe
     first_upwards(run, 0, limit)
 }
 
-/// The same first answer, of answers that last: where a horizon has one, each later horizon has the same one.
+/// Returns the same first answer, of answers that last: where a horizon has one, each later horizon has the same one.
 ///
 /// The horizon 2 to the power `guess` is asked for first, or the greatest where that is above it: then the greater ones
 /// where it has no answer, and the smaller ones where it has one, until one has none. So any guess gives the same, and
@@ -115,7 +115,7 @@ fn first_downwards<R: Answers>(run: &mut R, from: u8, answer: R::Answer) -> (u32
     (1 << least, answer)
 }
 
-/// The first answer of runs that answer the state with which they end, told as an outcome.
+/// Returns the first answer of runs that answer the state with which they end, as an outcome.
 pub fn outcome_of(limit: u8, found: Option<(u32, State)>) -> Outcome
     ensures { result ≡ outcome_of limit found }
 {

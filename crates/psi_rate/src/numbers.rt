@@ -18,7 +18,7 @@ const WINDOW: u32 = 256;
 /// The numbers of the events of the places from 0 on, as far as they reach, without those that are idle. They are
 /// kept from run to run, so that each word is picked once: a run over them is the run over all places.
 ///
-/// Only `reserve` takes memory: the lists stand on heaps of their own, which have room for them and no more.
+/// Only `reserve` allocates: the lists stand on heaps of their own, which have room for them and no more.
 #[derive(Drop)]
 pub struct Numbers {
     list: Vec<u16, LocalHeap>,
@@ -29,10 +29,10 @@ pub struct Numbers {
 }
 
 impl Numbers {
-    /// Room for the numbers of so many places, of 2 bytes each, and 4 bytes more for each 1,024th place and for some
-    /// before these; none is kept yet.
+    /// Reserves space for the numbers of `most` places, of 2 bytes each, and 4 bytes more for each 1,024th place and
+    /// for some before these; none is kept yet.
     ///
-    /// `AllocError` is the answer where there is no memory for it; no clause says when that is.
+    /// Returns `AllocError` if an allocation fails; no clause says when that is.
     pub fn reserve(alloc: Global, most: u32) -> Result<Numbers, AllocError>
         ensures { IfOk result (λ numbers. (rates : List ℕ) (words : ℕ → ℕ) → KeepsNumbers rates words most numbers) }
     {
@@ -77,9 +77,9 @@ impl Numbers {
         }
     }
 
-    /// The numbers of the places below a horizon that they reach, from place 0 on. Where they reach further, and it is
-    /// neither a power of two from 64 on nor a multiple of 1,024, the words of less than 1,024 places are drawn again
-    /// to see how many numbers these are.
+    /// Returns the numbers of the places below a horizon that they reach, from place 0 on. Where they reach further,
+    /// and it is neither a power of two from 64 on nor a multiple of 1,024, the words of less than 1,024 places are
+    /// drawn again to see how many numbers these are.
     pub fn below<P: Past>(&self, wheel: &Wheel, past: &mut P, horizon: u32) -> &[u16]
         requires kept { KeepsNumbers wheel.now (P.words past.old) horizon self.now }
         requires reached { Reaches self.now horizon }
@@ -155,7 +155,7 @@ fn keep_places<P: Past>(
     }
 }
 
-// How many numbers there are before `end`, where so many are before `first`.
+// How many numbers there are before `end`, where `before` are before `first`.
 fn count_places<P: Past>(wheel: &Wheel, past: &mut P, before: usize, first: u32, end: u32) -> usize
     requires longer { first ≤ end }
     requires before { before ≡ length (numbers_below wheel.now (P.words past.old) first) }
@@ -197,7 +197,7 @@ fn keep_window<P: Past>(
     let _kept = list.extend_from_slice(&numbers[..count]);
 }
 
-// Puts the numbers of the places of a window to the front of the list, and tells how many they are.
+// Puts the numbers of the places of a window to the front of the list, and returns how many they are.
 fn pick_window<P: Past>(
     wheel: &Wheel,
     past: &mut P,

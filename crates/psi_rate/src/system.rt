@@ -34,7 +34,7 @@ impl<'n, E: EventLaw> Model for System<'n, E> {
 }
 
 impl<'n, E: EventLaw> System<'n, E> {
-    /// The network of these capacities and events, in the wheel's order.
+    /// Returns the network of these capacities and events, in the wheel's order.
     ///
     /// `limit` is the exponent of the greatest horizon, 0 to 22: a run begins at most 2 to the power
     /// `limit` steps before time zero. `split` is the number of states up to which a region is followed
@@ -65,7 +65,7 @@ impl<'n, E: EventLaw> System<'n, E> {
         }
     }
 
-    /// The capacities, in customers.
+    /// Returns the capacities, in customers.
     pub fn caps(&self) -> State
         ensures value { result ≡ self.now.caps }
         ensures fit { IsSystem E.capacities self.now }
@@ -73,7 +73,7 @@ impl<'n, E: EventLaw> System<'n, E> {
         self.caps
     }
 
-    /// The events, in the wheel's order.
+    /// Returns the events, in the wheel's order.
     pub fn events(&self) -> &'n [E]
         ensures value { result.now ≡ self.now.events }
         ensures fit { IsSystem E.capacities self.now }
@@ -81,7 +81,7 @@ impl<'n, E: EventLaw> System<'n, E> {
         self.events
     }
 
-    /// The event of a number, counted from 0.
+    /// Returns the event of a number, counted from 0.
     pub fn event(&self, i: u16) -> &'n E
         requires { i < length self.now.events }
         ensures { slice_get self.now.events i ≡ Some result.now }
@@ -90,7 +90,7 @@ impl<'n, E: EventLaw> System<'n, E> {
         &events[i as usize]
     }
 
-    /// The event of a word, with its number: `None`, and the number of events, exactly where the word is
+    /// Returns the event of a word, with its number: `None`, and the number of events, exactly where the word is
     /// idle.
     #[inline]
     pub fn pick(&self, word: u32) -> (u16, Option<&'n E>)
@@ -104,14 +104,14 @@ impl<'n, E: EventLaw> System<'n, E> {
         (number, events.get(number as usize))
     }
 
-    /// The wheel of the events' rates.
+    /// Returns the wheel of the events' rates.
     pub fn wheel(&self) -> &'n Wheel
         ensures { result.now ≡ self.now.rates }
     {
         self.wheel
     }
 
-    /// The exponent of the greatest horizon, 0 to 22.
+    /// Returns the exponent of the greatest horizon, 0 to 22.
     pub fn limit(&self) -> u8
         ensures value { result ≡ self.now.limit }
         ensures bound { result ≤ 22 }
@@ -119,7 +119,7 @@ impl<'n, E: EventLaw> System<'n, E> {
         self.limit
     }
 
-    /// The number of states up to which a region is followed state by state, 1 to 4,096.
+    /// Returns the number of states up to which a region is followed state by state, 1 to 4,096.
     pub fn split(&self) -> u16
         ensures value { result ≡ self.now.split }
         ensures some { 1 ≤ result }
@@ -128,7 +128,7 @@ impl<'n, E: EventLaw> System<'n, E> {
         self.split
     }
 
-    /// The same network with another exponent of the greatest horizon, 0 to 22.
+    /// Returns the same network with another exponent of the greatest horizon, 0 to 22.
     pub fn with_limit(&self, limit: u8) -> System<'n, E>
         requires { limit ≤ 22 }
         ensures { result ≡ record self.now { limit = limit } }

@@ -88,7 +88,7 @@ fn common_zeros(totals: &[u32], modulus: u32) -> u32
     bits.trailing_zeros()
 }
 
-// The events of the first numbers of so many stretches.
+// The events of the first numbers of `count` stretches.
 fn entries(alloc: Global, totals: &[u32], count: usize, shift: u32) -> Result<Vec<u16>, AllocError>
     requires few { length totals.now ≤ 1024 }
     requires shift { shift < 32 }

@@ -19,7 +19,7 @@ pub enum RateRefusal {
         /// The place, counted from 0.
         at: u16,
     },
-    /// There is no memory for the wheel.
+    /// An allocation for the wheel failed.
     OutOfMemory,
 }
 
@@ -61,7 +61,7 @@ impl Model for Wheel {
 impl Wheel {
     ghost use Rattle.psi_rate.specs.Refusal.{IsRateRefusal};
 
-    /// The wheel of these rates: 1 to 1,024 rates, each from 1 to 1,048,576, with a total of at most
+    /// Returns the wheel of these rates: 1 to 1,024 rates, each from 1 to 1,048,576, with a total of at most
     /// 16,777,216.
     ///
     /// The refusals are `NoEvents` where there is no rate, `TotalTooLarge` where the total is too large,
@@ -96,7 +96,7 @@ impl Wheel {
         })
     }
 
-    /// The event of a word: its number among the events, or the count of the events where the word is
+    /// Returns the event of a word: its number among the events, or the count of the events where the word is
     /// idle.
     #[inline]
     pub fn pick(&self, word: u32) -> u16
@@ -107,7 +107,7 @@ impl Wheel {
     }
 
     /// Puts the numbers of the events of these words, without those of idle, to the front of a list that is no shorter,
-    /// in their order, and tells how many they are.
+    /// in their order, and returns how many they are.
     pub fn pick_all(&self, words: &[u32], numbers: &mut [u16]) -> usize
         requires { length words.now ≤ length numbers.old }
         ensures numbers { take result numbers.new ≡ numbers_below self.now (slice_index words.now) (length words.now) }
@@ -125,7 +125,8 @@ impl Wheel {
         count
     }
 
-    /// How many numbers there are, the idle ones included: the least power of two that isn't below the total rate.
+    /// Returns how many numbers there are, the idle ones included: the least power of two that isn't below the total
+    /// rate.
     pub fn modulus(&self) -> u32
         ensures value { result ≡ least_power (total self.now) }
         ensures least { IsLeastPower (total self.now) result }
@@ -133,14 +134,14 @@ impl Wheel {
         self.modulus
     }
 
-    /// The count of the numbers that no event has.
+    /// Returns the count of the numbers that no event has.
     pub fn idle(&self) -> u32
         ensures { result + total self.now ≡ least_power (total self.now) }
     {
         self.modulus - self.sum
     }
 
-    /// The number of events, 1 to 1,024.
+    /// Returns the number of events, 1 to 1,024.
     pub fn events(&self) -> u16
         ensures count { result ≡ length self.now }
         ensures valid { AreRates self.now }

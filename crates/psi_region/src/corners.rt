@@ -15,7 +15,7 @@ use std::marker::Model;
 
 /// A follower of a monotone network: by the least and the greatest state, through the events themselves.
 ///
-/// It is seen as the network that it stands for. No call takes memory.
+/// It is seen as the network that it stands for. No call allocates.
 #[derive(Drop)]
 pub struct Corners<'n, E: EventLaw> {
     course: Course<'n, E>,
@@ -34,7 +34,7 @@ impl<'n, E: EventLaw> Model for Corners<'n, E> {
 }
 
 impl<'n, E: EventLaw> Corners<'n, E> {
-    /// A follower of this network, whose events are monotone.
+    /// Returns a follower of this network, whose events are monotone.
     pub fn new(course: Course<'n, E>) -> Corners<'n, E>
         requires { All (λ f. IsMonotone course.caps f) (map E.function course.events) }
         ensures { result ≡ course.entry }

@@ -11,7 +11,7 @@ use std::marker::Model;
 /// What the runs of a network go through: its capacities, its events and its split number, the number of states up to which a
 /// region is followed state by state.
 ///
-/// It is seen as these three. No call takes memory.
+/// It is seen as these three. No call allocates.
 #[derive(Drop)]
 pub struct Course<'n, E: EventLaw> {
     caps: State,
@@ -30,7 +30,8 @@ impl<'n, E: EventLaw> Model for Course<'n, E> {
 }
 
 impl<'n, E: EventLaw> Course<'n, E> {
-    /// The course of a network of these capacities, in customers, these events and this split number, 1 to 4,096.
+    /// Returns the course of a network of these capacities, in customers, these events and this split number, 1 to
+    /// 4,096.
     pub fn new(caps: State, events: &'n [E], split: u16) -> Course<'n, E>
         requires valid { AreCapacities caps }
         requires same_caps { All (λ e. E.capacities e ≡ caps) events.now }
@@ -45,7 +46,7 @@ impl<'n, E: EventLaw> Course<'n, E> {
         }
     }
 
-    /// The same course once more.
+    /// Returns a copy of the course. It borrows the same events.
     pub fn again(&self) -> Course<'n, E>
         ensures { result ≡ self.now }
     {
@@ -56,7 +57,7 @@ impl<'n, E: EventLaw> Course<'n, E> {
         }
     }
 
-    /// The capacities, in customers.
+    /// Returns the capacities, in customers.
     ///
     /// Its last clause is how a caller learns that each event makes states of states.
     pub fn caps(&self) -> State
@@ -67,7 +68,7 @@ impl<'n, E: EventLaw> Course<'n, E> {
         self.caps
     }
 
-    /// The events.
+    /// Returns the events.
     pub fn events(&self) -> &'n [E]
         ensures value { result.now ≡ self.now.events }
         ensures same_caps { All (λ e. E.capacities e ≡ self.now.caps) result.now }
@@ -75,7 +76,7 @@ impl<'n, E: EventLaw> Course<'n, E> {
         self.events
     }
 
-    /// The event of a number, counted from 0.
+    /// Returns the event of a number, counted from 0.
     pub fn event(&self, number: u16) -> &'n E
         requires { number < length (map E.function self.now.events) }
         ensures function { slice_index_or (map E.function self.now.events) number (λ x. x) ≡ E.function result.now }
@@ -85,7 +86,7 @@ impl<'n, E: EventLaw> Course<'n, E> {
         &events[number as usize]
     }
 
-    /// The split number, 1 to 4,096.
+    /// Returns the split number, 1 to 4,096.
     pub fn split(&self) -> u16
         ensures value { result ≡ self.now.split }
         ensures some { 1 ≤ result }

@@ -7,10 +7,10 @@ ghost use Rattle.psi_region.specs.Covering.{Covers};
 use psi_event::EventLaw;
 use psi_state::Bounds;
 
-/// Whether the event makes of each state of the box `from` a state of the box `to`.
+/// Returns whether the event makes of each state of the box `from` a state of the box `to`.
 ///
 /// Both boxes are within the event's capacities. It compares the corners of `to` with those of the
-/// envelope of `from`, which is tight, and takes no memory.
+/// envelope of `from`, which is tight, and does not allocate.
 pub fn covers_image<E: EventLaw>(e: &E, from: &Bounds, to: &Bounds) -> bool
     requires from { IsBelow from.now.hi (E.capacities e.now) }
     requires to { IsBelow to.now.hi (E.capacities e.now) }

@@ -7,9 +7,9 @@ ghost use Rattle.psi_region.specs.Followed.{Followed, AreEnds, IsOne, states_of,
 use psi_state::{Bounds, State};
 
 /// A way to follow the runs of a network. It stands for the network's capacities, the functions of its events and its
-/// split number, and tells with which state a run ends.
+/// split number, and returns with which state a run ends.
 ///
-/// No call takes memory.
+/// No call allocates.
 pub trait Follower {
     // The network whose runs it follows.
     ghost stands_for: { Self → Followed };
@@ -18,7 +18,7 @@ pub trait Follower {
     /// event first; `None` exactly where it ends with more (coupling from the past, Propp and Wilson 1996, over the
     /// regions of Bušić, Gaujal and Vincent 2008). The numbers count the events from 0.
     ///
-    /// Another run may be followed afterwards: what this one leaves behind is of no account.
+    /// Another run may be followed afterwards: it does not depend on this one.
     fn ending(&mut self, numbers: &[u16]) -> Option<State>
         requires numbers { AreEvents (length (stands_for self.old).functions) numbers.now }
         ensures ending { result ≡ ending_of (stands_for self.old) numbers.now }
@@ -38,7 +38,7 @@ pub trait Follower {
     }
 }
 
-/// The state that two states are, exactly where they are one.
+/// Returns the state that two states are, exactly where they are one.
 pub fn one_of(first: State, second: State) -> Option<State>
     ensures { IsOne first second result }
 {

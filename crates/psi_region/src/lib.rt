@@ -4,7 +4,7 @@
 //! and Vincent 2008). As soon as it has few states it is split, and its states are followed one by one
 //! from then on.
 //!
-//! `Follower` is the contract that each way to follow a run keeps: it tells with which state the region of
+//! `Follower` is the contract that each way to follow a run keeps: it finds the state with which the region of
 //! all states ends. `Regions` and `Corners` are two that need nothing but the events.
 #![tactic(auto)]
 
@@ -22,5 +22,5 @@ pub use follower::{Follower, one_of};
 pub use region::Region;
 pub use regions::Regions;
 
-/// There was no memory: the only way in which a call with this error fails.
+/// An allocation failed: the only way in which a call with this error fails.
 pub use std::alloc::AllocError as OutOfMemory;

@@ -21,7 +21,7 @@ use std::marker::Model;
 /// it is split.
 ///
 /// It is seen as its split number, whether it is split, and the ascending list of its states, of which
-/// there is at least one. Only `reserve` takes memory.
+/// there is at least one. Only `reserve` allocates.
 #[derive(Drop)]
 pub struct Region {
     split: u16,
@@ -44,10 +44,10 @@ impl Model for Region {
 }
 
 impl Region {
-    /// Takes the room for a region that is split as soon as it has at most `split` states, 1 to 4,096. It is
+    /// Allocates room for a region that is split as soon as it has at most `split` states, 1 to 4,096. It is
     /// the box of one queue with capacity 1, unsplit.
     ///
-    /// `OutOfMemory` is the answer where there is no memory for it; no clause says when that is.
+    /// Returns `OutOfMemory` if an allocation fails; no clause says when that is.
     pub fn reserve(alloc: Global, split: u16) -> Result<Region, OutOfMemory>
         requires some { 1 ≤ split }
         requires few { split ≤ 4096 }
@@ -108,7 +108,7 @@ impl Region {
         self.settle();
     }
 
-    /// The state of the region where it has exactly one, and `None` exactly where it has more.
+    /// Returns the state of the region where it has exactly one, and `None` exactly where it has more.
     pub fn single(&self) -> Option<State>
         ensures value { result ≡ single self.now.area.states }
         ensures more { result ≡ None → 2 ≤ length self.now.area.states }
@@ -124,7 +124,7 @@ impl Region {
         }
     }
 
-    /// The box, exactly where the region isn't split.
+    /// Returns the box, exactly where the region isn't split.
     pub fn bounds(&self) -> Option<Bounds>
         ensures shown { ShowsBox self.now.area result }
         ensures ordered { IfSome result (λ b. IsBelow b.lo b.hi) }
@@ -137,7 +137,7 @@ impl Region {
         Some(self.bounds)
     }
 
-    /// The states of a split region in ascending, that is lexicographic, order: at least one, and at most
+    /// Returns the states of a split region in ascending, that is lexicographic, order: at least one, and at most
     /// the split number. The region stays as it was.
     pub fn states(&mut self) -> &[State]
         requires { self.old.area.is_split ≡ true }

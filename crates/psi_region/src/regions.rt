@@ -15,7 +15,7 @@ use std::marker::Model;
 
 /// A follower of any network: by a region, through the events themselves.
 ///
-/// It is seen as the network that it stands for. Only `reserve` takes memory.
+/// It is seen as the network that it stands for. Only `reserve` allocates.
 #[derive(Drop)]
 pub struct Regions<'n, E: EventLaw> {
     course: Course<'n, E>,
@@ -34,9 +34,9 @@ impl<'n, E: EventLaw> Model for Regions<'n, E> {
 }
 
 impl<'n, E: EventLaw> Regions<'n, E> {
-    /// Takes the room for a region of the split number of states.
+    /// Allocates room for a region of the split number of states.
     ///
-    /// `OutOfMemory` is the answer where there is no memory for it; no clause says when that is.
+    /// Returns `OutOfMemory` if an allocation fails; no clause says when that is.
     pub fn reserve(alloc: Global, course: Course<'n, E>) -> Result<Regions<'n, E>, OutOfMemory>
         ensures { IfOk result (λ regions. regions ≡ course.entry) }
     {

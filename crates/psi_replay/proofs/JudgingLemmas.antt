@@ -38,14 +38,14 @@ pub regional_once : (queues count : ℕ) (r : LogRegion) (judged : Result (Unit 
 regional_once queues count r (Ok u) is same = subst (λ (q : ℕ). IsRegion q r) same is
 regional_once queues count r (Err rejection) is same = tt
 
--- what held where no rule was broken before holds where none is broken behind
+-- what held where no rule was broken before holds where none is broken after
 pub held_on : (P : Type 0) (before after : Result (Unit {0}) Rejection) → OnOk after (told before ≡ Ok tt) → OnOk before P → OnOk after P
 held_on P (Ok u) (Ok v) is holds = holds
 held_on P (Err rejection) (Ok v) is holds = absurd cc
 held_on P before (Err rejection) is holds = tt
 
 module _ (caps : List ℕ) (limit : ℕ) (events : ℕ → ℕ) (f : Functions) where
-  -- a line that is judged leaves those behind it, and behind the last one the region before is the last
+  -- a line that is judged leaves those after it, and after the last one the region before is the last
   pub judge_turn : (n m t u i : ℕ) (before : LogRegion) (es : List Entry) (e : Entry) (judged : Result (Unit {0}) Refusal) → slice_get es i ≡ Some e → m ≡ n + 1 → u ≡ t - 1
       → and_then (and_then judged (judge_step caps limit events f n t before e)) (judge_steps caps limit events f m u e.region (drop (i + 1) es))
       ≡ and_then judged (judge_steps caps limit events f n t before (drop i es))

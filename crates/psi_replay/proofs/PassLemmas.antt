@@ -54,7 +54,7 @@ bind_bind : {A B C : Type 0} (a : Result A Refusal) (b : A → Result B Refusal)
 bind_bind (Ok x) b c = refl
 bind_bind (Err refusal) b c = refl
 
--- a step that is read, and the text behind it
+-- a step that is read, and the text after it
 abbrev pub entry_end : List ℕ → Entry → Result (Entry × List ℕ) Refusal
 entry_end rest e = Ok (e, rest)
 
@@ -62,7 +62,7 @@ abbrev steps_end : Entry → List Entry × List ℕ → Result (List Entry × Li
 steps_end e m = Ok (e ∷ m.0, m.1)
 
 module _ (caps : List ℕ) (limit : ℕ) (events : ℕ → ℕ) (f : Functions) (h : LogHeader) where
-  -- a line that is read and judged leaves the lines behind it
+  -- a line that is read and judged leaves the lines after it
   stepped : (n k : ℕ) (region : LogRegion) (e : Entry) (steps : Result (List Entry × List ℕ) Refusal) (before : Result (Unit {0}) Refusal)
       → ((steps >>= (λ (m : List Entry × List ℕ). Ok (e ∷ m.0, m.1))) >>= (λ (s : List Entry × List ℕ). lines_end (and_then before (judge_steps caps limit events f n (suc k) region s.0)) s.1))
       ≡ (steps >>= (λ (s : List Entry × List ℕ). lines_end (and_then (and_then before (judge_step caps limit events f n (suc k) region e)) (judge_steps caps limit events f (n + 1) k e.region s.0)) s.1))
@@ -106,7 +106,7 @@ module _ (caps : List ℕ) (limit : ℕ) (events : ℕ → ℕ) (f : Functions) 
       lines (Ok line) is = entries line.1 (read_step h n (box_before h.version region) (words_of line.0)) is
       lines (Err refusal) is = cc
 
-  -- behind the last one the region is the last
+  -- after the last one the region is the last
   pub lines_over : (count n : ℕ) (region : LogRegion) (text : List ℕ) (before : Result (Unit {0}) Refusal) → count ≡ 0
       → lines_left caps limit events f h count n region text before ≡ lines_end (and_then before (Ok region)) text
   unfolding lines_left read_steps judge_steps
@@ -131,7 +131,7 @@ module _ (caps : List ℕ) (limit : ℕ) (events : ℕ → ℕ) (f : Functions) 
       (holds_or (rejected 6 OutsideBox) (is_within caps c.begin)) (holds_or (rejected 6 NotCovered) (holds_all caps c.begin))
       (judge_steps caps limit events f 7 c.header.horizon c.begin c.entries) (λ (last : LogRegion). judge_end (7 + c.header.horizon) last c.final)
 
--- a text is replayed by what is left behind its lines up to the first step
+-- a text is replayed by what is left after its lines up to the first step
 pub replay_left : (rules : Certificate → Result (Unit {0}) Refusal) (text : List ℕ) (c : Cursor) → begun text ≡ Ok c
     → replayed rules text ≡ (left_of c >>= (λ (k : Certificate). Ok (verdict_of k (rules k))))
 replay_left rules text c is =
@@ -180,7 +180,7 @@ module _ (caps : List ℕ) (limit : ℕ) (events : ℕ → ℕ) (f : Functions) 
   abbrev closes : LogHeader → Result LogRegion Refusal × List ℕ → Result Verdict Refusal
   closes h lines = ended h lines.1 >>= (λ (final : List ℕ). Ok (verdict_of (told_log h final) (lines.0 >>= (λ (last : LogRegion). judge_end (7 + h.horizon) last final))))
 
-  -- the verdict on a text is that on what is left of it behind the lines up to the first step
+  -- the verdict on a text is that on what is left of it after the lines up to the first step
   pub left_begun : (rules : Certificate → Result (Unit {0}) Refusal) (text : List ℕ) (c : Cursor) → begun text ≡ Ok c → c.done ≡ 0
       → ((k : Certificate) → k.header ≡ c.header → rules k ≡ judged caps limit events f k)
       → replayed rules text ≡ verdict_left caps limit events f c.header c.done c.region c.rest (judge_begin caps limit c.header c.region)
@@ -214,7 +214,7 @@ module _ (caps : List ℕ) (limit : ℕ) (events : ℕ → ℕ) (f : Functions) 
       steps (Err refusal) = refl
 
 module _ (caps : List ℕ) (limit : ℕ) (events : ℕ → ℕ) (f : Functions) (h : LogHeader) where
-  -- a step that is read and judged leaves what is behind it
+  -- a step that is read and judged leaves what is after it
   pub left_more : (done time then : ℕ) (region : LogRegion) (text rest : List ℕ) (e : Entry) (before : Result (Unit {0}) Refusal)
       → next_step h (7 + done) (box_before h.version region) text ≡ Ok (e, rest) → done < h.horizon → time ≡ h.horizon - done → then ≡ done + 1
       → verdict_left caps limit events f h done region text before
@@ -233,7 +233,7 @@ module _ (caps : List ℕ) (limit : ℕ) (events : ℕ → ℕ) (f : Functions) 
       ap (λ (lines : Result (Result LogRegion Refusal × List ℕ) Refusal). lines >>= (λ (l : Result LogRegion Refusal × List ℕ). closes caps limit events f h l))
       (lines_fail caps limit events f h (h.horizon - done) (h.horizon - (done + 1)) (7 + done) region text before (Refused l cause) fails (omega arith))
 
-  -- behind the last step the end is left
+  -- after the last step the end is left
   left_over : (done : ℕ) (region : LogRegion) (text : List ℕ) (before : Result (Unit {0}) Refusal) → done ≡ h.horizon
       → verdict_left caps limit events f h done region text before ≡ closes caps limit events f h (and_then before (Ok region), text)
   unfolding verdict_left
@@ -258,7 +258,7 @@ module _ (caps : List ℕ) (limit : ℕ) (events : ℕ → ℕ) (f : Functions) 
       subst (λ (d : ℕ). next_step h (7 + d) (box_before h.version r.region) r.rest ≡ x) place
       (subst (λ (k : LogHeader). next_step k (7 + r.done) (box_before k.version r.region) r.rest ≡ x) header next)
 
-  -- a step that is read and judged takes the loop one step on, whatever text comes behind
+  -- a step that is read and judged takes the loop one step on, whatever text comes after
   pub pass_more : (after : Cursor) (step : Step) (time : ℕ) (judging : Result (Unit {0}) Rejection) → r.header ≡ h → r.done ≡ done → done < h.horizon → time ≡ h.horizon - done
       → next_of r ≡ entry_end after.rest (record { step = step; region = after.region }) → after.before ≡ r.region
       → Gives (λ _. tt) judging (and_then (told kept) (judge_step caps limit events f (7 + done) time after.before (record { step = step; region = after.region })))

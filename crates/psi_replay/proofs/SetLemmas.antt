@@ -28,7 +28,7 @@ same_place xs j k x y first second e =
     let there : slice_get xs j ≡ Some x = subst (λ (i : ℕ). slice_get xs i ≡ Some x) e second in
     cc
 
--- the state at a place is below x: x is behind it, if anywhere
+-- the state at a place is below x: x is after it, if anywhere
 pub search_behind : (xs : List (List ℕ)) (j k : ℕ) (x y : List ℕ) → IsRising xs → slice_get xs j ≡ Some y → state_cmp y x ≡ Less → slice_get xs k ≡ Some x → j < k
 search_behind xs j k x y rising first less second = elim (cases_lt j k) [
   | inl behind ↦ behind

@@ -18,7 +18,7 @@ abbrev pub told : {X : Type 0} → Result X Rejection → Result (Unit {0}) Refu
 told (Ok kept) = Ok tt
 told (Err rejection) = Err (rejected rejection.line rejection.cause)
 
--- one judging behind another: the first rule that is broken
+-- one judging after another: the first rule that is broken
 abbrev pub and_then : {X : Type 0} → Result (Unit {0}) Refusal → Result X Refusal → Result X Refusal
 and_then before next = before >>= (λ _. next)
 
@@ -36,7 +36,7 @@ judge_begin caps limit header begin = do
 
 -- the rules of a network with these capacities and this limit, as in the verdict
 module _ (caps : List ℕ) (limit : ℕ) (events : ℕ → ℕ) (f : Functions) where
-  -- so many lines of steps from line n on, behind a region and a judging: the last region, or the first line that breaks a rule, and the text behind
+  -- so many lines of steps from line n on, after a region and a judging: the last region, or the first line that breaks a rule, and the text after
   -- them; but a line that is refused comes first, wherever it stands
   unfoldable pub lines_left : LogHeader → ℕ → ℕ → LogRegion → List ℕ → Result (Unit {0}) Refusal → Result (Result LogRegion Refusal × List ℕ) Refusal
   lines_left h count n region text before = do
@@ -49,7 +49,7 @@ told_log h final = record { header = h; begin = in_set []; entries = []; final =
 
 -- the same rules
 module _ (caps : List ℕ) (limit : ℕ) (events : ℕ → ℕ) (f : Functions) where
-  -- the verdict on a log of which so many steps are read, where this is the region behind them, this the text that is left, and this the judging so far
+  -- the verdict on a log of which so many steps are read, where this is the region after them, this the text that is left, and this the judging so far
   unfoldable pub verdict_left : LogHeader → ℕ → LogRegion → List ℕ → Result (Unit {0}) Refusal → Result Verdict Refusal
   verdict_left h done region text before = do
     lines ← lines_left caps limit events f h (h.horizon - done) (7 + done) region text before

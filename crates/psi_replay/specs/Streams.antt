@@ -24,13 +24,13 @@ pub record IsJudged (caps : List ℕ) (past : Seeded) (judged : Result (Unit {0}
   pub queues : OnOk judged (c.header.queues ≡ length caps)
   pub within : OnOk judged (is_within caps c.region ≡ true)
 
--- the same of a progress
+-- `IsJudged`, of a progress that has begun
 abbrev pub IsSound : List ℕ → Progress → Type 0
 IsSound caps Unread = Unit {0}
 IsSound caps (Begun reading) = IsJudged caps reading.past reading.judged reading.cursor
 IsSound caps Lost = Unit {0}
 
--- a text that was taken is told by a progress and what is pending of it: the verdict is the same whatever comes behind, unless the text is too long
+-- a text that was taken is determined by a progress and what is pending of it: the verdict is the same whatever comes after, unless the text is too long
 abbrev pub IsProgress : {E : Type 0} → (E → List ℕ → List ℕ) → Parts E → List ℕ → List ℕ → Progress → Type 0
 IsProgress function system taken pending Unread = taken ≡ pending
 IsProgress function system taken pending (Begun reading) =

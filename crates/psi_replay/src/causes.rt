@@ -23,7 +23,7 @@ pub enum Cause {
     SplitTooLarge,
     /// 7: the last region has more than one state.
     NotSingle,
-    /// 8: the state of the last region isn't the one that the last line tells.
+    /// 8: the state of the last region isn't the one on the last line.
     WrongState,
 }
 
@@ -37,7 +37,7 @@ pub(crate) struct Rejection {
 }
 
 impl Cause {
-    /// The number of the cause, 1 to 8.
+    /// Returns the number of the cause, 1 to 8.
     pub fn code(self) -> u8
         ensures { result ≡ code_of self }
     {

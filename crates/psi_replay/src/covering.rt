@@ -15,7 +15,7 @@ use psi_region::covers_image;
 use psi_state::{Bounds, State};
 
 // Whether a region holds what the event makes of a state. The images of states that follow one another mostly do so
-// too, so each is looked for at the place `next` behind the last one.
+// too, so each is looked for at the place `next` after the last one.
 #[inline]
 fn holds_image<E: EventLaw>(
     event: &E,
@@ -60,7 +60,7 @@ fn covers_box<E: EventLaw>(event: &E, before: &Bounds, after: &BorrowedRegion<'_
     }
 }
 
-// As `covers_box`, where both are boxes: the corners tell it.
+// As `covers_box`, where both are boxes: the corners decide it.
 fn box_covers_box<E: EventLaw>(event: &E, before: &Bounds, after: &Bounds) -> bool
     requires before { IsBelow before.now.hi (E.capacities event.now) }
     requires within { is_within (E.capacities event.now) (in_box after.now) ≡ true }

@@ -113,7 +113,7 @@ pub(crate) fn verdict_from(header: &Header, end: &State, judged: Result<(), Reje
     }
 }
 
-/// The verdict on what is left of a log, behind lines that were read and judged. A line that is refused comes before a
+/// The verdict on what is left of a log, after lines that were read and judged. A line that is refused comes before a
 /// rule that is broken, wherever it stands.
 ///
 /// # Errors

@@ -34,7 +34,7 @@ pub(crate) enum Progress {
     Unread,
     /// The lines before the steps are read, and maybe steps.
     Begun(Reading),
-    /// What was read is lost, since memory was wanting.
+    /// What was read is lost, since an allocation failed.
     Lost,
 }
 
@@ -109,7 +109,7 @@ fn pass<'t, E: EventLaw>(
 ///
 /// # Errors
 ///
-/// `AllocError` where memory is wanting, and no clause says when that is.
+/// `AllocError` if an allocation fails; no clause says when that is.
 pub(crate) fn judge_piece<'t, E: EventLaw>(
     alloc: Global,
     system: &System<'_, E>,

@@ -11,7 +11,7 @@ use psi_log::{BorrowedRegion, Rows};
 use psi_state::{Bounds, MOST_SPLIT, State};
 
 /// Whether a state is one of a region's. In a set it is looked for at the place `next` and before it first, and where it
-/// is found, `next` becomes the place behind it.
+/// is found, `next` becomes the place after it.
 #[inline]
 pub(crate) fn holds(region: &BorrowedRegion<'_>, x: &State, next: &mut usize) -> bool
     requires { IsRegion (length x.now) (shown region.now) }

@@ -22,7 +22,7 @@ use psi_past::{Past, SeedPast, Windowed};
 use psi_rate::System;
 use std::alloc::Global;
 
-// The line of the step of a log behind so many others.
+// The line of the step of a log after `done` others.
 fn line_in(log: &Log, done: u32) -> StepLine<'_>
     requires { done < log.now.header.horizon }
     ensures line { result.line ≡ 7 + done }
@@ -64,7 +64,7 @@ fn judge_steps<E: EventLaw, P: Past>(
     judged
 }
 
-/// The verdict on a log of a network: accepted where it breaks no rule, whoever wrote it, and rejected else, at
+/// Returns the verdict on a log of a network: accepted where it breaks no rule, whoever wrote it, and rejected else, at
 /// the first line that breaks one.
 ///
 /// The events of the steps are those of the words of the header's seed and stream. Where the log is accepted,
@@ -78,9 +78,9 @@ fn judge_steps<E: EventLaw, P: Past>(
 /// | 5 | `Header`: the horizon is above 2 to the power of the network's limit |
 /// | 6, where the run begins | `OutsideBox`: a state of the region has more customers than a queue has room for. `NotCovered`: the region isn't all states |
 /// | 6 + i, the i-th step | `StepNumber`: its number isn't the horizon less i, plus 1. `WrongEvent`: its event isn't that of its time's word. `OutsideBox`, as above. `SplitTooLarge`: the region is a set, and the one before a box of more than 4,096 states. `NotCovered`: what the event makes of a state of the region before isn't in the region |
-/// | the last | `NotSingle`: the last region has more than one state. `WrongState`: its state isn't the one told |
+/// | the last | `NotSingle`: the last region has more than one state. `WrongState`: its state isn't the one on the line |
 ///
-/// A region may be larger than it needs to be, and a set may be followed by a box. No memory is taken. A step
+/// A region may be larger than it needs to be, and a set may be followed by a box. The call does not allocate. A step
 /// from a box to a box costs one envelope (Bušić, Gaujal and Vincent 2008); a step of a set, or from a box of
 /// at most 4,096 states to a set, looks at each state by itself.
 pub fn verdict<E: EventLaw>(system: &System<'_, E>, log: &Log) -> Verdict
@@ -100,10 +100,10 @@ pub fn verdict<E: EventLaw>(system: &System<'_, E>, log: &Log) -> Verdict
     verdict_from(&header, &end, last)
 }
 
-/// The verdict of a network on the log that a text is: what [`verdict`] gives on the log that `psi_log::read_log`
-/// reads.
+/// Returns the verdict of a network on the log that a text is: what [`verdict`] gives on the log that
+/// `psi_log::read_log` reads.
 ///
-/// The text is read and judged in one pass, line by line. Where a line breaks a rule, the lines behind it are still
+/// The text is read and judged in one pass, line by line. Where a line breaks a rule, the lines after it are still
 /// read, since one that is refused comes first. At any time two regions are held, and the words of one line.
 ///
 /// # Errors

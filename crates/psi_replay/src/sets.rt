@@ -27,7 +27,7 @@ fn has_at(rows: &Rows<'_>, place: usize, x: &State) -> bool
 }
 
 /// Whether a state is one of a set's, which are in ascending order. It is looked for at the place `next` and before
-/// it, and else by halving. Where it is found, `next` becomes the place behind it.
+/// it, and else by halving. Where it is found, `next` becomes the place after it.
 #[inline]
 pub(crate) fn set_holds(rows: &Rows<'_>, x: &State, next: &mut usize) -> bool
     requires { IsSet (length x.now) rows.now.states }

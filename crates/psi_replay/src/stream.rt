@@ -26,10 +26,10 @@ const BATCH: usize = 32_768;
 // pieces have them.
 const TRIES: u8 = 64;
 
-/// The replay of a log whose text comes piece by piece: as [`replay_text`](crate::replay_text) of the pieces, one behind
-/// another. Whole lines are read and judged as they come, and what is kept is what is left over, up to the next line feed,
-/// with two regions and the words of one line. From a line on that isn't read, because it is refused or memory is wanting,
-/// the text is held up to its end, once.
+/// The replay of a log whose text comes piece by piece: as [`replay_text`](crate::replay_text) of the pieces, one after
+/// another. Whole lines are read and judged as they come, and what is kept is what is left over, up to the next line
+/// feed, with two regions and the words of one line. From a line on that isn't read, because it is refused or an
+/// allocation fails, the text is held up to its end, once.
 ///
 /// It is seen as the network, and the text that it took.
 #[derive(Drop)]
@@ -69,7 +69,7 @@ fn lines_end(piece: &[u8]) -> usize
     }
 }
 
-// Lets go of the first so many bytes, and moves the others to the front.
+// Removes the first `count` bytes, and moves the others to the front.
 fn drop_front(bytes: &mut Vec<u8>, count: usize)
     requires { count ≤ length bytes.old.items }
     ensures { bytes.new.items ≡ drop count bytes.old.items }
@@ -82,8 +82,8 @@ fn drop_front(bytes: &mut Vec<u8>, count: usize)
     bytes.truncate(len - count);
 }
 
-// Reads and judges the first so many of the bytes that are pending, which end where a line does, and keeps what is left.
-// Whether a line of them wasn't read stands beside.
+// Reads and judges the first `count` of the bytes that are pending, which end where a line does, and keeps what is
+// left. Whether a line of them wasn't read stands beside.
 fn read_on<E: EventLaw>(
     alloc: Global,
     system: &System<'_, E>,
@@ -108,7 +108,7 @@ fn read_on<E: EventLaw>(
 }
 
 impl<'s, 'n, E: EventLaw> StreamReplay<'s, 'n, E> {
-    /// The replay of the empty text. It takes no memory yet.
+    /// Returns the replay of the empty text. It does not allocate yet.
     pub fn new(alloc: Global, system: &'s System<'n, E>) -> Self
         ensures { result ≡ record { system = system.now; taken = [] } }
     {
@@ -123,7 +123,8 @@ impl<'s, 'n, E: EventLaw> StreamReplay<'s, 'n, E> {
         }
     }
 
-    /// The verdict on the log that the text is which was taken: what [`replay_text`](crate::replay_text) gives on it.
+    /// Returns the verdict on the log that the text is which was taken: what [`replay_text`](crate::replay_text) gives
+    /// on it.
     ///
     /// # Errors
     ///
@@ -149,7 +150,7 @@ impl<'s, 'n, E: EventLaw> StreamReplay<'s, 'n, E> {
         Ok(())
     }
 
-    // Reads and judges the lines that are pending, behind which so many bytes stand.
+    // Reads and judges the lines that are pending, after which `behind` bytes stand.
     fn read_lines(&mut self, behind: usize) -> Result<(), AllocError>
         ensures { self.new ≡ self.old }
     {
@@ -194,7 +195,7 @@ impl<'s, 'n, E: EventLaw> Consumer for StreamReplay<'s, 'n, E> {
     ///
     /// # Errors
     ///
-    /// [`OutOfMemory`] where there is no memory for the piece, or for what is left over behind its lines; no clause says
+    /// [`OutOfMemory`] if an allocation for the piece, or for what is left over after its lines, fails; no clause says
     /// when.
     fn take(&mut self, piece: &[u8]) -> Result<(), OutOfMemory> {
         self.keep(piece)?;

@@ -29,7 +29,7 @@ state_text_more state i some small =
     let count : length (take i state) ≡ i = length-take-le i state (omega arith) in
     ap state_text (take_more state i 0 small) ∙ text-more (take i state) (slice_index state i) (omega arith)
 
--- a text that holds the front of a state holds one number more, once it is appended behind a comma
+-- a text that holds the front of a state holds one number more, once it is appended after a comma
 pub state_text_pushed : (base before after state : List ℕ) (i : ℕ) → 1 ≤ i → i < length state → before ≡ base ++ state_text (take i state)
     → after ≡ before ++ (44 ∷ decimal (slice_index state i)) → after ≡ base ++ state_text (take (i + 1) state)
 state_text_pushed base before after state i some small held pushed =

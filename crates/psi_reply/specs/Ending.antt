@@ -19,7 +19,7 @@ faults = record { read_fault = ReadFault; write_fault = WriteFault; out_of_memor
 abbrev pub ending_reply : Ending → Reply
 ending_reply ending = reply_with faults ending
 
--- the work ends with this reply, unless memory ran out
+-- the work ends with this reply, unless an allocation failed
 abbrev pub EndsWith : Ending → Reply → Type 0
 EndsWith (replied given) reply = given ≡ reply
 EndsWith (unread file) reply = ⊥

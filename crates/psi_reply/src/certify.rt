@@ -1,4 +1,4 @@
-//! `sample NET SEED STREAM log`: what is told where there is no log.
+//! `sample NET SEED STREAM log`: the reply where there is no log.
 
 ghost use Rattle.std.specs.Prelude.{◌≤◌};
 ghost use Rattle.psi_state.specs.declared.Outcome.TheVariants.{NotMet};
@@ -14,7 +14,7 @@ use psi_command::Status;
 use psi_state::Outcome;
 use std::alloc::Global;
 
-/// What is told of a sample that isn't met within 2 to the power `limit` steps, `limit` being at most 22: status
+/// Returns the ending for a sample that isn't met within 2 to the power `limit` steps, `limit` being at most 22: status
 /// `NotCoupled` with its text, or `OutOfMemory`.
 pub fn unmet_ending<'w>(alloc: Global, limit: u8) -> Ending<'w>
     requires { limit ≤ 22 }

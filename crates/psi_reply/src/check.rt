@@ -96,7 +96,7 @@ fn push_queues(text: &mut Vec<u8>, net: &Net) -> Result<(), AllocError>
     Ok(())
 }
 
-// Appends the lines of the events, and tells whether all events are monotone.
+// Appends the lines of the events, and returns whether all events are monotone.
 fn push_events(text: &mut Vec<u8>, net: &Net) -> Result<bool, AllocError>
     ensures lines { OnOk result (text.new.items ≡ text.old.items ++ event_lines net.now) }
     ensures monotone { IfOk result (λ monotone. monotone ≡ list_all is_none (marks_of net.now)) }
@@ -142,7 +142,7 @@ fn check_text(alloc: Global, net: &Net) -> Result<Vec<u8>, AllocError>
     Ok(text)
 }
 
-/// The work for `check`: the description of the network, with the mark of each event; status `Done`, or
+/// Does the work for `check`: the description of the network, with the mark of each event; status `Done`, or
 /// `OutOfMemory`.
 pub fn check_ending<'w>(alloc: Global, net: &Net) -> Ending<'w>
     ensures reply { EndsWith (ending_of result) (text_reply Done (check_text net.now)) }

@@ -1,4 +1,4 @@
-//! `closed NET SEED STREAM TOTAL`: a sample of a closed network among the states of so many customers.
+//! `closed NET SEED STREAM TOTAL`: a sample of a closed network among the states of TOTAL customers.
 
 ghost use Rattle.std.specs.Prelude.{◌≡◌, ◌<◌, ◌≤◌, ◌↔◌, IsTrue, IfOk, IfErr};
 ghost use Rattle.psi_closed_arcs.specs.Walks.{customers};
@@ -32,8 +32,8 @@ fn room(net: &Net) -> u32
     room
 }
 
-/// The moves that the events are, in their order. Where there are none, the work ends the same for every number of
-/// customers and whatever is asked: an event isn't a move, or there was not enough memory.
+/// Returns the moves that the events are, in their order. Where there are none, the work ends the same for every number
+/// of customers and whatever is asked: an event isn't a move, or an allocation failed.
 pub fn moves_of<'w>(alloc: Global, net: &Net) -> Result<Vec<Move>, Ending<'w>>
     ensures moves { IfOk result (λ moves. AreMovesOf net.now.events moves.items) }
     ensures none { IfErr result (λ ending. (reply : Reply) → EndsWith (ending_of ending) (moves_reply (first_other net.now) reply)) }
@@ -52,15 +52,15 @@ pub fn moves_of<'w>(alloc: Global, net: &Net) -> Result<Vec<Move>, Ending<'w>>
     Ok(moves)
 }
 
-/// Whether the queues can hold so many customers.
+/// Returns whether the queues can hold `total` customers.
 pub fn has_room(net: &Net, total: u16) -> bool
     ensures { IsTrue result ↔ (total ≤ customers (caps_of net.now)) }
 {
     total as u32 <= room(net)
 }
 
-/// The plan for the closed network of these moves, those of the network's events, with `total` customers, at most 256 and no
-/// more than its queues can hold.
+/// Returns the plan for the closed network of these moves, those of the network's events, with `total` customers, at
+/// most 256 and no more than its queues can hold.
 pub fn closed_plan<'n>(
     alloc: Global,
     net: &'n Net,
@@ -84,7 +84,7 @@ pub fn closed_plan<'n>(
     )
 }
 
-/// The sample of a stream, by the plan for the closed network, whose words it replaces. It does not allocate.
+/// Returns the sample of a stream, by the plan for the closed network, whose words it replaces. It does not allocate.
 pub fn next_closed<'n>(
     plan: &mut ClosedPlan<'n, SeedPast>,
     net: &Net,
@@ -145,10 +145,10 @@ fn work_on_moves<'w>(
     Ending::printed(outcome_status(&outcome), outcome_text(alloc, &outcome))
 }
 
-/// The work for `closed`: the sample that a seed and a stream draw of the closed network among its states with `total`
-/// customers, 0 to 256; status `Done` where it is met, `NotCoupled` where it isn't met within the network's limit.
-/// `NotClosed` tells the first event that isn't a move of one customer, counted from 0; `NoSuchTotal` that each is one
-/// and the queues hold fewer customers; else memory is wanting.
+/// Does the work for `closed`: the sample that a seed and a stream draw of the closed network among its states with
+/// `total` customers, 0 to 256; status `Done` where it is met, `NotCoupled` where it isn't met within the network's
+/// limit. `NotClosed` has the first event that isn't a move of one customer, counted from 0; `NoSuchTotal` that each is
+/// one and the queues hold fewer customers; else an allocation failed.
 pub fn closed_ending<'w>(alloc: Global, net: &Net, seed: u64, stream: u64, total: u16) -> Ending<'w>
     requires { total ≤ 256 }
     ensures { EndsWith (ending_of result) (closed_reply net.now seed stream total (first_other net.now)) }

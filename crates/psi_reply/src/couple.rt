@@ -37,9 +37,9 @@ fn coupling_of(alloc: Global, net: &Net, seed: u64, stream: u64) -> Result<Coupl
     Ok(coupled)
 }
 
-/// The work for `couple`: the least horizon in steps, a power of two or not, at which the network's region run couples
-/// under the words of a seed and a stream, with its state; status `Done`, or `NotCoupled` where none up to the limit
-/// does; or `OutOfMemory`.
+/// Does the work for `couple`: the least horizon in steps, a power of two or not, at which the network's region run
+/// couples under the words of a seed and a stream, with its state; status `Done`, or `NotCoupled` where none up to the
+/// limit does; or `OutOfMemory`.
 pub fn couple_ending<'w>(alloc: Global, net: &Net, seed: u64, stream: u64) -> Ending<'w>
     ensures { EndsWith (ending_of result) (text_reply (coupling_status (coupling net.now seed stream)) (coupling_text (coupling net.now seed stream))) }
 {

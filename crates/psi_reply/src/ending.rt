@@ -6,7 +6,7 @@ use psi_command::Status;
 use psi_net_document::NetRefusal;
 use std::alloc::AllocError;
 
-/// How the work of a call ends, once its memory is taken and before anything is written.
+/// How the work of a call ends, after its allocations and before anything is written.
 #[derive(Drop, Debug)]
 pub enum Ending<'w> {
     /// With what the command asks for.
@@ -48,7 +48,7 @@ pub enum Ending<'w> {
     NetUnread(&'w str),
     /// The log file of this name couldn't be read.
     LogUnread(&'w str),
-    /// There was not enough memory.
+    /// An allocation failed.
     OutOfMemory,
 }
 
@@ -57,7 +57,7 @@ impl<'w> Ending<'w> {
     ghost use Rattle.psi_reply.specs.Ending.{EndsWith, ending_reply};
     ghost use Rattle.psi_reply.specs.Ended.{ending_of};
 
-    // The ending with a text for out, or `OutOfMemory` where there is no memory for it.
+    // The ending with a text for out, or `OutOfMemory` if an allocation fails.
     pub(crate) fn printed(status: Status, text: Result<Vec<u8>, AllocError>) -> Ending<'w>
         ensures { (wanted : List ℕ) → IfOk text (λ text. text.items ≡ wanted) → EndsWith (ending_of result) (text_reply status wanted) }
     {
@@ -67,7 +67,7 @@ impl<'w> Ending<'w> {
         }
     }
 
-    /// The status of the call, once the text of the ending is written whole.
+    /// Returns the status of the call, once the text of the ending is written whole.
     pub fn status(&self) -> Status
         ensures { result ≡ (ending_reply (ending_of self.now)).status }
     {

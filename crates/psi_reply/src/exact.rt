@@ -77,9 +77,9 @@ fn count_of(net: &Net) -> u32
     }
 }
 
-/// The work for `exact`: the composed map of all states of the network over the last 2 to the power `h` steps, `h` from
-/// 0 to 12, under the words of a seed and a stream; status `Done` where all states have met, `NotCoupled` where they
-/// haven't. `TooManyStates` where there are more than 65,536 states; else memory is wanting.
+/// Does the work for `exact`: the composed map of all states of the network over the last 2 to the power `h` steps, `h`
+/// from 0 to 12, under the words of a seed and a stream; status `Done` where all states have met, `NotCoupled` where
+/// they haven't. `TooManyStates` where there are more than 65,536 states; else an allocation failed.
 pub fn exact_ending<'w>(alloc: Global, net: &Net, seed: u64, stream: u64, h: u8) -> Ending<'w>
     requires { h ≤ 12 }
     ensures { EndsWith (ending_of result) (survey_reply net.now seed stream h) }

@@ -3,7 +3,7 @@
 //! A text for out is a vector of bytes, so that it may fail for lack of memory. A line for err is built on the
 //! stack: it does not allocate, and is written as one piece (`Line`).
 //!
-//! Each command has one function, which takes its memory, does the work and answers an `Ending`: a text for out
+//! Each command has one function, which allocates, does the work and returns an `Ending`: a text for out
 //! with its status, a refusal or a rejection, or `OutOfMemory`. What a command replies is defined in
 //! `specs/Reply.antt`, what its text means in the file of its name: `Sample.antt`, `Check.antt`, and so on; there
 //! coupling from the past is that of Propp and Wilson 1996, by regions (Bušić, Gaujal and Vincent 2008).

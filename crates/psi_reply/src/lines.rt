@@ -1,4 +1,4 @@
-//! The lines of err. Each is built on the stack, so that it takes no memory and is written as one piece.
+//! The lines of err. Each is built on the stack, so that it does not allocate and is written as one piece.
 
 ghost use Rattle.std.specs.Prelude.{◌≡◌, ℕ, List, ◌+◌, ◌≤◌, ◌++◌, [], length};
 ghost use Rattle.psi_command.specs.Command.{net_file, log_file};
@@ -33,56 +33,56 @@ fn fixed_line(text: &[u8]) -> Line
     line
 }
 
-/// The line on a network file that can't be read.
+/// Returns the line on a network file that can't be read.
 pub fn network_unread_line() -> Line
     ensures { (name : List ℕ) → result.items ≡ unread_line (net_file name) }
 {
     fixed_line(b"psi: cannot read network\n")
 }
 
-/// The line on a log file that can't be read.
+/// Returns the line on a log file that can't be read.
 pub fn log_unread_line() -> Line
     ensures { (name : List ℕ) → result.items ≡ unread_line (log_file name) }
 {
     fixed_line(b"psi: cannot read log\n")
 }
 
-/// The line on a reward that the network hasn't.
+/// Returns the line on a reward that the network hasn't.
 pub fn unknown_line() -> Line
     ensures { result.items ≡ unknown_line }
 {
     fixed_line(b"psi: unknown reward\n")
 }
 
-/// The line on the log of a sample that would be too long.
+/// Returns the line on the log of a sample that would be too long.
 pub fn too_long_line() -> Line
     ensures { result.items ≡ too_long_line }
 {
     fixed_line(b"psi: log too long\n")
 }
 
-/// The line on a network with more states than a table of them may have.
+/// Returns the line on a network with more states than a table of them may have.
 pub fn too_many_line() -> Line
     ensures { result.items ≡ too_many_line }
 {
     fixed_line(b"psi: too many states\n")
 }
 
-/// The line on a number of customers that the queues can't hold.
+/// Returns the line on a number of customers that the queues can't hold.
 pub fn no_total_line() -> Line
     ensures { result.items ≡ no_total_line }
 {
     fixed_line(b"psi: no state with this total\n")
 }
 
-/// The line where memory ran out.
+/// Returns the line that reports out of memory.
 pub fn memory_line() -> Line
     ensures { result.items ≡ memory_line }
 {
     fixed_line(b"psi: out of memory\n")
 }
 
-/// The line with the place of the word that offends.
+/// Returns the line with the place of the word that offends.
 #[tactic(auto, unfolding(crate::specs::Lines::usage_line))]
 pub fn usage_line(place: u8) -> Line
     ensures { result.items ≡ usage_line place }
@@ -146,7 +146,7 @@ fn key_text(key: &Option<Name>) -> &[u8]
     }
 }
 
-/// The line with the cause and the place of a refusal.
+/// Returns the line with the cause and the place of a refusal.
 #[tactic(auto, unfolding(crate::specs::Lines::refused_line))]
 pub fn refused_line(refusal: &NetRefusal) -> Line
     ensures { result.items ≡ refused_line refusal.now }
@@ -223,21 +223,21 @@ fn log_line(word: &[u8], cause: u8, name: &str, number: u32) -> Line
     line
 }
 
-/// The line with the first line of a text that is no log, and the cause.
+/// Returns the line with the first line of a text that is no log, and the cause.
 pub fn log_refused_line(line: u32, cause: u8) -> Line
     ensures { result.items ≡ log_refused_line line cause }
 {
     log_line(b"refused", cause, grammar_name(cause), line)
 }
 
-/// The line with the first line of a log that breaks a rule, and the cause.
+/// Returns the line with the first line of a log that breaks a rule, and the cause.
 pub fn log_rejected_line(line: u32, cause: u8) -> Line
     ensures { result.items ≡ log_rejected_line line cause }
 {
     log_line(b"rejected", cause, verdict_name(cause), line)
 }
 
-/// The line with the number of an event that isn't a move of one customer.
+/// Returns the line with the number of an event that isn't a move of one customer.
 #[tactic(auto, unfolding(crate::specs::Lines::not_closed_line))]
 pub fn not_closed_line(event: u16) -> Line
     ensures { result.items ≡ not_closed_line event }

@@ -15,7 +15,7 @@ use std::alloc::Global;
 /// The plan for a network, from the past of a seed and a stream.
 pub type NetPlan<'n> = Plan<'n, Event, SeedPast, Way<'n, Event>>;
 
-/// The plan for a network under the words of a seed and a stream. The network is one that can be sampled.
+/// Returns the plan for a network under the words of a seed and a stream. The network is one that can be sampled.
 pub fn plan_for<'n>(
     alloc: Global,
     net: &'n Net,

@@ -44,8 +44,8 @@ fn verdict_on(alloc: Global, net: &Net, text: &[u8]) -> Result<Verdict, LogError
     replay_text(alloc, &system, text)
 }
 
-/// The work for a replay that gave this verdict: the horizon and the state of a log that is accepted, the first line that
-/// is refused or breaks a rule, with its cause, or `OutOfMemory`.
+/// Does the work for a replay that gave this verdict: the horizon and the state of a log that is accepted, the first
+/// line that is refused or breaks a rule, with its cause, or `OutOfMemory`.
 #[tactic(auto, using(crate::proofs::ReplayingLemmas::verdict_replied, crate::proofs::ReplayingLemmas::refusal_replied))]
 pub fn verdict_ending<'w>(alloc: Global, verdict: Result<Verdict, LogError>) -> Ending<'w>
     ensures { (net : Network) (text : List ℕ) → Gives (λ given. given) verdict (replayed (judgement net) text) → EndsWith (ending_of result) (replay_reply net text) }
@@ -57,8 +57,8 @@ pub fn verdict_ending<'w>(alloc: Global, verdict: Result<Verdict, LogError>) -> 
     }
 }
 
-/// The work for a replay, on the bytes of a log file that are in memory: they are read as a log, and the log is judged,
-/// in one pass. It is that for the verdict, as in [`verdict_ending`].
+/// Does the work for a replay, on the bytes of a log file that are in memory: they are read as a log, and the log is
+/// judged, in one pass. It is that for the verdict, as in [`verdict_ending`].
 pub fn replay_ending<'w>(alloc: Global, net: &Net, text: &[u8]) -> Ending<'w>
     ensures { EndsWith (ending_of result) (replay_reply net.now text.now) }
 {

@@ -23,7 +23,7 @@ use psi_report::Tally;
 use psi_state::Outcome;
 use std::alloc::Global;
 
-/// The sample of a stream, by the plan for the network, whose words it replaces. It does not allocate.
+/// Returns the sample of a stream, by the plan for the network, whose words it replaces. It does not allocate.
 pub fn next_sample<'n>(plan: &mut NetPlan<'n>, net: &Net, seed: u64, stream: u64) -> Outcome
     requires { IsSystemOf ⟦<Event as EventLaw>⟧.function net.now plan.old.system }
     ensures value { result ≡ sampled net.now seed stream }
@@ -36,7 +36,7 @@ pub fn next_sample<'n>(plan: &mut NetPlan<'n>, net: &Net, seed: u64, stream: u64
     plan.sample()
 }
 
-// The totals of the samples of so many streams; none where there is not enough memory. One plan serves all
+// The totals of the samples of `count` streams; none if an allocation fails. One plan serves all
 // streams.
 fn tally_of(alloc: Global, net: &Net, seed: u64, first: u64, count: u32) -> Option<Tally>
     requires few { count ≤ 65536 }
@@ -71,8 +71,8 @@ pub(crate) fn report_of(
     Some(text)
 }
 
-/// The work for `report`: the report of the samples that a seed and `count` streams draw of the network, 1 to 65,536 of
-/// them, from `first` on; status `Done`, or `OutOfMemory`.
+/// Does the work for `report`: the report of the samples that a seed and `count` streams draw of the network, 1 to
+/// 65,536 of them, from `first` on; status `Done`, or `OutOfMemory`.
 pub fn report_ending<'w>(alloc: Global, net: &Net, seed: u64, first: u64, count: u32) -> Ending<'w>
     requires few { count ≤ 65536 }
     requires streams { first + count ≤ 2 ^ 64 }

@@ -51,9 +51,10 @@ fn value_of(
     Ok(valued)
 }
 
-/// The work for `reward`: the first horizon of 1, 2, 4, .. steps at which all states have one value of the network's
-/// first reward of this name, under the words of a seed and a stream, with the value; status `Done`, or `NotCoupled`
-/// where none up to the limit has. `UnknownReward` where no reward has the name; else memory is wanting.
+/// Does the work for `reward`: the first horizon of 1, 2, 4, .. steps at which all states have one value of the
+/// network's first reward of this name, under the words of a seed and a stream, with the value; status `Done`, or
+/// `NotCoupled` where none up to the limit has. `UnknownReward` where no reward has the name; else an allocation
+/// failed.
 pub fn reward_ending<'w>(alloc: Global, net: &Net, seed: u64, stream: u64, name: &str) -> Ending<'w>
     ensures { EndsWith (ending_of result) (value_reply net.now seed stream (kind_named name.now net.now.rewards)) }
 {

@@ -37,7 +37,7 @@ pub(crate) fn outcome_status(outcome: &Outcome) -> Status
     }
 }
 
-/// The work for `sample`: the sample that a seed and a stream draw of the network; status `Done` where it is met,
+/// Does the work for `sample`: the sample that a seed and a stream draw of the network; status `Done` where it is met,
 /// `NotCoupled` where it isn't met within the network's limit; or `OutOfMemory`.
 pub fn sample_ending<'w>(alloc: Global, net: &Net, seed: u64, stream: u64) -> Ending<'w>
     ensures { EndsWith (ending_of result) (text_reply (outcome_status (sampled net.now seed stream)) (outcome_text (sampled net.now seed stream))) }

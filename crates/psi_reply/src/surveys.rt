@@ -68,12 +68,12 @@ fn push_region(text: &mut Vec<u8>, region: &Coupled) -> Result<(), AllocError>
     }
 }
 
-/// What is printed of a survey: a line with the number of all states; for each of the horizons 1, 2, 4, ..
+/// Returns what is printed of a survey: a line with the number of all states; for each of the horizons 1, 2, 4, ..
 /// a line with the number of states that are left of them; a line with the least horizon at which one is
 /// left and with that state, or with the greatest horizon where there is none; and a line with the least
 /// horizon whose region run ends with one state, or that there is none.
 ///
-/// The exponent of a greatest horizon is at most 12. The error comes where there is no memory for the text.
+/// The exponent of a greatest horizon is at most 12. The error comes if an allocation fails.
 #[tactic(auto, unfolding(crate::specs::Surveys::survey_text))]
 pub fn survey_text(
     alloc: Global,

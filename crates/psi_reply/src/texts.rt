@@ -39,7 +39,7 @@ fn not_met_text(alloc: Global, words: &[u8], limit: u8) -> Result<Vec<u8>, Alloc
     Ok(text)
 }
 
-/// What is printed of a sample: where it is met, a line with the horizon and a line with the state; where
+/// Returns what is printed of a sample: where it is met, a line with the horizon and a line with the state; where
 /// it isn't, a line with the greatest horizon.
 #[tactic(auto, unfolding(crate::specs::Texts::outcome_text))]
 pub fn outcome_text(alloc: Global, outcome: &Outcome) -> Result<Vec<u8>, AllocError>
@@ -52,7 +52,7 @@ pub fn outcome_text(alloc: Global, outcome: &Outcome) -> Result<Vec<u8>, AllocEr
     }
 }
 
-/// What is printed of a coupling: a line with the least horizon and a line with the state; where there is
+/// Returns what is printed of a coupling: a line with the least horizon and a line with the state; where there is
 /// none, a line with the greatest horizon.
 #[tactic(auto, unfolding(crate::specs::Couplings::coupling_text))]
 pub fn coupling_text(alloc: Global, coupled: &Coupled) -> Result<Vec<u8>, AllocError>
@@ -65,7 +65,7 @@ pub fn coupling_text(alloc: Global, coupled: &Coupled) -> Result<Vec<u8>, AllocE
     }
 }
 
-/// What is printed of a reward's value: a line with the horizon and a line with the value; where there is
+/// Returns what is printed of a reward's value: a line with the horizon and a line with the value; where there is
 /// none, a line with the greatest horizon.
 #[tactic(auto, unfolding(crate::specs::Values::value_text, crate::specs::Texts::number_line))]
 pub fn value_text(alloc: Global, valued: &Valued) -> Result<Vec<u8>, AllocError>
@@ -87,7 +87,7 @@ pub fn value_text(alloc: Global, valued: &Valued) -> Result<Vec<u8>, AllocError>
     }
 }
 
-/// What is printed of a log that is accepted: a line with its horizon and a line with its state.
+/// Returns what is printed of a log that is accepted: a line with its horizon and a line with its state.
 #[tactic(auto, unfolding(crate::specs::Texts::accepted_text))]
 pub fn accepted_text(alloc: Global, horizon: u32, state: &State) -> Result<Vec<u8>, AllocError>
     ensures { IfOk result (λ text. text.items ≡ accepted_text horizon state.now) }

@@ -17,7 +17,7 @@ use psi_command::Status;
 use psi_net_model::{Net, generated};
 use std::alloc::Global;
 
-// The text of the trial of a network; none where there is not enough memory.
+// The text of the trial of a network; none if an allocation fails.
 #[tactic(auto, unfolding(crate::specs::Trial::trial_text))]
 fn trial_text(alloc: Global, net: &Net, number: u16) -> Option<Vec<u8>>
     ensures text { IfSome result (λ text. text.items ≡ trial_text number net.now (samples_of net.now number 0 4)) }
@@ -34,7 +34,7 @@ fn trial_text(alloc: Global, net: &Net, number: u16) -> Option<Vec<u8>>
     Some(text)
 }
 
-// The trial's text, from its number; none where there is not enough memory.
+// The trial's text, from its number; none if an allocation fails.
 fn text_of(alloc: Global, number: u16) -> Option<Vec<u8>>
     ensures text { IfSome result (λ text. text.items ≡ trial_text number (generated_network number) (samples_of (generated_network number) number 0 4)) }
     ensures kept { IsSome result → IsNetwork (generated_network number) }
@@ -43,7 +43,7 @@ fn text_of(alloc: Global, number: u16) -> Option<Vec<u8>>
     trial_text(alloc, &net, number)
 }
 
-/// The work for `trial`: a network is made from the number, and four samples of it are drawn and counted; status
+/// Does the work for `trial`: a network is made from the number, and four samples of it are drawn and counted; status
 /// `Done`, or `OutOfMemory`. No file is read.
 pub fn trial_ending<'w>(alloc: Global, number: u16) -> Ending<'w>
     ensures reply { let net = generated_network number in EndsWith (ending_of result) (text_reply Done (trial_text number net (samples_of net number 0 4))) }

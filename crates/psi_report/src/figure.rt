@@ -1,4 +1,4 @@
-//! What the rows of a report tell.
+//! What the rows of a report say.
 
 use psi_net_model::Name;
 

@@ -1,9 +1,9 @@
-//! A report, as what it tells.
+//! A report, as its contents.
 
 use crate::figure::{Figure, HorizonCount};
 use std::marker::Model;
 
-/// A report of samples, without its network. It is seen as what it tells.
+/// A report of samples, without its network. It is seen as its contents.
 #[derive(Drop)]
 pub struct Report {
     /// The number of samples.

@@ -18,7 +18,7 @@ pub(crate) fn new_table(alloc: Global) -> Writer<Vec<u8>>
     Writer::from_writer(Vec::new(alloc))
 }
 
-/// Writes a row: what it tells, of what, and how much it is.
+/// Writes a row: the item, the name of what it is of, and its value.
 #[tactic(auto, using(crate::proofs::HoldingLemmas::holds_more))]
 pub(crate) fn push_row(
     table: &mut Writer<Vec<u8>>,

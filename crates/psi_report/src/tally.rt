@@ -20,7 +20,7 @@ use std::marker::Model;
 /// Running totals of samples of a network: their numbers, their horizons, and the sum, the least and the
 /// greatest of each queue's customers and of each reward's values, over the samples that are met.
 ///
-/// It is seen as these totals. Sums are kept in 128 bits. What it takes of memory is taken when it is made.
+/// It is seen as these totals. Sums are kept in 128 bits. All its memory is allocated when it is made.
 #[derive(Drop)]
 pub struct Tally {
     samples: u32,
@@ -42,11 +42,11 @@ impl Model for Tally {
 }
 
 impl Tally {
-    /// The totals of no sample.
+    /// Returns the totals of no sample.
     ///
     /// # Errors
     ///
-    /// [`OutOfMemory`] where there is no memory for a line for each queue and each reward.
+    /// [`OutOfMemory`] if an allocation fails.
     pub fn new(alloc: Global, net: &Net) -> Result<Tally, OutOfMemory>
         ensures { IfOk result (λ tally. StandsFor tally net.now []) }
     {

@@ -9,8 +9,8 @@ use psi_net_model::OutOfMemory;
 use std::alloc::Global;
 
 impl Report {
-    /// The report as comma-separated values (RFC 4180): rows of three fields, each ended by one line feed. A name
-    /// has letters, digits, `_` and `-` alone, so that no field is in quotes.
+    /// Returns the report as comma-separated values (RFC 4180): rows of three fields, each ended by one line feed. A
+    /// name has letters, digits, `_` and `-` alone, so that no field is in quotes.
     ///
     /// The rows are, in this order: `item,name,value`; `samples,-,N`, `met,-,N` and `uncoupled,-,N`, the numbers
     /// of samples, of those that are met and of those that aren't; for each horizon `horizon,T,N`, how many samples
@@ -19,7 +19,7 @@ impl Report {
     ///
     /// # Errors
     ///
-    /// [`OutOfMemory`] where there is no memory for the text.
+    /// [`OutOfMemory`] if an allocation fails.
     pub fn text(&self, alloc: Global) -> Result<Vec<u8>, OutOfMemory>
         ensures { IfOk result (λ text. text.items ≡ text_of self.now) }
     {

@@ -46,7 +46,7 @@ are-counted net seed first count kept few = record {
   few = subst (λ n. n < 2 ^ 64) (sym (samples_number net seed first count)) few;
 }
 
--- the samples of streams, and of those behind them
+-- the samples of streams, and of those after them
 samples-parts : (net : Network) (seed first m n : ℕ) → samples_of net seed first m ++ samples_of net seed (first + m) n ≡ samples_of net seed first (m + n)
 samples-parts net seed first zero n =
     let e : first + 0 ≡ first = omega arith in
@@ -118,7 +118,7 @@ text-printed told name bytes net seed first count text is-told is h =
     let same : Some printed ≡ Some (text_reply Done text) = cc in
     same-out printed (text_reply Done text) same
 
--- the report of samples that may be counted is read as what they tell
+-- the report of samples that may be counted is read as their contents
 read-as : (bytes : List ℕ) (net : Network) (outcomes : List Outcome) (text : List ℕ) → network_of bytes ≡ Ok net → AreCounted net outcomes → report_text net outcomes ≡ text
     → IsReadAs text (contents_of net outcomes)
 read-as bytes net outcomes text is are same =

@@ -24,7 +24,7 @@ pub record AreCounted (net : Network) (outcomes : List Outcome) : Type 0 where
   pub each : All (IsSampleOf net) outcomes
   pub few : length outcomes < 2 ^ 64
 
--- their report is read as what it tells, no line of it is wrong, and it has at most 32,768 bytes
+-- their report is read as its contents, no line of it is wrong, and it has at most 32,768 bytes
 pub record IsReadBack (net : Network) (outcomes : List Outcome) : Type 0 where
   pub reading : read (report_text net outcomes) ≡ Ok (contents_of net outcomes)
   pub right : flaw_of (contents_of net outcomes) ≡ None
@@ -34,7 +34,7 @@ pub record IsReadBack (net : Network) (outcomes : List Outcome) : Type 0 where
 abbrev pub ReportsAreReadBack : Type 0
 ReportsAreReadBack = (bytes : List ℕ) (net : Network) (outcomes : List Outcome) → network_of bytes ≡ Ok net → AreCounted net outcomes → IsReadBack net outcomes
 
--- and the reports of two lists of its samples are merged into that of both lists, one behind the other
+-- and the reports of two lists of its samples are merged into that of both lists, one after another
 abbrev pub ReportsAreMerged : Type 0
 ReportsAreMerged = (bytes : List ℕ) (net : Network) (outcomes others : List Outcome) → network_of bytes ≡ Ok net → AreCounted net (outcomes ++ others)
     → merged (contents_of net outcomes) (contents_of net others) ≡ Ok (contents_of net (outcomes ++ others))

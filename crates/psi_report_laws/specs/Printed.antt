@@ -53,7 +53,7 @@ pub record AreMergedInto (front back whole : List ℕ) : Type 0 where
   pub merging : merged one other ≡ Ok both
   pub text : text_of both ≡ whole
 
--- what is printed of streams, and of those behind them, is merged into what is printed of all of them
+-- what is printed of streams, and of those after them, is merged into what is printed of all of them
 abbrev pub PrintedReportsAreMerged : Type 0
 PrintedReportsAreMerged = (told : List ℕ → Option (List ℕ)) (name : List ℕ) (seed first m n : ℕ) (front back whole : List ℕ) → m + n < 2 ^ 64
     → IsPrinted told name seed first m front → IsPrinted told name seed (first + m) n back → IsPrinted told name seed first (m + n) whole

@@ -25,7 +25,7 @@ use Rattle.psi_report_reader.proofs.PlainLemmas.{IsPlain, name-bytes-plain, deci
 abbrev fields_of : List ℕ → List (List (List ℕ))
 fields_of text = map (slice_split is_comma) (lines_of text)
 
--- what stands behind the last line feed
+-- what stands after the last line feed
 abbrev pub last_line : List (List (List ℕ))
 last_line = ([] ∷ []) ∷ []
 

@@ -1,4 +1,4 @@
--- The figures of samples may stand one behind another.
+-- The figures of samples may stand one after another.
 use Rattle.std.specs.Prelude.{◌≡◌, ℕ, suc, ◌+◌, ◌≤◌, ℤ, pos, List, [], ◌∷◌, ◌++◌, map, length, not, Bool, true, false, ◌&&◌, ◌==◌, cond, nat_lt, int_le, count_by, None, All, refl}
 use Rattle.std.specs.List.{list_all, flat_map}
 use Rattle.std.specs.Str.{bytes_eq}
@@ -136,7 +136,7 @@ module _ (trio : Trio) (p : ℤ → Bool) (is : IsTrio trio p) (name : List ℕ)
       → may_stand (suc (length zs)) before e sum_figure (least_figure ∷ greatest_figure ∷ rest) ≡ true
   sum-may before e rest next new = rw (some-met (length zs), next, is.sum, new) (sum-agrees rest)
 
-  -- behind a sum the extremes
+  -- after a sum the extremes
   extremes-behind : (before : List Figure) (rest : List Figure)
       → flaw_behind (suc (length zs)) before sum_figure (least_figure ∷ greatest_figure ∷ rest) ≡ flaw_behind (suc (length zs)) ((before ++ least_figure ∷ []) ++ greatest_figure ∷ []) greatest_figure rest
   extremes-behind before rest = rw (some-met (length zs), is.first, is.least, least-follows, is.second, is.greatest, greatest-follows) refl
@@ -148,7 +148,7 @@ module _ (trio : Trio) (p : ℤ → Bool) (is : IsTrio trio p) (name : List ℕ)
   trio-behind before e rest next new =
       one-behind (suc (length zs)) before e sum_figure (least_figure ∷ greatest_figure ∷ rest) (sum-may before e rest next new) ∙ extremes-behind (before ++ sum_figure ∷ []) rest
 
--- the figures of a quantity, behind others
+-- the figures of a quantity, after others
 abbrev with_trio : Trio → List Figure → Quantity → List ℕ → List (List ℕ) → List Figure
 with_trio trio before q x xs =
     ((before ++ figure trio.sum q.name (sum_of (map q.value (x ∷ xs))) ∷ []) ++ figure trio.least q.name (least (map q.value (x ∷ xs))) ∷ [])

@@ -58,7 +58,7 @@ paired-end fs hs gs i (inl past) is = is ∙ short fs gs i past
     short (f ∷ fs) (g ∷ gs) zero past = absurd (omega arith)
     short (f ∷ fs) (g ∷ gs) (suc i) past = ap (λ xs. joined_figure f g ∷ xs) (short fs gs i (omega arith))
 
--- behind both lists' common length the shorter one has ended
+-- after both lists' common length the shorter one has ended
 none : Figure
 none = record { item = Sum; name = []; value = pos 0 }
 
@@ -72,7 +72,7 @@ difference-at-end fs gs i both at other least = elim (cases_order (length fs) (l
   ]
 ]
 
--- behind both lists' common length one of them has ended
+-- after both lists' common length one of them has ended
 pub one-ends : (m n i : ℕ) → min m n ≤ i → (m ≤ i) ⊎ (n ≤ i)
 one-ends m n i past = elim (cases_order m n) [
   | inl same ↦ inl (omega arith)

@@ -46,7 +46,7 @@ Unnamed before name = list_all (λ e. not (same_sum e.item Sum && bytes_eq e.nam
 abbrev sums : List Figure → ℕ
 sums before = count_by (λ e. same_sum e.item Sum) before
 
--- queues over n states whose figures these are, behind others
+-- queues over n states whose figures these are, after others
 pub record AreHeld (n : ℕ) (before figures : List Figure) : Type 0 where
   pub queues : List Held
   pub same : flat_map held_figures queues ≡ figures
@@ -64,9 +64,9 @@ record IsHeld (n : ℕ) (name : List ℕ) (figures : List Figure) : Type 0 where
   long : length numbers ≡ n
   few : All (λ v. v ≤ 65535) numbers
 
--- ---- one queue behind others
+-- ---- one queue after others
 
--- figures behind those before, of which the first is a queue's sum
+-- figures after those before, of which the first is a queue's sum
 record GoesOn (before behind : List Figure) (name : List ℕ) : Type 0 where
   earlier : (other : List ℕ) → Unnamed behind other → Unnamed before other
   own : Unnamed behind name → ⊥
@@ -252,7 +252,7 @@ one-trio n s l g some are =
 
 -- ---- where samples are met
 
--- what isn't wrong behind a figure
+-- what isn't wrong after a figure
 behind-one : (n : ℕ) (before : List Figure) (e f : Figure) (fs : List Figure) → flaw_behind n before e (f ∷ fs) ≡ None → (may_stand n before e f fs ≡ true) × (flaw_behind n (before ++ f ∷ []) f fs ≡ None)
 behind-one n before e f fs is = passed (may_stand n before e f fs) (flaw_behind n (before ++ f ∷ []) f fs) (length before) is
 
@@ -272,7 +272,7 @@ module _ (n : ℕ) (some : 0 < n) where
   some-met : nat_lt 0 n ≡ true
   some-met = lt-ltb 0 n some
 
-  -- an extreme that may stand behind a figure
+  -- an extreme that may stand after a figure
   extreme-stands : (before : List Figure) (e f : Figure) (fs : List Figure) → is_sum f.item ≡ false → may_stand n before e f fs ≡ true → extreme_follows e f ≡ true
   extreme-stands before e f fs other may =
       otherwise (is_sum f.item) (sum_stands n before f fs) (extreme_follows e f) other
@@ -290,7 +290,7 @@ module _ (n : ℕ) (some : 0 < n) where
       (chosen (is_sum f.item) (sum_stands n before f fs) (extreme_follows e f) own
       (and_parts (may_follow (nat_lt 0 n) e.item f.item) (if is_sum f.item then sum_stands n before f fs else extreme_follows e f) may).1)
 
-  -- the extremes behind a sum
+  -- the extremes after a sum
   extremes-are : (s l g : Figure) (rest : List Figure) → s.item ≡ Sum → l.item ≡ Least → g.item ≡ Greatest → extreme_follows s l ≡ true → extreme_follows l g ≡ true
       → agrees n s (l ∷ g ∷ rest) ≡ true → AreExtremes n s l g
   extremes-are s l g rest one two three first second agree =
@@ -319,7 +319,7 @@ module _ (n : ℕ) (some : 0 < n) where
         allowed = rw (not_none, follows, goes, first, second) at agree;
       }
 
-  -- a queue before those behind it
+  -- a queue before those after it
   with-trio : (before : List Figure) (s l g : Figure) (rest : List Figure) → AreExtremes n s l g → is_name s.name ≡ true → is_new before s ≡ true
       → AreHeld n (((before ++ s ∷ []) ++ l ∷ []) ++ g ∷ []) rest → AreHeld n before (s ∷ l ∷ g ∷ rest)
   with-trio before s l g rest are named new held =

@@ -1,4 +1,4 @@
--- The figures of two lists of samples, one behind the other, from those of each.
+-- The figures of two lists of samples, one after another, from those of each.
 use Rattle.std.specs.Prelude.{◌≡◌, ℕ, suc, ◌+◌, ℤ, List, [], ◌∷◌, ◌++◌, map, length, true, None, refl}
 use Rattle.std.specs.List.{flat_map}
 use Rattle.std.proofs.Common.{ap, sym, ◌∙◌, arith}

@@ -1,4 +1,4 @@
--- The horizons of two lists of samples, one behind the other, counted from those of each.
+-- The horizons of two lists of samples, one after another, counted from those of each.
 use Rattle.std.specs.Prelude.{◌≡◌, ℕ, ◌+◌, ◌<◌, List, [], ◌∷◌, ◌++◌, map, ◌==◌, cond, refl}
 use Rattle.std.proofs.Common.{ap, sym, ◌∙◌, inl, inr, arith}
 use Rattle.std.proofs.lemmas.Bool.{cases_order, eq-eqb, ne_eqb, lt-ltb, le-ltb}

@@ -14,7 +14,7 @@ use Rattle.psi_report_reader.proofs.CountLemmas.{with_count-same, with_count-low
 use Rattle.psi_report_reader.proofs.HorizonCountsLemmas.{horizons_of, horizons-more}
 use Rattle.psi_report_reader.proofs.PowerLemmas.{power-below}
 
--- what isn't wrong here isn't wrong behind either
+-- what isn't wrong here isn't wrong after either
 pub passed : (b : Bool) (r : Option ℕ) (k : ℕ) → ◌≡◌ {A = Option ℕ} (if b then r else Some k) None → (b ≡ true) × (r ≡ None)
 passed true r k is = (refl, is)
 passed false r k is = absurd cc

@@ -142,7 +142,7 @@ least-open i is = grind arith
 pub begin-sum : (i : Item) → may_begin i ≡ true → is_sum i ≡ true
 begin-sum i is = grind arith
 
--- a figure that stands behind another without a wrong line
+-- a figure that stands after another without a wrong line
 pub record Stands (n : ℕ) (before : List Figure) (e f : Figure) (fs : List Figure) : Type 0 where
   pub follows : may_follow (nat_lt 0 n) e.item f.item ≡ true
   pub rest : flaw_behind n (before ++ f ∷ []) f fs ≡ None
@@ -245,7 +245,7 @@ sums-apart before f (h ∷ fs) gs j k sums right first second one other alike =
 
 -- ---- where samples are met, each third figure is
 
--- behind a sum stand its extremes, and others
+-- after a sum stand its extremes, and others
 pub record Trio (n : ℕ) (fs : List Figure) : Type 0 where
   pub low : Figure
   pub high : Figure
@@ -280,12 +280,12 @@ trio-behind n before f (l ∷ h ∷ rest) some sum right =
       right = second.rest;
     }
 
--- behind the extremes the sums go on
+-- after the extremes the sums go on
 pub sums-behind : (gs : List Figure) (l h : Figure) (middle rest : List Figure) → gs ≡ l ∷ middle → middle ≡ h ∷ rest → is_sum l.item ≡ false → is_sum h.item ≡ false
     → sums_of gs ≡ sums_of rest
 sums-behind gs l h middle rest first second low high = rw (first, second, low, high) refl
 
--- no sum apart is k sums behind the first
+-- no sum apart is k sums after the first
 abbrev TriosApart : ℕ → ℕ → Type 0
 TriosApart n k = (before : List Figure) (f : Figure) (fs gs : List Figure) (j : ℕ) (sums : List Figure) → is_sum f.item ≡ true
     → flaw_behind n before f fs ≡ None → All FitsFigure fs → All FitsFigure gs
@@ -362,7 +362,7 @@ right-figures c right = go (figures_flaw c.met c.figures) (varying_reward c.figu
     go (Some k) None is = absurd cc
     go (Some k) (Some j) is = absurd cc
 
--- the place of a difference is behind no more sums than there are
+-- the place of a difference is after no more sums than there are
 difference-most : (k : ℕ) (fs gs : List Figure) (p : ℕ) → difference k fs gs ≡ Some p → p ≤ k + length gs
 difference-most k [] [] p is = absurd cc
 difference-most k [] (g ∷ gs) p is = (let at : k ≡ p = cc in omega arith)

@@ -29,7 +29,7 @@ with-one m low high v rest sum first last whole is = record {
   summed = ap (λ z. v +ℤ z) is.summed ∙ whole;
 }
 
--- the next value is as high as may be, or as high as the low ones behind it leave it
+-- the next value is as high as may be, or as high as the low ones after it leave it
 fill : (m : ℕ) (low high sum : ℤ) → low ≤ℤ high → (pos m *ℤ low) ≤ℤ sum → sum ≤ℤ (pos m *ℤ high) → Filled m low high sum
 unfolding sum_of
 fill zero low high sum order least most =

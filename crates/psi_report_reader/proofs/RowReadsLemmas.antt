@@ -1,4 +1,4 @@
--- The rows of a report are read one after another, each as what it tells.
+-- The rows of a report are read one after another, each as its contents.
 use Rattle.std.specs.Prelude.{◌≡◌, ℕ, ◌+◌, ◌-◌, ◌^◌, ◌<◌, ℤ, List, [], ◌∷◌, ◌++◌, map, codes, All, true, Some, refl}
 use Rattle.std.specs.Fmt.{decimal, signed_decimal}
 use Rattle.std.specs.Int.RustNames.{unsigned_abs}
@@ -92,7 +92,7 @@ figure-fields c RewardSum name value is fits = rw (name-again name is, integer-s
 figure-fields c RewardLeast name value is fits = rw (name-again name is, integer-signed value fits) refl
 figure-fields c RewardGreatest name value is fits = rw (name-again name is, integer-signed value fits) refl
 
--- the rows of entries, told one behind the other
+-- the rows of entries, told one after another
 each-read : {A : Type 0} (Fits : A → Type 0) (row_of : A → List (List ℕ)) (so_far : List A → Contents)
     → ((x : A) (before : List A) (rows : List (List (List ℕ))) (all : Contents) → Fits x → Reads rows (so_far (before ++ x ∷ [])) all → Reads (row_of x ∷ rows) (so_far before) all)
     → (xs before after : List A) → All Fits xs → after ≡ before ++ xs → Reads (map row_of xs) (so_far before) (so_far after)

@@ -1,4 +1,4 @@
--- The reports of less than 2^64 samples of a network are read as what they tell, and merged.
+-- The reports of less than 2^64 samples of a network are read as their contents, and merged.
 use Rattle.std.specs.Prelude.{◌++◌}
 use Rattle.std.proofs.Common.{ap, ◌∙◌}
 use Rattle.psi_report.specs.Samples.{met_states}

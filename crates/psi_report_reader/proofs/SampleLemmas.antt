@@ -104,7 +104,7 @@ rewards-pass caps states are below (r ∷ rewards) all =
 
 -- ---- names
 
--- names that differ from those of all quantities behind them
+-- names that differ from those of all quantities after them
 abbrev pub AreApart : List Quantity → Type 0
 AreApart [] = Unit {0}
 AreApart (q ∷ qs) = All (λ (r : Quantity). bytes_eq q.name r.name ≡ false) qs × AreApart qs

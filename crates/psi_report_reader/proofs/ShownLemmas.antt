@@ -56,7 +56,7 @@ module _ (i : Item) where
       let last : cond {A = ℕ} (same_sum f.item i) 1 0 ≡ cond {A = ℕ} t 1 0 = ap (λ b. cond {A = ℕ} b 1 0) is in
       omega arith
 
-  -- names of such sums behind others: they differ from one another and from those, and there are so many at most
+  -- names of such sums after others: they differ from one another and from those, and there are so many at most
   record AreKept (before : List Figure) (most : ℕ) (names : List (List ℕ)) : Type 0 where
     named : All (λ name. is_name name ≡ true) names
     apart : All (Unnamed before) names
@@ -66,7 +66,7 @@ module _ (i : Item) where
   kept-none : (before : List Figure) (most : ℕ) → sums before ≤ most → AreKept before most []
   kept-none before most few = record { named = All-nil (λ name. is_name name ≡ true); apart = All-nil (Unnamed before); differ = tt; room = omega arith }
 
-  -- behind another figure, which is no such sum
+  -- after another figure, which is no such sum
   kept-past : (before : List Figure) (f : Figure) (most : ℕ) (names : List (List ℕ)) → same_sum f.item i ≡ false → AreKept (before ++ f ∷ []) most names → AreKept before most names
   kept-past before f most names other are =
       let same = sums-push before f false other in
@@ -88,7 +88,7 @@ module _ (i : Item) where
     | inr later ↦ not-behind before f names is (All-tail (Unnamed (before ++ f ∷ [])) name names apart) later
   ]
 
-  -- behind such a sum, which is new
+  -- after such a sum, which is new
   kept-more : (before : List Figure) (f : Figure) (most : ℕ) (names : List (List ℕ)) → same_sum f.item i ≡ true → is_name f.name ≡ true → Unnamed before f.name
       → AreKept (before ++ f ∷ []) most names → AreKept before most (f.name ∷ names)
   kept-more before f most names is named new are =
@@ -122,14 +122,14 @@ queue_shown name = (Sum, name)
 abbrev reward_shown : List ℕ → Shown
 reward_shown name = (RewardSum, name)
 
--- what figures show behind others, of which e is the last
+-- what figures show after others, of which e is the last
 record AreNamed (before : List Figure) (e : Figure) (rest : List Figure) : Type 0 where
   queues : List (List ℕ)
   rewards : List (List ℕ)
   same : map shown_by (sums_of rest) ≡ map queue_shown queues ++ map reward_shown rewards
   of_queues : AreKept Sum before 32 queues
   of_rewards : AreKept RewardSum before 64 rewards
-  -- behind a reward there is no queue
+  -- after a reward there is no queue
   order : is_of_queue e.item ≡ false → queues ≡ []
 
 kind-kept : (b : Bool) (i j : Item) → may_follow b i j ≡ true → is_of_queue i ≡ false → is_of_queue j ≡ false
@@ -181,7 +181,7 @@ if-true : (t x y : Bool) → (if t then x else y) ≡ true → t ≡ true → x 
 if-true true x y holds is = holds
 if-true false x y holds is = absurd cc
 
--- one figure behind others
+-- one figure after others
 module _ (n : ℕ) (before : List Figure) (e f : Figure) (rest : List Figure) (stands : may_stand n before e f rest ≡ true) (named : is_name f.name ≡ true) (few : sums Sum before ≤ 32)
     (some : sums RewardSum before ≤ 64) (behind : sums Sum (before ++ f ∷ []) ≤ 32 → sums RewardSum (before ++ f ∷ []) ≤ 64 → AreNamed (before ++ f ∷ []) f rest) where
   follows : may_follow (nat_lt 0 n) e.item f.item ≡ true
@@ -192,7 +192,7 @@ module _ (n : ℕ) (before : List Figure) (e f : Figure) (rest : List Figure) (s
       let sum_or_extreme = (and_parts (may_follow (nat_lt 0 n) e.item f.item) (if is_sum f.item then sum_stands n before f rest else extreme_follows e f) stands).1 in
       (and_parts (is_new before f) (agrees n f rest) (if-true (is_sum f.item) (sum_stands n before f rest) (extreme_follows e f) sum_or_extreme sum)).0
 
-  -- what those behind it show
+  -- what those after it show
   behind-it : (queue reward : Bool) → same_sum f.item Sum ≡ queue → same_sum f.item RewardSum ≡ reward → sums Sum before + cond {A = ℕ} queue 1 0 ≤ 32
       → sums RewardSum before + cond {A = ℕ} reward 1 0 ≤ 64 → AreNamed (before ++ f ∷ []) f rest
   behind-it queue reward of_queue of_reward room place =

@@ -87,7 +87,7 @@ module _ (x : List ℕ) (xs : List (List ℕ)) where
       let here : All (λ s. number i s ≡ number i x) xs = All-weaker (λ s. number i s ≡ low) (λ s. number i s ≡ number i x) (λ s is. is ∙ sym own) xs (All-tail (λ s. number i s ≡ low) x xs each) in
       rw same (behind (all-more i x xs all here) _ _)
 
-  -- behind queues that don't vary each state is the first
+  -- after queues that don't vary each state is the first
   queues-steady : (rest : List Figure) (i : ℕ) (queues : List Queue) (k : ℕ) (e : Figure) → All (AreSame i x) xs
       → (All (AreSame (i + length queues) x) xs → (k : ℕ) (e : Figure) → varying_behind k e rest ≡ None)
       → varying_behind k e (flat_map (quantity_figures queue_trio (x ∷ xs)) (queues_from i queues) ++ rest) ≡ None

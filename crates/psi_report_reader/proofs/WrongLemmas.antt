@@ -19,7 +19,7 @@ use Rattle.psi_report_reader.proofs.SoundLemmas.{report-sound}
 use Rattle.psi_report_reader.proofs.FieldLemmas.{last_line, rows-alike, lines-count, number-same}
 use Rattle.psi_report_reader.proofs.WrongLinesLemmas.{Rows, take-fewer, behind, horizons-same, horizons-range, horizons-wrong, sum_at, judged, first-range, first-wrong}
 
--- ---- the rows behind the first four
+-- ---- the rows after the first four
 
 abbrev pub tail_rows : Contents → Rows
 tail_rows c = map count_row c.horizons ++ behind c.figures
@@ -47,12 +47,12 @@ module _ (c d : Contents) (is : IsReport c) (other : IsReport d) where
         met = number-same c.met d.met (codes "met") is.met other.met two;
       }
 
-  -- and the rows behind the first four
+  -- and the rows after the first four
   pub tail-alike : (n : ℕ) → take (suc (suc (suc (suc n)))) (contents_rows c ++ last_line) ≡ take (suc (suc (suc (suc n)))) (contents_rows d ++ last_line) → take n (tail_rows c) ≡ take n (tail_rows d)
   unfolding number_rows
   tail-alike n alike = (let rows = rw (all-rows c, all-rows d) at alike in cc)
 
--- the rows behind the horizons
+-- the rows after the horizons
 pub tail-behind : (hs : List HorizonCount) (fs gs : List Figure) (n m : ℕ) → m ≡ length hs + n → take m (map count_row hs ++ behind fs) ≡ take m (map count_row hs ++ behind gs)
     → take n (behind fs) ≡ take n (behind gs)
 tail-behind [] fs gs n m many same = subst (λ (i : ℕ). take i (behind fs) ≡ take i (behind gs)) (let all : m ≡ n = omega arith in all) same
@@ -152,7 +152,7 @@ module _ (c d : Contents) (numbered : IsNumbered c) (other : IsReport d) (right 
       judged-some true = omega arith
       judged-some false = omega arith
 
-  -- behind the numbers of samples
+  -- after the numbers of samples
   rows-wrong : (line n : ℕ) → HaveSameNumbers c d → (o : Option ℕ) → horizons_flaw 0 None c.met c.horizons ≡ o → rows_line c o ≡ Some line
       → lines_judged c line ≡ 4 + n → take n (tail_rows c) ≡ take n (tail_rows d) → ⊥
   rows-wrong line n same (Some k) at is lines alike =

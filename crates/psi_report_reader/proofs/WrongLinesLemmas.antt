@@ -18,7 +18,7 @@ Rows = List (List (List ℕ))
 pub take-fewer : {A : Type 0} (m n : ℕ) (xs ys : List A) → m ≤ n → take n xs ≡ take n ys → take m xs ≡ take m ys
 take-fewer m n xs ys few alike = sym (take-take m n xs few) ∙ ap (take m) alike ∙ take-take m n ys few
 
--- the rows behind those of the horizons
+-- the rows after those of the horizons
 abbrev pub behind : List Figure → Rows
 behind fs = map figure_row fs ++ last_line
 
@@ -29,7 +29,7 @@ count-behind h rest (f ∷ fs) m same = (let row : count_row h ≡ figure_row f 
 
 -- ---- horizons
 
--- rows that are alike up to that behind the horizons have the same horizons
+-- rows that are alike up to that after the horizons have the same horizons
 pub horizons-same : (cs ds : List HorizonCount) (fs gs : List Figure) → All FitsCount cs → All FitsCount ds
     → take (suc (length cs)) (map count_row cs ++ behind fs) ≡ take (suc (length cs)) (map count_row ds ++ behind gs) → cs ≡ ds
 horizons-same [] [] fs gs first second same = refl
@@ -42,7 +42,7 @@ horizons-same (c ∷ cs) (d ∷ ds) fs gs first second same =
     let more = horizons-same cs ds fs gs (All-tail FitsCount c cs first) (All-tail FitsCount d ds second) rest in
     cc
 
--- a wrong horizon is one of them, or behind them
+-- a wrong horizon is one of them, or after them
 pub horizons-range : (k left : ℕ) (last : Option ℕ) (cs : List HorizonCount) (p : ℕ) → horizons_flaw k last left cs ≡ Some p → (k ≤ p) × (p ≤ k + length cs)
 horizons-range k left last [] p is = go (left == 0) is
   where
@@ -93,7 +93,7 @@ sum_at (suc i) (f ∷ fs) = sum_at i fs
 abbrev pub judged : ℕ → List Figure → ℕ
 judged i fs = cond {A = ℕ} (sum_at i fs) (i + 3) (i + 1)
 
--- what is judged of a sum by the two rows behind it
+-- what is judged of a sum by the two rows after it
 agrees-same : (n : ℕ) (f : Figure) (fs gs : List Figure) → All FitsFigure fs → All FitsFigure gs → take 2 (behind fs) ≡ take 2 (behind gs) → agrees_behind n f fs ≡ agrees_behind n f gs
 agrees-same n f [] [] first second same = refl
 agrees-same n f [] (g ∷ gs) first second same = (let row : figure_row g ≡ [] ∷ [] = cc in absurd (figure-last g row))

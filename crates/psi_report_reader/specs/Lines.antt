@@ -19,7 +19,7 @@ use Rattle.psi_report_reader.specs.Samples.{IsDescribed, AreOf}
 use Rattle.psi_report_reader.specs.Sound.{horizon_line, figure_line, flaw_of}
 use Rattle.psi_report_reader.specs.Merging.{sums_of, line_of_sum, joined, merged}
 
--- the lines of a text; the last is what stands behind the last line feed
+-- the lines of a text; the last is what stands after the last line feed
 abbrev pub lines_of : List ℕ → List (List ℕ)
 lines_of text = slice_split is_feed text
 

@@ -30,7 +30,7 @@ difference k [] (g ∷ gs) = Some k
 difference k (f ∷ fs) [] = Some k
 difference k (f ∷ fs) (g ∷ gs) = if is_alike f g then difference (k + 1) fs gs else Some k
 
--- the line of a report's k-th sum: behind four rows and those of the horizons; the extremes follow each sum where any sample is met
+-- the line of a report's k-th sum: after four rows and those of the horizons; the extremes follow each sum where any sample is met
 abbrev pub line_of_sum : Contents → ℕ → ℕ
 line_of_sum c k = figure_line c (if c.met == 0 then k else 3 * k)
 
@@ -103,13 +103,13 @@ merged_unless None a b = fitting b (joined a b)
 unfoldable pub merged : Contents → Contents → Result Contents MergeError
 merged a b = merged_unless (difference 0 (sums_of a.figures) (sums_of b.figures)) a b
 
--- the answer is the merging's, unless memory is wanting
+-- the answer is the merging's, unless an allocation fails
 abbrev pub Merges : Result Contents MergeError → Result Contents MergeError → Type 0
 Merges (Ok c) merging = merging ≡ Ok c
 Merges (Err OutOfMemory) merging = Unit {0}
 Merges (Err error) merging = merging ≡ Err error
 
--- the reports of two lists of samples of one network are merged into the report of both lists, one behind the other
+-- the reports of two lists of samples of one network are merged into the report of both lists, one after another
 abbrev pub ReportsAreMerged : Type 0
 ReportsAreMerged = (net : Network) (outcomes others : List Outcome) → AreSamples net (outcomes ++ others)
     → merged (contents_of net outcomes) (contents_of net others) ≡ Ok (contents_of net (outcomes ++ others))

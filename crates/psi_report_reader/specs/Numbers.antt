@@ -15,7 +15,7 @@ with_digits value (byte ∷ bytes) = option_and_then (λ next. with_digits next 
 abbrev pub magnitude : List ℕ → Option ℕ
 magnitude word = with_digits 0 word
 
--- the integer that digits are, behind a minus sign or none
+-- the integer that digits are, after a minus sign or none
 abbrev pub integer_of : List ℕ → Option ℤ
 integer_of [] = None
 integer_of (byte ∷ bytes) = if byte == 45 then option_map (λ n. neg_ℤ (pos n)) (magnitude bytes) else option_map (λ n. pos n) (magnitude (byte ∷ bytes))

@@ -14,7 +14,7 @@ use Rattle.psi_report.specs.Contents.{Contents}
 use Rattle.psi_report_reader.specs.Numbers.{count_in, integer_of}
 use Rattle.psi_report.specs.Text.{text_of}
 
--- a report that tells nothing yet
+-- a report without contents yet
 abbrev pub blank : Contents
 blank = record { samples = 0; met = 0; horizons = []; figures = [] }
 
@@ -73,13 +73,13 @@ module _ (c : Contents) where
       else if bytes_eq item (codes "horizon") then with_horizon (count_in name) (count_in value)
       else with_figure (item_of item) (name_in name) (integer_of value)
 
-  -- what a line's fields tell: three, or nothing behind the last line feed
+  -- what a line's fields tell: three, or nothing after the last line feed
   unfoldable pub with_row : List (List ℕ) → Option Contents
   with_row (item ∷ name ∷ value ∷ []) = with_fields item name value
   with_row (only ∷ []) = if length only == 0 then Some c else None
   with_row _ = None
 
--- once a line is read: what the lines behind it tell, or its refusal
+-- once a line is read: what the lines after it tell, or its refusal
 abbrev pub behind : ℕ → (Contents → Result Contents ℕ) → Option Contents → Result Contents ℕ
 behind n rest None = Err n
 behind n rest (Some c) = rest c
@@ -118,7 +118,7 @@ ReadIsText = (text : List ℕ) (c : Contents) → read text ≡ Ok c → text_of
 abbrev pub TextIsRead : Type 0
 TextIsRead = (c : Contents) → IsReport c → read (text_of c) ≡ Ok c
 
--- the answer is the reading's, unless memory is wanting
+-- the answer is the reading's, unless an allocation fails
 abbrev pub Gives : Result Contents ReadError → Result Contents ℕ → Type 0
 Gives (Ok c) reading = reading ≡ Ok c
 Gives (Err (Refused line)) reading = reading ≡ Err line

@@ -28,7 +28,7 @@ pub record AreOf (net : Network) (outcomes : List Outcome) : Type 0 where
   pub network : IsDescribed net
   pub samples : All (IsSampleOf net) outcomes
 
--- the report of less than 2^64 of them is read as what it tells
+-- the report of less than 2^64 of them is read as its contents
 abbrev pub SamplesAreRead : Type 0
 SamplesAreRead = (net : Network) (outcomes : List Outcome) → AreOf net outcomes → length outcomes < 2 ^ 64 → read (report_text net outcomes) ≡ Ok (contents_of net outcomes)
 

@@ -25,6 +25,6 @@ pub record AreSamples (net : Network) (outcomes : List Outcome) : Type 0 where
   pub queues : All (IsMeasured (met_states outcomes)) (queue_quantities net)
   pub rewards : All (IsMeasured (met_states outcomes)) (reward_quantities net)
 
--- the report of such samples is read as what it tells
+-- the report of such samples is read as its contents
 abbrev pub ReportIsRead : Type 0
 ReportIsRead = (net : Network) (outcomes : List Outcome) → AreSamples net outcomes → read (report_text net outcomes) ≡ Ok (contents_of net outcomes)

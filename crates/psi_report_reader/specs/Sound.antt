@@ -32,7 +32,7 @@ is_above (Some s) t = nat_lt s t
 abbrev pub is_next : Option ℕ → ℕ → HorizonCount → Bool
 is_next last left c = (is_horizon c.horizon && is_above last c.horizon) && (nat_lt 0 c.count && nat_le c.count left)
 
--- the first place, from k on, of a count that may not come; the place behind all where some samples are left
+-- the first place, from k on, of a count that may not come; the place after all where some samples are left
 abbrev pub horizons_flaw : ℕ → Option ℕ → ℕ → List HorizonCount → Option ℕ
 horizons_flaw k last left [] = if left == 0 then None else Some k
 horizons_flaw k last left (c ∷ cs) = if is_next last left c then horizons_flaw (k + 1) (Some c.horizon) (left - c.count) cs else Some k
@@ -90,7 +90,7 @@ abbrev pub most_of : Item → ℕ
 most_of RewardSum = 64
 most_of _ = 32
 
--- a sum may come behind figures: none of them is of the same queue or reward, and those of its kind are fewer than there may be
+-- a sum may come after figures: none of them is of the same queue or reward, and those of its kind are fewer than there may be
 abbrev pub is_new : List Figure → Figure → Bool
 is_new before f = list_all (λ e. not (is_alike e f)) before && nat_lt (count_by (λ e. same_sum e.item f.item) before) (most_of f.item)
 
@@ -141,7 +141,7 @@ pub record AreSummed (n : ℕ) (low high sum : ℤ) (values : List ℤ) : Type 0
 abbrev pub SumsAreReached : Type 0
 SumsAreReached = (n : ℕ) (low high sum : ℤ) → 0 < n → low ≤ℤ high → allows n low high sum ≡ true → (values : List ℤ) × AreSummed n low high sum values
 
--- two figures are the extremes of a sum, and may stand behind it
+-- two figures are the extremes of a sum, and may stand after it
 abbrev pub are_extremes : Figure → Figure → Figure → Bool
 are_extremes f l g = (may_follow true f.item l.item && may_follow true l.item g.item) && (extreme_follows f l && extreme_follows l g)
 
@@ -149,7 +149,7 @@ are_extremes f l g = (may_follow true f.item l.item && may_follow true l.item g.
 abbrev pub agrees_with : ℕ → Figure → Figure → Figure → Bool
 agrees_with n f l g = if are_extremes f l g then allows n l.value g.value f.value else true
 
--- and with the figures that stand behind it, of which the first two may be its extremes
+-- and with the figures that stand after it, of which the first two may be its extremes
 abbrev pub agrees_behind : ℕ → Figure → List Figure → Bool
 agrees_behind n f (l ∷ g ∷ fs) = agrees_with n f l g
 agrees_behind n f _ = true
@@ -160,15 +160,15 @@ agrees n f fs = if n == 0 then unsigned_abs f.value == 0 else agrees_behind n f 
 
 -- ---- figures
 
--- a sum may stand behind figures and before others
+-- a sum may stand after figures and before others
 abbrev pub sum_stands : ℕ → List Figure → Figure → List Figure → Bool
 sum_stands n before f fs = is_new before f && agrees n f fs
 
--- of n samples that are met, a figure may stand behind others, of which e is the last, and before others
+-- of n samples that are met, a figure may stand after others, of which e is the last, and before others
 abbrev pub may_stand : ℕ → List Figure → Figure → Figure → List Figure → Bool
 may_stand n before e f fs = may_follow (nat_lt 0 n) e.item f.item && (if is_sum f.item then sum_stands n before f fs else extreme_follows e f)
 
--- the first place of a figure that may not stand behind those before it, of which e is the last; the place behind all where they may not end so
+-- the first place of a figure that may not stand after those before it, of which e is the last; the place after all where they may not end so
 abbrev pub flaw_behind : ℕ → List Figure → Figure → List Figure → Option ℕ
 flaw_behind n before e [] = if may_end (nat_lt 0 n) e.item then None else Some (length before)
 flaw_behind n before e (f ∷ fs) = if may_stand n before e f fs then flaw_behind n (before ++ f ∷ []) f fs else Some (length before)
@@ -195,7 +195,7 @@ abbrev pub if_reward : Item → ℕ → Option ℕ
 if_reward RewardGreatest k = Some k
 if_reward _ k = None
 
--- the first place, from k on, of the greatest of values that aren't all the same, behind a figure e, where it is a reward's: none of the queues before it varies
+-- the first place, from k on, of the greatest of values that aren't all the same, after a figure e, where it is a reward's: none of the queues before it varies
 abbrev pub varying_behind : ℕ → Figure → List Figure → Option ℕ
 varying_behind k e [] = None
 varying_behind k e (f ∷ fs) = if varies e f then if_reward f.item k else varying_behind (k + 1) f fs
@@ -221,11 +221,11 @@ first_flaw n figures = first_of (figures_flaw n figures) (varying_reward figures
 abbrev pub line_at : ℕ → ℕ
 line_at n = min n (2 ^ 64 - 1)
 
--- the line of the k-th horizon, k from 0: behind the heading and three numbers of samples
+-- the line of the k-th horizon, k from 0: after the heading and three numbers of samples
 abbrev pub horizon_line : ℕ → ℕ
 horizon_line k = line_at (5 + k)
 
--- the line of the k-th figure, k from 0: behind the horizons
+-- the line of the k-th figure, k from 0: after the horizons
 abbrev pub figure_line : Contents → ℕ → ℕ
 figure_line c k = line_at (5 + length c.horizons + k)
 

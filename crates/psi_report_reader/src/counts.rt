@@ -46,7 +46,7 @@ fn add_count(counts: &mut Vec<HorizonCount>, added: &HorizonCount) -> Result<boo
     Ok(true)
 }
 
-/// Adds counts to others, and answers whether each sum has 64 bits.
+/// Adds counts to others, and returns whether each sum has 64 bits.
 pub(crate) fn join_counts(
     own: &[HorizonCount],
     counts: &mut Vec<HorizonCount>,

@@ -11,10 +11,10 @@ pub enum ReadError {
     /// The text is no report.
     Refused {
         /// The first line that is no row of a report, counted from 1; 0 where each line is a row, but the text isn't
-        /// that of the report that the rows tell.
+        /// that of the report that the rows make up.
         line: u64,
     },
-    /// Memory ran out.
+    /// An allocation failed.
     OutOfMemory,
 }
 
@@ -40,16 +40,16 @@ pub enum MergeError {
     /// They aren't of one network: its queues or its rewards are others.
     OtherNetwork {
         /// The line of the second report, counted from 1, of the first sum that isn't of the queue or the reward of
-        /// the first report's sum at its place; the line behind the last where a sum is missing.
+        /// the first report's sum at its place; the line after the last where a sum is missing.
         line: u64,
     },
-    /// A number of the report of both would be greater than a report may tell.
+    /// A number of the report of both would be greater than a report may have.
     TooLarge {
         /// The line of the second report, counted from 1, of the first number with which that is so: 2 of the samples;
         /// 3 of those that are met, also where those of one horizon would be too many; else that of a figure.
         line: u64,
     },
-    /// Memory ran out.
+    /// An allocation failed.
     OutOfMemory,
 }
 

@@ -1,4 +1,4 @@
-//! Which figures may stand one behind another.
+//! Which figures may stand one after another.
 
 ghost use Rattle.std.specs.Prelude.{◌≡◌, ◌≤◌, true, not, count_by, unsigned_abs};
 ghost use Rattle.std.specs.List.{list_all};
@@ -85,14 +85,14 @@ fn number_of(before: &[Figure], sum: &Figure) -> usize
     number
 }
 
-// Whether a sum may come behind figures: its queue or reward is another one, and there may be one more.
+// Whether a sum may come after figures: its queue or reward is another one, and there may be one more.
 fn is_new(before: &[Figure], sum: &Figure) -> bool
     ensures { result ≡ is_new before.now sum.now }
 {
     is_unlike(before, sum) && number_of(before, sum) < most_of(sum.item)
 }
 
-// Whether two figures are the extremes of a sum, and may stand behind it.
+// Whether two figures are the extremes of a sum, and may stand after it.
 fn are_extremes(sum: &Figure, least: &Figure, greatest: &Figure) -> bool
     ensures value { result ≡ are_extremes sum.now least.now greatest.now }
     ensures few { result ≡ true → (unsigned_abs least.now.value ≤ 2097120000000000) × (unsigned_abs greatest.now.value ≤ 2097120000000000) }
@@ -113,7 +113,7 @@ fn agrees_with(met: u64, sum: &Figure, least: &Figure, greatest: &Figure) -> boo
     true
 }
 
-// Whether a sum agrees with the figures behind it: it is 0 where no sample is met, and else such as its extremes allow,
+// Whether a sum agrees with the figures after it: it is 0 where no sample is met, and else such as its extremes allow,
 // where these may stand there.
 fn agrees(met: u64, sum: &Figure, behind: &[Figure]) -> bool
     ensures { result ≡ agrees met sum.now behind.now }
@@ -127,14 +127,14 @@ fn agrees(met: u64, sum: &Figure, behind: &[Figure]) -> bool
     }
 }
 
-// Whether a sum may stand behind figures and before others.
+// Whether a sum may stand after figures and before others.
 fn sum_stands(met: u64, before: &[Figure], sum: &Figure, behind: &[Figure]) -> bool
     ensures { result ≡ sum_stands met before.now sum.now behind.now }
 {
     is_new(before, sum) && agrees(met, sum, behind)
 }
 
-// Whether a figure may stand behind others, of which this is the last, and before others.
+// Whether a figure may stand after others, of which this is the last, and before others.
 fn may_stand(met: u64, before: &[Figure], last: &Figure, figure: &Figure, behind: &[Figure]) -> bool
     ensures { result ≡ may_stand met before.now last.now figure.now behind.now }
 {
@@ -148,7 +148,7 @@ fn may_stand(met: u64, before: &[Figure], last: &Figure, figure: &Figure, behind
     }
 }
 
-/// The first place of a figure that may not stand there, where so many samples are met; the place behind all where
+/// The first place of a figure that may not stand there, where `met` samples are met; the place after all where
 /// figures may not end so.
 pub(crate) fn figures_flaw(figures: &[Figure], met: u64) -> Option<usize>
     ensures { result ≡ figures_flaw met figures.now }

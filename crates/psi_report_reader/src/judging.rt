@@ -37,7 +37,7 @@ fn is_next(last: Option<u64>, left: u64, count: &HorizonCount) -> bool
         && count.count <= left
 }
 
-// The first place of a count that may not come; the place behind all where some of the samples that are met are left.
+// The first place of a count that may not come; the place after all where some of the samples that are met are left.
 fn horizons_flaw(counts: &[HorizonCount], met: u64) -> Option<usize>
     ensures { result ≡ horizons_flaw 0 None met counts.now }
 {
@@ -61,20 +61,19 @@ pub(crate) fn line_at(first: u64, place: usize) -> u64
     first.saturating_add(place as u64)
 }
 
-/// The first line, counted from 1, that no report of samples has there; none where there is no such line.
+/// Returns the first line, counted from 1, that no report of samples has there; none where there is no such line.
 ///
-/// It is line 3 where more samples are met than there are; else that of the first horizon that isn't a power of two
-/// of at most 2^22, that isn't above the one before it, that no sample has, or that more samples have than are left
-/// of those that are met, or the line behind the horizons where some are left; else that of the first figure that
-/// may not stand there, or the line behind the last where figures are missing. The figures are, of 1 to 32 queues
-/// and then of at most 64 rewards, the sum, and where samples are met the least and the greatest value of the same
-/// name. A sum may not stand there where a queue, or a reward, before it has its name; where no sample is met and
-/// it isn't 0; or where a least and a greatest value that may stand there follow, and it isn't the sum of so many
-/// values with these: it is at least that of one greatest value and else least ones, and at most that of one least
-/// value and else greatest ones. The least and the greatest of a queue are 0 to 65,535, those of a reward have a
-/// magnitude of at most 2,097,120,000,000,000, and the greatest isn't below the least. Where each queue's greatest
-/// is its least, the samples that are met are one state, and the first reward's greatest may not stand there that
-/// isn't its least.
+/// It is line 3 where more samples are met than there are; else that of the first horizon that isn't a power of two of
+/// at most 2^22, that isn't above the one before it, that no sample has, or that more samples have than are left of
+/// those that are met, or the line after the horizons where some are left; else that of the first figure that may not
+/// stand there, or the line after the last where figures are missing. The figures are, of 1 to 32 queues and then of at
+/// most 64 rewards, the sum, and where samples are met the least and the greatest value of the same name. A sum may not
+/// stand there where a queue, or a reward, before it has its name; where no sample is met and it isn't 0; or where a
+/// least and a greatest value that may stand there follow, and it isn't the sum of as many values with these as samples
+/// are met. Such a sum is at least that of one greatest value and else least ones, and at most that of one least value
+/// and else greatest ones. The least and the greatest of a queue are 0 to 65,535, those of a reward have a magnitude of
+/// at most 2,097,120,000,000,000, and the greatest isn't below the least. Where each queue's greatest is its least, the
+/// samples that are met are one state, and the first reward's greatest may not stand there that isn't its least.
 pub fn flaw_of(report: &Report) -> Option<u64>
     ensures { result ≡ flaw_of report.now }
 {

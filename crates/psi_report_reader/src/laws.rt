@@ -15,7 +15,7 @@ pub fn text_is_read()
     ensures again { TextIsRead }
 {}
 
-/// The report of less than 2^32 samples of a network, whose values have 64 bits, is read as what it tells; and so is
+/// The report of less than 2^32 samples of a network, whose values have 64 bits, is read as its contents; and so is
 /// that of less than 2^64 samples of a network that a file may describe.
 pub fn report_is_read()
     ensures measured { ReportIsRead }
@@ -28,7 +28,7 @@ pub fn reports_are_short()
 {}
 
 /// The reports of two lists of samples of one network, less than 2^32 together, whose values have 64 bits, are merged
-/// into the report of both lists, one behind the other; and so are those of less than 2^64 samples together of a
+/// into the report of both lists, one after another; and so are those of less than 2^64 samples together of a
 /// network that a file may describe.
 pub fn reports_are_merged()
     ensures measured { ReportsAreMerged }
@@ -65,12 +65,12 @@ pub fn reports_show_networks()
     ensures { ReportsShowNetworks }
 {}
 
-/// The lines that are told of horizons, figures and sums are those on which their rows stand.
+/// The lines that refusals name for horizons, figures and sums are those on which their rows stand.
 pub fn rows_stand_on_lines()
     ensures { RowsStandOnLines }
 {}
 
-/// The line that [`flaw_of`](crate::flaw_of) answers is wrong whatever stands behind it: no samples of a
+/// The line that [`flaw_of`](crate::flaw_of) answers is wrong whatever follows it: no samples of a
 /// network that a file may describe have a report with the lines up to it, and where it has a sum, with two more, which
 /// may have its extremes.
 pub fn wrong_lines_are_none()
@@ -83,15 +83,15 @@ pub fn networks_are_told()
     ensures { NetworksAreTold }
 {}
 
-/// The line of `OtherNetwork` is of another network whatever stands behind it: where the first report is of samples of a
+/// The line of `OtherNetwork` is of another network whatever follows it: where the first report is of samples of a
 /// network, no samples of this network have a report with the second one's lines up to it.
 pub fn other_lines_are_none()
     ensures { OtherLinesAreNone }
 {}
 
-/// What [`merged`](crate::merged) gives of two reports is a report, whose text is read as it; and two that
-/// show the same queues and rewards are merged wherever what they tell together is one: `TooLarge` is the answer exactly
-/// where it would have a count of 2^64 or more, or a figure whose magnitude is 10^37 or more.
+/// What [`merged`](crate::merged) gives of two reports is a report, whose text is read as it; and two that show the
+/// same queues and rewards are merged wherever their contents together are one: `TooLarge` is the answer exactly where
+/// it would have a count of 2^64 or more, or a figure whose magnitude is 10^37 or more.
 pub fn merged_are_reports()
     ensures told { MergedIsReport }
     ensures whole { FittingAreMerged }

@@ -106,14 +106,14 @@ fn joined(report: Report, other: Report) -> Result<Report, MergeError>
     }
 }
 
-/// The report of the samples of a report and of those of another, of the same network.
+/// Returns the report of the samples of a report and of those of another, of the same network.
 ///
 /// # Errors
 ///
 /// [`MergeError::OtherNetwork`] where the queues and rewards of the other report aren't those of the first: the
 /// sums with which their figures begin differ in a name, in their number, or in whether they are of a queue or of a
-/// reward. [`MergeError::TooLarge`] where the report of both would tell a count of 2^64 or more, or a sum whose
-/// magnitude is 10^37 or more. [`MergeError::OutOfMemory`] where there is no memory.
+/// reward. [`MergeError::TooLarge`] where the report of both would have a count of 2^64 or more, or a sum whose
+/// magnitude is 10^37 or more. [`MergeError::OutOfMemory`] if an allocation fails.
 pub fn merged(alloc: Global, report: Report, other: Report) -> Result<Report, MergeError>
     ensures { Merges result (merged report other) }
 {

@@ -34,7 +34,7 @@ fn magnitude(word: &[u8]) -> Option<u128>
     Some(value)
 }
 
-/// The integer that digits are, behind a minus sign or none: its magnitude is less than 10^37.
+/// The integer that digits are, after a minus sign or none: its magnitude is less than 10^37.
 pub(crate) fn integer_of(word: &[u8]) -> Option<i128>
     ensures { result ≡ integer_of word.now }
 {

@@ -17,7 +17,7 @@ fn lines_of(alloc: Global, text: &[u8]) -> Result<Vec<&[u8]>, AllocError>
     text.split(|byte| *byte == b'\n').collect(alloc)
 }
 
-// A report that tells nothing yet.
+// A report without contents yet.
 fn blank(alloc: Global) -> Report
     ensures { result ≡ blank }
 {
@@ -29,7 +29,7 @@ fn blank(alloc: Global) -> Report
     }
 }
 
-// What lines tell one after another.
+// The contents of lines, one after another.
 #[tactic(auto, using(crate::proofs::LineLemmas::lines_end))]
 fn read_lines(alloc: Global, lines: &[&[u8]]) -> Result<Report, ReadError>
     ensures { Gives result (read_lines 1 blank (map (λ line. line.now) lines.now)) }
@@ -45,15 +45,15 @@ fn read_lines(alloc: Global, lines: &[&[u8]]) -> Result<Report, ReadError>
     Ok(report)
 }
 
-/// The report whose text this is.
+/// Returns the report whose text this is.
 ///
 /// # Errors
 ///
 /// [`ReadError::Refused`] with the first line that isn't a row of a report: three fields between commas, of which the
 /// first is one of a report's items and the others are the numbers or the names that a row of it has; or with line 0
 /// where each line is such a row, but the rows don't stand in a report's order, a number isn't written as a decimal
-/// number is, or the numbers of samples don't add up. [`ReadError::OutOfMemory`] where there is no memory for the report
-/// or for its text, which is compared with this one.
+/// number is, or the numbers of samples don't add up. [`ReadError::OutOfMemory`] if an allocation fails,
+/// for the report or for its text, which is compared with this one.
 #[tactic(auto, unfolding(crate::specs::Reading::read))]
 pub fn read(alloc: Global, text: &[u8]) -> Result<Report, ReadError>
     ensures reading { Gives result (read text.now) }

@@ -1,4 +1,4 @@
-//! What the rows of a report tell.
+//! What the rows of a report say.
 
 ghost use Rattle.std.specs.Prelude.{◌≡◌, map, IfOk};
 ghost use Rattle.std.specs.List.{slice_split};
@@ -106,7 +106,7 @@ fn take_figure(
     }
 }
 
-// Takes what a row tells; whether it is one.
+// Adds the contents of a row to the report; whether it is one.
 #[tactic(auto, unfolding(crate::specs::Reading::with_fields))]
 fn take_fields(
     report: &mut Report,
@@ -141,7 +141,7 @@ fn fields_of(alloc: Global, line: &[u8]) -> Result<Vec<&[u8]>, AllocError>
     line.split(|byte| *byte == b',').collect(alloc)
 }
 
-// Takes what the fields of a line tell; whether they are a row's, or nothing behind the last line feed.
+// Adds the contents of the fields of a line; whether they are a row's, or nothing after the last line feed.
 #[tactic(auto, unfolding(crate::specs::Reading::with_row))]
 fn take_row(report: &mut Report, fields: &[&[u8]]) -> Result<bool, OutOfMemory>
     ensures { IfOk result (λ taken. Took taken report.new (with_row report.old (map (λ field. field.now) fields.now))) }
@@ -153,11 +153,11 @@ fn take_row(report: &mut Report, fields: &[&[u8]]) -> Result<bool, OutOfMemory>
     }
 }
 
-/// Takes what a line tells; whether it is a row of a report, or nothing behind the last line feed.
+/// Adds the contents of a line; whether it is a row of a report, or nothing after the last line feed.
 ///
 /// # Errors
 ///
-/// [`OutOfMemory`] where there is no memory for its fields or for what it tells.
+/// [`OutOfMemory`] if an allocation fails.
 pub(crate) fn take_line(
     alloc: Global,
     report: &mut Report,

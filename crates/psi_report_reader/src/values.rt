@@ -59,7 +59,7 @@ pub(crate) fn extreme_follows(last: &Figure, figure: &Figure) -> bool
         && is_ordered(figure.item, last.value, figure.value)
 }
 
-// What so many values come to, all of which are one but the last.
+// The sum of `met` values, all of which but the last are `value`.
 fn all_but_one(met: u64, value: i128, last: i128) -> i128
     requires value { unsigned_abs value ≤ 2097120000000000 }
     requires last { unsigned_abs last ≤ 2097120000000000 }
@@ -68,7 +68,7 @@ fn all_but_one(met: u64, value: i128, last: i128) -> i128
     met.saturating_sub(1) as i128 * value + last
 }
 
-/// Whether so many values with this least and greatest may have the sum.
+/// Whether `met` values with this least and greatest may have the sum.
 pub(crate) fn allows(met: u64, low: i128, high: i128, sum: i128) -> bool
     requires low { unsigned_abs low ≤ 2097120000000000 }
     requires high { unsigned_abs high ≤ 2097120000000000 }

@@ -58,7 +58,7 @@ fn first_of(place: Option<usize>, other: Option<usize>) -> Option<usize>
     }
 }
 
-/// The first place of a figure that no report of so many samples that are met has there; the place behind all where
+/// The first place of a figure that no report of `met` samples that are met has there; the place after all where
 /// figures may not end so.
 pub(crate) fn first_flaw(figures: &[Figure], met: u64) -> Option<usize>
     ensures { result ≡ first_flaw met figures.now }

@@ -11,7 +11,7 @@ use Rattle.psi_reward.specs.Sums.{weighted, added}
 use Rattle.psi_reward.specs.Spans.{IsSpan, IsSpread}
 use Rattle.psi_reward.proofs.WholeLemmas.{lesser, int_min-left, int_min-right, int_max-left, int_max-right, int_min-is_left, int_min-is_right, int_max-is_left, int_max-is_right, weighted-rises, weighted-falls}
 
--- the sum from a place on is that place's term and the sum behind it
+-- the sum from a place on is that place's term and the sum after it
 pub added-drop : {A : Type 0} (term : A → ℕ → ℤ) (parts : List A) (d : A) (queues x : List ℕ) (n : ℕ) → n < length queues → length parts ≡ length queues
     → added (map term (drop n parts)) (held (drop n queues) x)
     ≡ term (slice_index_or parts n d) (slice_index x (slice_index queues n)) +ℤ added (map term (drop (suc n) parts)) (held (drop (suc n) queues) x)

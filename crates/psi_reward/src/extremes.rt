@@ -1,6 +1,6 @@
 //! The greatest and the least number held, and how many queues are above a level.
 //!
-//! The loops go from the last queue to the first, since each of these is told of a first number and the rest.
+//! The loops go from the last queue to the first, since each of these is defined by a first number and the rest.
 
 ghost use Rattle.std.specs.Prelude.{◌≡◌, pos, ◌<◌, length, map, count_by, nat_lt, All};
 ghost use Rattle.psi_reward.specs.Held.{held};

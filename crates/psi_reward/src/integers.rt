@@ -21,7 +21,7 @@ impl Model for Numbers {
 }
 
 impl Numbers {
-    /// The list of no number. It keeps the allocator, and takes no memory yet.
+    /// Returns the list of no number. It keeps the allocator, and does not allocate yet.
     pub fn new(alloc: Global) -> Numbers
         ensures { result ≡ [] }
     {
@@ -34,7 +34,7 @@ impl Numbers {
     ///
     /// # Errors
     ///
-    /// [`OutOfMemory`] where there is no memory for one number more. The list then stays as it was.
+    /// [`OutOfMemory`] if an allocation fails. The list then stays as it was.
     pub fn push(&mut self, v: i32) -> Result<(), OutOfMemory>
         ensures pushed { OnOk result (self.new ≡ self.old ++ v ∷ []) }
         ensures same { OnErr result (self.new ≡ self.old) }

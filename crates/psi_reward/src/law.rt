@@ -9,7 +9,7 @@ use psi_state::{Bounds, State};
 /// A reward of a network: it stands for the capacities of the network's queues, and a number for each
 /// state within them.
 ///
-/// No call takes memory.
+/// No call allocates.
 pub trait RewardLaw {
     // How many customers each queue has room for.
     ghost capacities: { Self → List ℕ };

@@ -19,5 +19,5 @@ pub use law::RewardLaw;
 pub use reward::Reward;
 pub use rows::Grid;
 
-/// There was no memory: the only way in which a call with this error fails.
+/// An allocation failed: the only way in which a call with this error fails.
 pub use std::alloc::AllocError as OutOfMemory;

@@ -24,7 +24,7 @@ pub struct Reward {
 impl Reward {
     ghost use Rattle.psi_reward.specs.Rewards.{reward_caps, reward_kind};
 
-    /// A reward for the states within these capacities, in customers.
+    /// Returns a reward for the states within these capacities, in customers.
     ///
     /// The queues that it lists are among those of the capacities, and its weights or entries are from
     /// -1,000,000,000 to 1,000,000,000.

@@ -22,7 +22,7 @@ impl Model for Grid {
 }
 
 impl Grid {
-    /// The list of no row. It keeps the allocator, and takes no memory yet.
+    /// Returns the list of no row. It keeps the allocator, and does not allocate yet.
     pub fn new(alloc: Global) -> Grid
         ensures { result ≡ [] }
     {
@@ -35,7 +35,7 @@ impl Grid {
     ///
     /// # Errors
     ///
-    /// [`OutOfMemory`] where there is no memory for one row more. The list then stays as it was, and the
+    /// [`OutOfMemory`] if an allocation fails. The list then stays as it was, and the
     /// row is dropped.
     pub fn push(&mut self, row: Numbers) -> Result<(), OutOfMemory>
         ensures pushed { OnOk result (self.new ≡ self.old ++ row ∷ []) }

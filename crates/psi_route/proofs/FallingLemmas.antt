@@ -139,7 +139,7 @@ between-some s a b n p first second found all =
     (λ v low less. first_some-none (λ w. pair_at s a b v w) 0 (slice_index s.caps (slice_index s.targets b)) (λ w least most.
     then_some-false (crosses (routing s) a b v w) (pair_of s a b v w) (found.before v w (omega arith) less))))
 
--- the same of what is found
+-- where nothing is found, no fall is there
 pub found-none : (s : Shape) (a b n : ℕ) (found : Option (ℕ × ℕ)) → AreFalls s a b n found → found ≡ None → NoFalls s a b n
 found-none s a b n None falls is = falls
 found-none s a b n (Some p) falls is = absurd cc

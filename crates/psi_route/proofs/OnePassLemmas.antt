@@ -268,7 +268,7 @@ ends-raised s is plain l h u w j q least greatest room low high always ordered w
     subst (λ n. AreTargetEnds r l h (slice_set u n low) (slice_set w n high) (j + 1)) (sym at)
     (target-ends_more r l h u w j low high (routing-is s is) ends small (omega (arith, ordered.same_length, within.same_length)) (omega (arith, within.same_length)) low_end high_end)
 
--- so do those behind one that always has room
+-- so do those after one that always has room
 pub ends-behind : (s : Shape) → IsRouteShape s → length s.tables ≡ 0 → (l h u w : List ℕ) (j : ℕ) → IsBelow l h → IsBelow h s.caps
     → AreTargetEnds (routing s) l h u w (j + 1) → j < length s.targets → HasRoom (routing s) j (slice_index h (slice_index s.targets j))
     → AreTargetEnds (routing s) l h u w (length s.targets)

@@ -7,7 +7,7 @@ use psi_event::{EventLaw, Idle};
 
 /// An event that may be a route. One that is none needs no more than `impl RouteLaw for It {}`.
 ///
-/// No call takes memory.
+/// No call allocates.
 pub trait RouteLaw: EventLaw {
     /// The route that does what the event does, where the event is a route.
     fn as_route(&self) -> Option<&Route>

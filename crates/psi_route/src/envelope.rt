@@ -62,7 +62,7 @@ impl Route {
         }
     }
 
-    // Lets each target have its ends after the route, and tells how far the customers come past all of them;
+    // Lets each target have its ends after the route, and returns how far the customers come past all of them;
     // `always` says whether the source serves at the lower corner.
     fn set_targets(&self, b: &mut Bounds, always: bool) -> Coming
         requires ordered { IsBelow b.old.lo b.old.hi }

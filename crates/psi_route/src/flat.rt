@@ -18,7 +18,7 @@ pub(crate) struct Server {
 }
 
 impl Server {
-    /// The server of this source.
+    /// Returns the server of this source.
     pub fn of(source: Option<Source>) -> Server
         ensures { IsServer source result }
     {

@@ -17,7 +17,7 @@ impl Route {
     ghost use Rattle.psi_route.specs.Coming.{Comes, Misses, AreComing};
     ghost use Rattle.psi_route.specs.Offers.{IsRival, AreLeastTwo, MayStay, MustRise};
 
-    /// Lets each target have its ends after the route, and tells how far the customers come past all of
+    /// Lets each target have its ends after the route, and returns how far the customers come past all of
     /// them; `always` says whether the source serves at the lower corner.
     ///
     /// What the targets offer is read off the box before the first of them changes; then each reads no ends

@@ -8,7 +8,7 @@ use crate::parts::Source;
 use psi_index::IndexTable;
 use psi_state::{Queues, State};
 
-/// Whether the source is one of the targets: customers would leave and join one queue.
+/// Returns whether the source is one of the targets: customers would leave and join one queue.
 ///
 /// It is `false` without a source.
 pub fn is_self_target(source: Option<Source>, targets: &Queues) -> bool
@@ -39,7 +39,7 @@ pub(crate) fn fit_tables(caps: &State, targets: &Queues, tables: &[IndexTable]) 
     true
 }
 
-/// Whether no route moves so many customers at once: `size` is 0, above the capacity of a target, or 2 and
+/// Returns whether no route moves `size` customers at once: `size` is 0, above the capacity of a target, or 2 and
 /// more with a source or without a target.
 ///
 /// `caps` has the capacity of each queue, in customers; the targets are queues of it, counted from 0.

@@ -13,14 +13,14 @@ pub(crate) struct Key {
 impl Key {
     ghost use Rattle.psi_route.specs.Keys.{key_of, IsLesser};
 
-    /// Whether this key is the lesser one: by the values first, then by the places.
+    /// Returns whether this key is the lesser one: by the values first, then by the places.
     pub fn is_before(self, other: Key) -> bool
         ensures { IsTrue result ↔ (key_of self < key_of other) }
     {
         self.weight < other.weight || (self.weight == other.weight && self.place < other.place)
     }
 
-    /// The lesser of the keys that are there.
+    /// Returns the lesser of the keys that are there.
     pub fn lesser(found: Option<Key>, offered: Option<Key>) -> Option<Key>
         ensures { IsLesser found offered result }
     {
@@ -59,7 +59,7 @@ impl Leader {
         }
     }
 
-    /// The place of the key, if one is found.
+    /// Returns the place of the key, if one is found.
     pub fn chosen(self) -> Option<u8>
         ensures found { self.weight < 2 ^ 32 → result ≡ Some self.place }
         ensures none { 2 ^ 32 ≤ self.weight → result ≡ None }

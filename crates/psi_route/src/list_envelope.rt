@@ -14,7 +14,7 @@ impl Route {
     ghost use Rattle.psi_route.specs.Ends.{AreTargetEnds};
     ghost use Rattle.psi_route.specs.Coming.{Comes, Misses, AreComing};
 
-    /// Lets each target have its ends after the route, and tells how far the customers come past all of
+    /// Lets each target have its ends after the route, and returns how far the customers come past all of
     /// them; `always` says whether the source serves at the lower corner.
     ///
     /// Where some target has room at the upper corner no customer comes past it, so the rest stays.

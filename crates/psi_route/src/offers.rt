@@ -28,7 +28,7 @@ impl Offers {
         }
     }
 
-    /// What is offered once the next place offers this key, or none.
+    /// Returns what is offered once the next place offers this key, or none.
     pub fn with(self, offered: Option<Key>) -> Offers
         ensures { IsAdded self.first self.second offered result.first result.second }
     {
@@ -47,7 +47,7 @@ impl Offers {
         }
     }
 
-    /// The least key of a place other than `place`.
+    /// Returns the least key of a place other than `place`.
     pub fn beside(self, place: u8) -> Option<Key>
         ensures { result ≡ beside self.first self.second place }
     {

@@ -39,7 +39,7 @@ pub struct Route {
 impl Route {
     ghost use Rattle.psi_route.specs.Route.{shape_of};
 
-    /// The route of these parts.
+    /// Returns the route of these parts.
     ///
     /// `caps` are capacities. The source and the targets are queues of it, counted from 0, and the source's `k`
     /// is from 1 to its queue's capacity.
@@ -85,7 +85,7 @@ impl Route {
         Ok(Route::accepted(caps, source, size, targets, tables, full))
     }
 
-    /// The route of these parts, which are none of those that [`Route::new`] refuses: what it answers for
+    /// Returns the route of these parts, which are none of those that [`Route::new`] refuses: what it answers for
     /// them.
     pub fn accepted(
         caps: State,
@@ -123,21 +123,21 @@ impl Route {
         self.source
     }
 
-    /// How many customers come at once.
+    /// Returns how many customers come at once.
     pub fn size(&self) -> u16
         ensures { let s = shape_of self.now in result ≡ s.size }
     {
         self.size
     }
 
-    /// Whether there are no tables, so that the first target with room is chosen.
+    /// Returns whether there are no tables, so that the first target with room is chosen.
     pub fn is_plain(&self) -> bool
         ensures { let s = shape_of self.now in IsTrue result ↔ (length s.tables ≡ 0) }
     {
         self.tables.is_empty()
     }
 
-    /// The targets, in their order.
+    /// Returns the targets, in their order.
     ///
     /// Its second clause is how a caller learns what every route keeps.
     pub fn targets(&self) -> Queues
@@ -190,7 +190,7 @@ impl Route {
         x.get(self.target(i))
     }
 
-    /// The first part of the key of the target at place `i` with `v` customers: the value of its table there.
+    /// Returns the first part of the key of the target at place `i` with `v` customers: the value of its table there.
     pub fn weight(&self, i: u8, v: u16) -> u32
         requires tables { let s = shape_of self.now in 0 < length s.tables }
         requires place { let s = shape_of self.now in i < length s.targets }

@@ -129,7 +129,7 @@ module _ (command : Command) (name : List ℕ) (Has : Network → Option (List �
         subst (λ n. Has n before after given.status) one (holds (accepted_kept bytes net judged) before after grew)));
   }
 
-  -- or ended with this reply unless memory ran out
+  -- or ended with this reply unless an allocation failed
   pub on_net : (net : Network) (ending : Ending) (reply : Reply) → reply_of command shelf.told net ≡ Some reply → IsAbout shelf.told command name Has
       → IsNetAt shelf.told name net → EndsWith ending reply
       → (HasReplied ending → IsNetwork net → (before after : Option (List ℕ)) → after ≡ appended before reply.out → Has net before after reply.status)

@@ -35,7 +35,7 @@ names-net name (Exact seed stream h) = refl
 names-net name (Closed seed stream total) = refl
 names-net name (Replay log) = refl
 
--- a network that is had where the shelf tells it is accepted there
+-- a network that is had where the shelf's model has it is accepted there
 is-accepted : (told : Option (List ℕ)) (net : Network) → IfSome told (λ bytes. network_of bytes ≡ Ok net) → IfSome told (λ bytes. IsOk (network_of bytes))
 is-accepted None net at = tt
 is-accepted (Some bytes) net at = subst (λ n. IsOk n) (sym at) refl
@@ -81,7 +81,7 @@ refused-none shelf name (LogUnread own) none = absurd none
 refused-none shelf name OutOfMemory none = λ replied. absurd replied
 
 module _ (shelf : ShelfSeen) (name : List ℕ) (question : Question) where
-  -- a question's files are read where the network is had, and then those behind it
+  -- a question's files are read where the network is had, and then those after it
   pub asked_all : (status : Status) (between : List Read) (net : Network) → IsNetAt shelf.told name net → between ≡ shelf.asked_before ++ read_of (net_file name) ∷ []
       → shelf.asked_after ≡ between ++ map read_of (drop 1 (files_of (asked name question))) → AreAsked shelf (Ok (asked name question)) status
   asked_all status between net at first rest = inl (record {
@@ -117,7 +117,7 @@ asked_nothing shelf command place status wrong is =
     subst (λ (c : Result Command ℕ). AreAsked shelf c status) (sym wrong)
     (let none : AreAsked shelf (Err place) status = inl (record { asked = is ∙ sym (append-nil shelf.asked_before); needed = needs-none shelf.told (Err place) }) in none)
 
--- nothing is read behind the network's file of a question that names no other
+-- nothing is read after the network's file of a question that names no other
 pub nothing_behind : (reads : List Read) → reads ≡ reads ++ []
 nothing_behind reads = sym (append-nil reads)
 

@@ -56,7 +56,7 @@ read_whole most is (Some bytes) front cut =
 
 -- ---- what is told of a log file
 
--- what the front of a log file was judged to be, the file is, where the shelf tells it
+-- what the front of a log file was judged to be, the file is, where the shelf's model has it
 one-log : (told : List ℕ → Option (List ℕ)) (log bytes : List ℕ) (answer : Result Certificate Refusal) → IfSome (told log) (λ b. read b ≡ answer) → told log ≡ Some bytes → read bytes ≡ answer
 one-log told log bytes answer at there = subst (λ (o : Option (List ℕ)). IfSome o (λ b. read b ≡ answer)) there at
 

@@ -10,7 +10,7 @@ use Rattle.psi_command.specs.Request.{asked}
 use Rattle.psi_run.proofs.EndingsLemmas.{first_read, second_read}
 use Rattle.psi_run.specs.Reads.{AreGiven}
 
--- work that ends with its reply, unless memory ran out, had no failed read
+-- work that ends with its reply, unless an allocation failed, had no failed read
 pub ends-read : (ending : Ending) (reply : Reply) → EndsWith ending reply → HasRead ending
 ends-read (replied given) reply ends = tt
 ends-read (unread file) reply ends = ends

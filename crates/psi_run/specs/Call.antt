@@ -34,9 +34,9 @@ AreTaken out_takes err_takes command reply = AreTakenOf out_takes err_takes (IsO
 
 -- what the status of a call says of it
 pub record IsRun (call : Call) (result : Status) : Type 0 where
-  -- where the shelf tells the file needed, a status of a reply, that is one from 0 to 5 or 9 to 12, is the reply's, whatever counts rose
+  -- where the shelf's model has the file needed, a status of a reply, that is one from 0 to 5 or 9 to 12, is the reply's, whatever counts rose
   pub status : IfSome (reply_to_call call) (λ reply. IsReplied result → result ≡ reply.status)
-  -- and with such a status each sink that tells what it holds grew by exactly the reply's text
+  -- and with such a status each sink whose model has what it holds grew by exactly the reply's text
   pub out : IfSome (reply_to_call call) (λ reply. IsReplied result → Grew call.out reply.out)
   pub err : IfSome (reply_to_call call) (λ reply. IsReplied result → Grew call.err reply.err)
   -- each file that the words name is read once, in their order and with its limit, and nothing else is read; a log only once its network

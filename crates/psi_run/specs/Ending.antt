@@ -9,7 +9,7 @@ use Rattle.psi_run.specs.Means.{Means}
 use Rattle.psi_program.specs.Ending.{replied, MayReply, IsCaused as IsCausedBy}
 use Rattle.psi_reply.specs.Ending.{Ending, ending_reply}
 
--- the cause of each ending: a reply is one that the words can have, a file is missed, or memory ran out in the work for a command
+-- the cause of each ending: a reply is one that the words can have, a file is missed, or an allocation failed in the work for a command
 abbrev pub IsCaused : ShelfSeen → Result Command ℕ → Ending → Type 0
 IsCaused shelf command = IsCausedBy (IsReplyTo command) (IsMissed shelf command) (IsOk command)
 

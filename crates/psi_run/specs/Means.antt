@@ -15,7 +15,7 @@ use Rattle.psi_reply.specs.Closed.{IsClosedSampled}
 use Rattle.psi_reply.specs.Replay.{IsReplayed}
 use Rattle.psi_reply.specs.Certified.{IsCertified}
 
--- the network in the file of the name has the property, where the shelf tells the file and it reads as a network
+-- the network in the file of the name has the property, where the shelf's model has the file and it reads as a network
 abbrev pub OfNetwork : (List ℕ → Option (List ℕ)) → List ℕ → (Network → Type 0) → Type 0
 OfNetwork told name Has = (bytes : List ℕ) (net : Network) → told name ≡ Some bytes → network_of bytes ≡ Ok net → Has net
 

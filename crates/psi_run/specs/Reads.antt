@@ -13,7 +13,7 @@ abbrev pub IsRead : Result Command ℕ → File → Type 0
 IsRead (Ok command) file = Contains (files_of command) file
 IsRead (Err place) file = ⊥
 
--- the words are a replay, whose network is accepted where the shelf tells it
+-- the words are a replay, whose network is accepted where the shelf's model has it
 abbrev pub HasNetwork : (List ℕ → Option (List ℕ)) → Result Command ℕ → Type 0
 HasNetwork told (Ok (replay net log)) = IfSome (told net) (λ bytes. IsOk (network_of bytes))
 HasNetwork told command = ⊥

@@ -1,4 +1,4 @@
--- What the program answers to its words, over the files that the shelf tells.
+-- What the program answers to its words, over the files that the shelf's model has.
 use Rattle.std.specs.Prelude.{◌≡◌, ℕ, List, [], ◌∷◌, Option, Some, None, option_map, option_and_then, Result, Ok, Err}
 use Rattle.psi_net_model.specs.Network.{Network}
 use Rattle.psi_net_model.specs.Generated.{generated_network}
@@ -18,7 +18,7 @@ use Rattle.psi_reply.specs.Closed.{first_other}
 use Rattle.psi_program.specs.Reply.{text_reply}
 use Rattle.psi_reply.specs.Reply.{Reply, usage_reply, refused_reply, value_reply, survey_reply, outcome_reply, closed_reply, certify_reply, replay_reply, IsReply}
 
--- the reply to a command, for its network, where the shelf tells what else it reads
+-- the reply to a command, for its network, where the shelf's model has what else it reads
 abbrev pub reply_of : Command → (List ℕ → Option (List ℕ)) → Network → Option Reply
 reply_of (sample name seed stream) told net = Some (outcome_reply (sampled net seed stream))
 reply_of (check name) told net = Some (text_reply Done (check_text net))
@@ -36,18 +36,18 @@ abbrev pub judged_reply : (Network → Option Reply) → Result Network NetRefus
 judged_reply reply (Ok net) = reply net
 judged_reply reply (Err refusal) = Some (refused_reply refusal)
 
--- the bytes of the first of the files, where there is one and the shelf tells it
+-- the bytes of the first of the files, where there is one and the shelf's model has it
 abbrev pub first_told : (List ℕ → Option (List ℕ)) → List File → Option (List ℕ)
 first_told told [] = None
 first_told told (file ∷ files) = told (file_name file)
 
 -- the reply to a command: the network of a trial is made from its number; that of any other is in the first file that it reads, where
--- the shelf tells it
+-- the shelf's model has it
 abbrev pub reply_for : Command → (List ℕ → Option (List ℕ)) → Option Reply
 reply_for (trial number) told = reply_of (trial number) told (generated_network number)
 reply_for command told = option_and_then (λ bytes. judged_reply (reply_of command told) (network_of bytes)) (first_told told (files_of command))
 
--- the reply to words, where the shelf tells the files that it needs
+-- the reply to words, where the shelf's model has the files that it needs
 unfoldable pub reply_to : Result Command ℕ → (List ℕ → Option (List ℕ)) → Option Reply
 reply_to (Err place) told = Some (usage_reply place)
 reply_to (Ok command) told = reply_for command told

@@ -36,7 +36,8 @@ pub(crate) fn perform<F: Shelf, O: Sink, E: Sink>(
     err: &mut E,
 ) -> Status
     requires { AsksInRange request }
-    // The work has an ending, with the reads that it tells; where the shelf gives each file that is named, no read failed.
+    // The work has an ending, with the reads that it names; where the shelf gives each file that is named, no read
+    // failed.
     ensures finished { let command = Ok (requested request.entry) in
         let seen : ShelfCall = record { gave_before = F.gave shelf.old; gave_after = F.gave shelf.new; asked_before = F.asked shelf.old; asked_after = F.asked shelf.new; faults_before = F.faults shelf.old; faults_after = F.faults shelf.new } in
         IsFinished faults (λ ending. IsEndingOf seen command ending × (AreGiven (F.gives shelf.old) command → HasRead ending))
@@ -44,7 +45,7 @@ pub(crate) fn perform<F: Shelf, O: Sink, E: Sink>(
         (record { before = O.held out.old; after = O.held out.new; took_before = O.took out.old; took_after = O.took out.new; faults_before = O.faults out.old; faults_after = O.faults out.new })
         (record { before = E.held err.old; after = E.held err.new; took_before = E.took err.old; took_after = E.took err.new; faults_before = E.faults err.old; faults_after = E.faults err.new })
         result }
-    // The answers agree with what the shelf tells.
+    // The answers agree with what the shelf's model has.
     ensures agrees { AgreesSince (F.told shelf.old) (F.gave shelf.old) (F.gave shelf.new) }
     // And no count rose there.
     ensures spared { AreGiven (F.gives shelf.old) (Ok (requested request.entry)) → F.faults shelf.new ≡ F.faults shelf.old }
@@ -68,7 +69,7 @@ fn work<'w, F: Shelf>(
     requires { IsInRange question }
     ensures ending { IsEndingOf (record { gave_before = F.gave shelf.old; gave_after = F.gave shelf.new; asked_before = F.asked shelf.old; asked_after = F.asked shelf.new; faults_before = F.faults shelf.old; faults_after = F.faults shelf.new })
         (Ok (asked name.now question.entry)) (ending_of result) }
-    // The answers agree with what the shelf tells.
+    // The answers agree with what the shelf's model has.
     ensures agrees { AgreesSince (F.told shelf.old) (F.gave shelf.old) (F.gave shelf.new) }
     ensures read { AreGiven (F.gives shelf.old) (Ok (asked name.now question.entry)) → HasRead (ending_of result) }
     ensures spared { AreGiven (F.gives shelf.old) (Ok (asked name.now question.entry)) → F.faults shelf.new ≡ F.faults shelf.old }
@@ -91,9 +92,9 @@ fn answer<'w, F: Shelf>(
     ensures ending { (told : List ℕ → Option (List ℕ)) → AgreesSince told (F.gave shelf.old) (F.gave shelf.new) → (name : List ℕ) → IsNetAt told name net.now
         → IsEnding (seen_with (record { gave_before = F.gave shelf.old; gave_after = F.gave shelf.new; asked_before = F.asked shelf.old; asked_after = F.asked shelf.new; faults_before = F.faults shelf.old; faults_after = F.faults shelf.new }) told)
         (Ok (asked name question.entry)) (ending_of result) }
-    // The answers agree with what the shelf tells.
+    // The answers agree with what the shelf's model has.
     ensures agrees { AgreesSince (F.told shelf.old) (F.gave shelf.old) (F.gave shelf.new) }
-    // The files that are named behind the network's are read.
+    // The files that are named after the network's are read.
     ensures asked { (name : List ℕ) → F.asked shelf.new ≡ F.asked shelf.old ++ map read_of (drop 1 (files_of (asked name question.entry))) }
     ensures read { (name : List ℕ) → AreGiven (F.gives shelf.old) (Ok (asked name question.entry)) → HasRead (ending_of result) }
     ensures spared { (name : List ℕ) → AreGiven (F.gives shelf.old) (Ok (asked name question.entry)) → F.faults shelf.new ≡ F.faults shelf.old }

@@ -16,8 +16,8 @@ use psi_net_document::MOST_NET_BYTES;
 use psi_reply::Ending;
 use std::alloc::Global;
 
-/// The network in the file of this name. Where there is none, the work ends the same whichever command
-/// names the file: it is refused, a read of it failed in this call, or there was not enough memory.
+/// Returns the network in the file of this name. Where there is none, the work ends the same whichever command
+/// names the file: it is refused, a read of it failed in this call, or an allocation failed.
 pub fn network_at<'w, F: Shelf>(
     alloc: Global,
     shelf: &mut F,
@@ -29,11 +29,11 @@ pub fn network_at<'w, F: Shelf>(
     // Where the shelf gives the file, no read of it failed, and no count rose.
     ensures read { F.gives shelf.old name.now → IfErr result (λ ending. HasRead (ending_of ending)) }
     ensures spared { F.gives shelf.old name.now → F.faults shelf.new ≡ F.faults shelf.old }
-    // The answers agree with what the shelf tells.
+    // The answers agree with what the shelf's model has.
     ensures agrees { AgreesSince (F.told shelf.old) (F.gave shelf.old) (F.gave shelf.new) }
     // The file is read once, with its limit.
     ensures asked { F.asked shelf.new ≡ F.asked shelf.old ++ read_of (net_file name.now) ∷ [] }
-    // The shelf tells and gives what it did, and no count fell.
+    // What the shelf's model has and what the shelf gives stay as they were, and no count fell.
     ensures told { F.told shelf.new ≡ F.told shelf.old }
     ensures gives { (other : List ℕ) → F.gives shelf.old other → F.gives shelf.new other }
     ensures counts { (other : List ℕ) → F.faults shelf.old other ≤ F.faults shelf.new other }
@@ -66,7 +66,7 @@ pub(crate) fn feed_log<'w, F: Shelf, C: Consumer>(
     // Where the shelf gives the file, no read of it failed, and no count rose.
     ensures read { F.gives shelf.old name.now → IfErr result (λ ending. HasRead (ending_of ending)) }
     ensures spared { F.gives shelf.old name.now → F.faults shelf.new ≡ F.faults shelf.old }
-    // The answers agree with what the shelf tells.
+    // The answers agree with what the shelf's model has.
     ensures agrees { AgreesSince (F.told shelf.old) (F.gave shelf.old) (F.gave shelf.new) }
     // The file is read once, with its limit.
     ensures asked { F.asked shelf.new ≡ F.asked shelf.old ++ read_of (log_file name.now) ∷ [] }

@@ -24,7 +24,7 @@ use psi_io::{Shelf, Sink};
 use psi_reply::Ending;
 use std::alloc::Global;
 
-/// Does what the words after the program's name ask for, and answers how it ended.
+/// Does what the words after the program's name ask for, and returns how it ended.
 ///
 /// | Words | What it does |
 /// |---|---|
@@ -58,7 +58,7 @@ use std::alloc::Global;
 /// | `Done` | the log is accepted | out: `accepted T`, `state S` |
 /// | `NotCoupled` | the sample isn't met, or there is no least horizon, within N = 2 to the power `limit` steps | out: `not coupled within N` |
 /// | `NotCoupled` | the reward hasn't one value within N steps | out: `reward not coupled within N` |
-/// | `NotCoupled` | not all states have met within M steps | out: the same lines, with `not constant within M` in the place of `constant T S` |
+/// | `NotCoupled` | not all states have met within M steps | out: the same lines, with `not constant within M` instead of `constant T S` |
 /// | `NotCoupled` | the sample of the closed network isn't met within N steps | out: `not coupled within N` |
 /// | `Usage` | the words aren't a command | err: `psi: usage word N` |
 /// | `NetRefused` | the network file is refused | err: `psi: network refused CODE NAME SECTION NUMBER KEY` |
@@ -68,7 +68,7 @@ use std::alloc::Global;
 /// | `ReadFault` | the shelf's count of NET rose in this call | err: `psi: cannot read network` |
 /// | `ReadFault` | the shelf's count of LOG rose in this call, and the network is accepted | err: `psi: cannot read log` |
 /// | `WriteFault` | the count of out or of err rose in this call | a prefix of the text |
-/// | `OutOfMemory` | there was not enough memory | err: `psi: out of memory` |
+/// | `OutOfMemory` | an allocation failed | err: `psi: out of memory` |
 /// | `UnknownReward` | the network has no reward NAME | err: `psi: unknown reward` |
 /// | `TooManyStates` | the words are `exact`, and the network has more than 65,536 states | err: `psi: too many states` |
 /// | `NotClosed` | the words are `closed`, and the network isn't closed: its event E, counted from 0, is the first that doesn't move one customer from a queue to another | err: `psi: not closed event E` |
@@ -100,13 +100,13 @@ use std::alloc::Global;
 /// 1, 2, 4, .., N: T is the least of them at which all states of the region have one value, V. In either
 /// case every longer run ends with that state, or with states of that value.
 ///
-/// `exact` follows each state by itself, so it tells what regions of states lose. N is the number of all
+/// `exact` follows each state by itself, so it shows what regions of states lose. N is the number of all
 /// states, then for each T the number of states in which they are after the last T steps. In `constant T S`,
 /// T is the least from 1 to M, a power of two or not, such that all states that start T steps before time
 /// zero have met, and S is the state in which they met; every state that starts there or earlier is in S at
 /// time zero. In `region T`, T is the least from 1 to M such that the region run of T ends with one state.
 /// Where there is such a T, all states have met by then, and in a monotone network the two horizons are one.
-/// M stands in the place of the network's greatest horizon, which `exact` doesn't ask for.
+/// M replaces the network's greatest horizon, which `exact` doesn't ask for.
 ///
 /// A network is closed where each event, after the expansion over servers, is a service with one target at
 /// which a customer stays where the target is full: then no step changes the number of all customers. Its
@@ -124,7 +124,7 @@ use std::alloc::Global;
 /// whole. A log that this call writes is accepted with the sample's T and S. It is written in pieces as its
 /// lines come, after the run was done once to see how long it is.
 ///
-/// All memory is taken before the first byte is written. Words that aren't a command take none.
+/// All allocations come before the first byte is written. Arguments that aren't a command allocate nothing.
 ///
 /// NET is read once, up to 1,048,576 bytes, and then LOG once, up to 33,554,432, where the network is accepted. No
 /// other file is read, and none for `trial` and for words that aren't a command.
@@ -146,8 +146,8 @@ pub fn run<F: Shelf, O: Sink, E: Sink>(
       err = record { before = E.held err.old; after = E.held err.new; took_before = E.took err.old; took_after = E.took err.new; faults_before = E.faults err.old; faults_after = E.faults err.new };
     }) result }
 
-    // The headline: where the words are those of a sample, the shelf tells a file that reads as a network, no count of faults rose
-    // in this call and memory didn't run out, what is printed is a sample of the network.
+    // The headline: where the words are those of a sample, the shelf's model has a file that reads as a network, no
+    // count of faults rose in this call and memory didn't run out, what is printed is a sample of the network.
     ensures headline { (name : List ℕ) (seed stream : ℕ) (bytes : List ℕ) (net : Network)
         → map string_bytes words.now ≡ codes "sample" ∷ name ∷ decimal seed ∷ decimal stream ∷ [] → seed < 2 ^ 64 → stream < 2 ^ 64
         → F.told shelf.old name ≡ Some bytes → network_of bytes ≡ Ok net
@@ -157,7 +157,7 @@ pub fn run<F: Shelf, O: Sink, E: Sink>(
         → IsSampled (O.held out.old) (O.held out.new) result net seed stream }
 
     // What crossed the edges is a run of the program: the same over the bytes that were read and accepted, whatever the
-    // shelf and the sinks tell.
+    // models of the shelf and the sinks have.
     ensures edge { HasRun IsRunOf (map string_bytes words.now)
         (record { gave = F.gave shelf.old; out = O.took out.old; err = E.took err.old; tally = record { asked = F.asked shelf.old; files = F.faults shelf.old; out = O.faults out.old; err = E.faults err.old } })
         (record { gave = F.gave shelf.new; out = O.took out.new; err = E.took err.new; tally = record { asked = F.asked shelf.new; files = F.faults shelf.new; out = O.faults out.new; err = E.faults err.new } })
@@ -167,8 +167,8 @@ pub fn run<F: Shelf, O: Sink, E: Sink>(
     ensures means { (command : Command) → command_of (map string_bytes words.now) ≡ Ok command → IsReplied result
         → Means command (F.told shelf.old) (O.held out.old) (O.held out.new) result }
 
-    // Where the shelf gives each file that the words name, and out and err take the reply's texts and the line on memory that ran out,
-    // no count of faults rises in this call, and the status is the reply's or `OutOfMemory`.
+    // Where the shelf gives each file that the words name, and out and err take the reply's texts and the line that
+    // reports out of memory, no count of faults rises in this call, and the status is the reply's or `OutOfMemory`.
     ensures spared { (reply : Reply) → reply_to (command_of (map string_bytes words.now)) (F.told shelf.old) ≡ Some reply
         → AreGiven (F.gives shelf.old) (command_of (map string_bytes words.now))
         → AreTaken (O.takes out.old) (E.takes err.old) (command_of (map string_bytes words.now)) reply

@@ -15,7 +15,7 @@ use psi_reply::{
     too_many_line, unknown_line, usage_line,
 };
 
-/// The line for err of an ending; none where a text is printed.
+/// Returns the line for err of an ending; none where a text is printed.
 pub fn line_of(ending: &Ending<'_>) -> Line
     ensures { result.items ≡ (ending_reply (ending_of ending.now)).err }
 {
@@ -47,8 +47,8 @@ fn text_of<'t>(ending: &'t Ending<'_>, line: &'t Line) -> Text<'t>
     }
 }
 
-/// Writes the text of an ending to out, or its line to err, and answers the status of the call: that of the
-/// ending, or `WriteFault` where the text couldn't be written whole. It takes no memory.
+/// Writes the text of an ending to out, or its line to err, and returns the status of the call: that of the
+/// ending, or `WriteFault` where the text couldn't be written whole. It does not allocate.
 pub(crate) fn finish<O: Sink, E: Sink>(ending: &Ending<'_>, out: &mut O, err: &mut E) -> Status
     ensures { IsFinished faults (λ end. end ≡ ending_of ending.now) (O.takes out.old) (E.takes err.old)
         (record { before = O.held out.old; after = O.held out.new; took_before = O.took out.old; took_after = O.took out.new; faults_before = O.faults out.old; faults_after = O.faults out.new })

@@ -1,4 +1,4 @@
--- Arrays of a fixed length whose front holds a list, with zeros behind it.
+-- Arrays of a fixed length whose front holds a list, with zeros after it.
 use Rattle.std.specs.Prelude.{◌≡◌, ℕ, zero, suc, ◌+◌, ◌-◌, ◌*◌, ◌<◌, ◌≤◌, List, length, replicate, take, drop, slice_index, slice_set, refl}
 use Rattle.std.proofs.Common.{inl, inr, ap, ◌∙◌, sym, arith}
 use Rattle.std.proofs.lemmas.Bool.{cases_eq, cases_lt}
@@ -11,7 +11,7 @@ slice_index-zeros zero i = refl
 slice_index-zeros (suc n) zero = refl
 slice_index-zeros (suc n) (suc i) = slice_index-zeros n i
 
--- one place more is taken, and zeros are left behind it
+-- one place more is taken, and zeros are left after it
 pub drop-push : (xs : List ℕ) (n v : ℕ) → n < 32 → drop n xs ≡ replicate (32 - n) 0 → drop (n + 1) (slice_set xs n v) ≡ replicate (32 - (n + 1)) 0
 drop-push xs n v small rest =
     let away : drop (n + 1) (slice_set xs n v) ≡ drop (n + 1) xs = drop-set-lt (n + 1) xs n v (omega arith) in

@@ -85,7 +85,7 @@ ascending-own xs rising =
     rising-same (ascending xs) xs (ascending-rising xs) rising
     (record { there = λ z member. In-of_ascending z xs member; back = λ z member. In-ascending z xs member })
 
--- a set is told by its members
+-- a set is determined by its members
 pub ascending-members : (xs ys : List (List ℕ)) → HaveSame xs ys → ascending xs ≡ ascending ys
 ascending-members xs ys same =
     rising-same (ascending xs) (ascending ys) (ascending-rising xs) (ascending-rising ys)

@@ -1,5 +1,5 @@
 -- The step of an odometer gives the state that follows in a box's list: the last place that isn't at its greatest
--- number is raised by one, and all places behind it, which are, go back to their least.
+-- number is raised by one, and all places after it, which are, go back to their least.
 use Rattle.std.specs.Prelude.{◌≡◌, ℕ, zero, suc, ◌-◌, ◌<◌, ◌≤◌, List, [], ◌∷◌, ◌++◌, length, map, slice_index, slice_set}
 use Rattle.std.proofs.Common.{ap, sym, ◌∙◌, subst, arith}
 use Rattle.std.proofs.lemmas.List.{ext_get_or, get_or-set_same, get_or-set_other, length-set}
@@ -17,7 +17,7 @@ pub record IsTurned (l h x y : List ℕ) (n : ℕ) : Type 0 where
   pub full : (i : ℕ) → n ≤ i → i < length x → slice_index x i ≡ slice_index h i
   pub back : (i : ℕ) → n ≤ i → i < length x → slice_index y i ≡ slice_index l i
 
--- y is x with the place i raised by one and the places behind it back at their least numbers; in x these are at their greatest
+-- y is x with the place i raised by one and the places after it back at their least numbers; in x these are at their greatest
 pub record IsRaised (l h x y : List ℕ) (i : ℕ) : Type 0 where
   pub same_length : length y ≡ length x
   pub front : (k : ℕ) → k < i → slice_index y k ≡ slice_index x k

@@ -75,7 +75,7 @@ module _ (x y : List ℕ) (i place : ℕ) (own : (k : ℕ) → slice_index x k <
       ∙ (ap (λ n. nat_cmp (slice_index x (4 * i + place)) n) (number-quad y i others place (4 * i + place) refl small)
       ∙ sym (cmp-apart x y (4 * i + place) same-until within (let w = within in omega arith) differ))
 
--- the same of two quads by themselves
+-- `cmp-from_quads`, of two quads that are given by themselves
 pub order-told : (x y : List ℕ) (i place a b m n : ℕ) (told : Ordering) → ((k : ℕ) → slice_index x k < 65536) → ((k : ℕ) → slice_index y k < 65536)
     → length x ≡ length y → ((k : ℕ) → k < i → quad x k ≡ quad y k) → a ≡ quad x i → b ≡ quad y i → place < 4
     → ((k : ℕ) → k < place → number_in a k ≡ number_in b k) → (number_in a place ≡ number_in b place → ⊥)

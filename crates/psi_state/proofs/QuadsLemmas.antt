@@ -71,7 +71,7 @@ eq-from_quads x y quads told own others long few is = by told (pointwise nat_eq 
     by false true is_told same =
         (let tied : told ≡ true = is.1 (λ i small. ap (λ (z : List ℕ). quad z i) (same-from_eq x y (sym same))) in cc)
 
--- a row is a state's own where its quads and the numbers behind them are
+-- a row is a state's own where its quads and the numbers after them are
 pub row-from_quads : (row x : List ℕ) (quads first : ℕ) (told : Bool) → ((k : ℕ) → slice_index row k < 65536) → ((k : ℕ) → slice_index x k < 65536)
     → length row ≡ length x → first ≡ 4 * quads → ((i : ℕ) → i < quads → quad row i ≡ quad x i)
     → IsTrue told ↔ ((i : ℕ) → first ≤ i → i < length x → slice_index row i ≡ slice_index x i) → IsTrue told ↔ (row ≡ x)

@@ -5,7 +5,7 @@ use Rattle.std.proofs.Common.{inl, inr, sym, arith}
 use Rattle.std.proofs.lemmas.Bool.{cases_order, eqb-false, or_left, or_right, or_from, or_parts}
 use Rattle.psi_state.specs.Repeats.{repeats}
 
--- a number behind the first places passes the test
+-- a number after the first places passes the test
 pub any-at : (p : ℕ → Bool) (xs : List ℕ) (first i : ℕ) → first ≤ i → i < length xs → p (slice_index xs i) ≡ true → list_any p (drop first xs) ≡ true
 any-at p [] first i low small is = absurd (omega arith)
 any-at p (x ∷ xs) zero zero low small is = or_left (p x) (list_any p xs) is
@@ -26,7 +26,7 @@ any-false p [] i is small = absurd (omega arith)
 any-false p (x ∷ xs) zero is small = (or_parts (p x) (list_any p xs) is).0
 any-false p (x ∷ xs) (suc i) is small = any-false p xs i ((or_parts (p x) (list_any p xs) is).1) (omega arith)
 
--- a number stands again behind its first place
+-- a number stands again after its first place
 pub repeats-at : (xs : List ℕ) (i : ℕ) → i < length xs → list_any (λ p. nat_eq p (slice_index xs i)) (drop (suc i) xs) ≡ true → repeats xs ≡ true
 repeats-at [] i small is = absurd (omega arith)
 repeats-at (x ∷ xs) zero small is = or_left (list_any (λ p. nat_eq p x) xs) (repeats xs) is

@@ -111,7 +111,7 @@ volume-drop-some [] (k ∷ h) (suc i) ordered = absurd (let e : 0 ≡ suc (lengt
 volume-drop-some (j ∷ l) [] (suc i) ordered = absurd (let e : suc (length l) ≡ 0 = ordered.same_length in omega arith)
 volume-drop-some (j ∷ l) (k ∷ h) (suc i) ordered = volume-drop-some l h i (below-tail j l k h ordered)
 
--- behind the last place nothing is left
+-- after the last place nothing is left
 pub volume-drop-all : (l h : List ℕ) → length l ≡ length h → volume (drop (length l) l) (drop (length l) h) ≡ 1
 volume-drop-all [] [] same = refl
 volume-drop-all [] (k ∷ h) same = absurd (omega arith)

@@ -1,11 +1,11 @@
--- A fixed array is told by its front, where all behind the front is one filler.
+-- A fixed array is determined by its front, where all after the front is one filler.
 use Rattle.std.specs.Prelude.{◌≡◌, ℕ, ◌-◌, ◌≤◌, List, length, take, drop, replicate, ◌++◌}
 use Rattle.std.proofs.Common.{ap, sym, ◌∙◌, arith}
 use Rattle.std.proofs.lemmas.List.{take-append-drop, length-take-le}
 use Rattle.psi_state.specs.declared.state.State.TheInside.{Inside as Vector}
 use Rattle.psi_state.specs.declared.queues.Queues.TheInside.{Inside as Numbers}
 
--- an array and its front with fillers behind it are one, where the fillers stand in the array, and so is all that is made of them
+-- an array and its front with fillers after it are one, where the fillers stand in the array, and so is all that is made of them
 pub filled : {A B : Type 0} (made : List A → ℕ → B) (filler : A) (items : List A) (len : ℕ) → len ≤ 32 → length items ≡ 32
     → drop len items ≡ replicate (32 - len) filler
     → made (take len items ++ replicate (32 - length (take len items)) filler) (length (take len items)) ≡ made items len
@@ -20,7 +20,7 @@ vector values len = record { values = values; len = len }
 abbrev numbers : List ℕ → ℕ → Numbers
 numbers items len = record { items = items; len = len }
 
--- a state's array is its numbers and zeros behind them
+-- a state's array is its numbers and zeros after them
 pub padded : (values : List ℕ) (len : ℕ) → len ≤ 32 → length values ≡ 32 → drop len values ≡ replicate (32 - len) 0
     → vector (take len values ++ replicate (32 - length (take len values)) 0) (length (take len values)) ≡ vector values len
 padded values len few full rest = filled vector 0 values len few full rest

@@ -31,7 +31,7 @@ impl Model for Bounds {
 }
 
 impl Bounds {
-    /// The box from `lo` to `hi`, both included.
+    /// Returns the box from `lo` to `hi`, both included.
     pub fn new(lo: State, hi: State) -> Bounds
         requires { IsBelow lo hi }
         ensures { result ≡ record { lo = lo; hi = hi } }
@@ -39,7 +39,7 @@ impl Bounds {
         Bounds { lo, hi }
     }
 
-    /// The box of all states of the capacities `caps`: from no customer at all to full queues.
+    /// Returns the box of all states of the capacities `caps`: from no customer at all to full queues.
     pub fn whole(caps: &State) -> Bounds
         ensures { result ≡ record { lo = zeros caps.now; hi = caps.now } }
     {
@@ -49,7 +49,7 @@ impl Bounds {
         }
     }
 
-    /// The number of queues, 1 to 32.
+    /// Returns the number of queues, 1 to 32.
     ///
     /// Its other clauses are how a caller learns what every `Bounds` keeps.
     pub fn len(&self) -> u8
@@ -61,7 +61,7 @@ impl Bounds {
         self.lo.len()
     }
 
-    /// The least number of customers that queue `i` holds in the box; queues are counted from 0.
+    /// Returns the least number of customers that queue `i` holds in the box; queues are counted from 0.
     pub fn least(&self, i: u8) -> u16
         requires { i < length self.now.lo }
         ensures value { result ≡ slice_index self.now.lo i }
@@ -70,7 +70,7 @@ impl Bounds {
         self.lo.get(i)
     }
 
-    /// The greatest number of customers that queue `i` holds in the box; queues are counted from 0.
+    /// Returns the greatest number of customers that queue `i` holds in the box; queues are counted from 0.
     pub fn greatest(&self, i: u8) -> u16
         requires { i < length self.now.lo }
         ensures value { result ≡ slice_index self.now.hi i }
@@ -89,7 +89,7 @@ impl Bounds {
         self.hi.set(i, greatest);
     }
 
-    /// The lower corner: the least number of customers of each queue.
+    /// Returns the lower corner: the least number of customers of each queue.
     pub fn lo(&self) -> State
         ensures value { result ≡ self.now.lo }
         ensures ordered { IsBelow self.now.lo self.now.hi }
@@ -97,7 +97,7 @@ impl Bounds {
         self.lo
     }
 
-    /// The upper corner: the greatest number of customers of each queue.
+    /// Returns the upper corner: the greatest number of customers of each queue.
     pub fn hi(&self) -> State
         ensures value { result ≡ self.now.hi }
         ensures ordered { IsBelow self.now.lo self.now.hi }
@@ -105,7 +105,7 @@ impl Bounds {
         self.hi
     }
 
-    /// Whether `x` is one of the states of the box.
+    /// Returns whether `x` is one of the states of the box.
     pub fn holds(&self, x: &State) -> bool
         requires { length x.now ≡ length self.now.lo }
         ensures { IsTrue result ↔ In x.now (box self.now.lo self.now.hi) }
@@ -113,7 +113,7 @@ impl Bounds {
         self.lo.leq(x) && x.leq(&self.hi)
     }
 
-    /// Whether each state of this box is one of `other`'s.
+    /// Returns whether each state of this box is one of `other`'s.
     pub fn within(&self, other: &Bounds) -> bool
         requires { length self.now.lo ≡ length other.now.lo }
         ensures { IsTrue result ↔ AreAmong (box self.now.lo self.now.hi) (box other.now.lo other.now.hi) }
@@ -121,8 +121,8 @@ impl Bounds {
         other.lo.leq(&self.lo) && self.hi.leq(&other.hi)
     }
 
-    /// The queues whose least or greatest number of customers is another in `other`, as bits: bit `i` is 1 where that of
-    /// queue `i` is, and all others are 0.
+    /// Returns the queues whose least or greatest number of customers is another in `other`, as bits: bit `i` is 1
+    /// where that of queue `i` is, and all others are 0.
     pub fn apart(&self, other: &Bounds) -> u32
         ensures { (i : ℕ) → bit_at result i ≡ (if slice_index self.now.lo i == slice_index other.now.lo i && slice_index self.now.hi i == slice_index other.now.hi i then 0 else 1) }
     {
@@ -138,7 +138,7 @@ impl Bounds {
         apart
     }
 
-    /// The number of states of the box where it is at most `most`, and `None` exactly where it is above.
+    /// Returns the number of states of the box where it is at most `most`, and `None` exactly where it is above.
     ///
     /// It gives up as soon as the number is known to be above `most`, and lists no state.
     pub fn volume_at_most(&self, most: u32) -> Option<u32>
@@ -154,7 +154,7 @@ impl Bounds {
         Some(count as u32)
     }
 
-    /// The place of `x` in the lexicographic list of the states of the box; places are counted from 0.
+    /// Returns the place of `x` in the lexicographic list of the states of the box; places are counted from 0.
     pub fn rank(&self, x: &State) -> u32
         requires few { length (box self.now.lo self.now.hi) ≤ 65536 }
         requires member { In x.now (box self.now.lo self.now.hi) }
@@ -168,7 +168,7 @@ impl Bounds {
         rank
     }
 
-    /// The state at place `r` of the lexicographic list of the states of the box; places are counted
+    /// Returns the state at place `r` of the lexicographic list of the states of the box; places are counted
     /// from 0.
     pub fn unrank(&self, r: u32) -> State
         requires { r < length (box self.now.lo self.now.hi) }

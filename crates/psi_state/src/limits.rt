@@ -12,7 +12,7 @@ pub const MOST_EVENTS: u32 = 1_024;
 /// The greatest total of the rates of a network's events.
 pub const MOST_TOTAL: u32 = 16_777_216;
 
-/// The greatest split number: a region has at most so many states when it becomes a set of them.
+/// The greatest split number: a region has at most this many states when it becomes a set of them.
 pub const MOST_SPLIT: u32 = 4_096;
 
 /// The greatest limit: a sample goes back at most 2 to this power times.

@@ -39,7 +39,7 @@ impl Model for Queues {
 }
 
 impl Queues {
-    /// The empty list.
+    /// Returns the empty list.
     pub fn empty() -> Queues
         ensures { result ≡ [] }
     {
@@ -58,7 +58,7 @@ impl Queues {
         self.len += 1;
     }
 
-    /// The number of queues in the list, 0 to 32.
+    /// Returns the number of queues in the list, 0 to 32.
     ///
     /// Its second clause is how a caller learns what every `Queues` keeps.
     pub fn len(&self) -> u8
@@ -68,7 +68,7 @@ impl Queues {
         self.len
     }
 
-    /// The queue at place `i` of the list; places are counted from 0.
+    /// Returns the queue at place `i` of the list; places are counted from 0.
     pub fn get(&self, i: u8) -> u8
         requires { i < length self.now }
         ensures { result ≡ slice_index self.now i }
@@ -76,14 +76,14 @@ impl Queues {
         self.items[i as usize]
     }
 
-    /// Whether queue `q` stands in the list.
+    /// Returns whether queue `q` stands in the list.
     pub fn contains(&self, q: u8) -> bool
         ensures { result ≡ list_any (λ p. nat_eq p q) self.now }
     {
         self.contains_from(0, q)
     }
 
-    /// Whether some queue stands twice in the list.
+    /// Returns whether some queue stands twice in the list.
     pub fn repeats(&self) -> bool
         ensures { result ≡ repeats self.now }
     {

@@ -76,7 +76,7 @@ fn number_at(quad: u64, place: u32) -> u64
 }
 
 impl State {
-    /// The state of `len` queues that hold no customer.
+    /// Returns the state of `len` queues that hold no customer.
     pub fn zero(len: u8) -> State
         requires some { 1 ≤ len }
         requires few { len ≤ 32 }
@@ -88,7 +88,7 @@ impl State {
         }
     }
 
-    /// The number of queues, 1 to 32.
+    /// Returns the number of queues, 1 to 32.
     ///
     /// Its second clause is how a caller learns what every `State` keeps: the range of its length and
     /// of its numbers.
@@ -99,7 +99,7 @@ impl State {
         self.len
     }
 
-    /// The number of customers in queue `i`; queues are counted from 0.
+    /// Returns the number of customers in queue `i`; queues are counted from 0.
     pub fn get(&self, i: u8) -> u16
         requires { i < length self.now }
         ensures { result ≡ slice_index self.now i }
@@ -115,7 +115,7 @@ impl State {
         self.values[i as usize] = v;
     }
 
-    /// Whether each queue holds at most as many customers here as it does in `other`: the
+    /// Returns whether each queue holds at most as many customers here as it does in `other`: the
     /// componentwise order of states.
     pub fn leq(&self, other: &State) -> bool
         requires { length self.now ≡ length other.now }
@@ -130,7 +130,7 @@ impl State {
         above == 0
     }
 
-    /// Whether these are its numbers, one for each queue.
+    /// Returns whether these are its numbers, one for each queue.
     #[inline]
     pub fn is_row(&self, row: &[u16]) -> bool
         ensures { IsTrue result ↔ (row.now ≡ self.now) }
@@ -172,7 +172,7 @@ impl State {
         true
     }
 
-    /// A hash of 32 bits for tables of states: equal states have equal hashes. It is made by multiplication
+    /// Returns a hash of 32 bits for tables of states: equal states have equal hashes. It is made by multiplication
     /// (Knuth, The Art of Computer Programming, volume 3, section 6.4).
     #[tactic(auto, unfolding(crate::specs::Hashing::hash))]
     pub fn hash(&self) -> u32
@@ -219,7 +219,7 @@ impl State {
         quad_of(&self.values, i)
     }
 
-    /// The numbers, one for each queue, and zeros behind them.
+    /// The numbers, one for each queue, and zeros after them.
     #[inline]
     pub(crate) fn padded(&self) -> [u16; 32]
         ensures { (i : ℕ) → slice_index result i ≡ slice_index self.now i }

@@ -13,8 +13,8 @@ use std::marker::Model;
 /// The states of a box that are still to come, in lexicographic order: an iterator that is seen as
 /// their list.
 ///
-/// A step raises the last queue that isn't at its greatest number and empties those behind it to their
-/// least numbers, as an odometer does. It takes no memory.
+/// A step raises the last queue that isn't at its greatest number and empties those after it to their
+/// least numbers, as an odometer does. It does not allocate.
 #[derive(Drop)]
 pub struct States {
     bounds: Bounds,
@@ -35,7 +35,7 @@ impl Model for States {
 }
 
 impl Bounds {
-    /// The states of the box in lexicographic order, from the lower corner to the upper one.
+    /// Returns the states of the box in lexicographic order, from the lower corner to the upper one.
     ///
     /// Its second clause says that an iterator of this type gives the list that it is seen as.
     pub fn states(&self) -> States

@@ -90,13 +90,13 @@ impl Case {
             .context("no memory for a sink")
     }
 
-    /// Makes the call, and answers whether it does what it must: the status and both texts are
+    /// Makes the call, and returns whether it does what it must: the status and both texts are
     /// those that are wanted, and where the status says that a write failed, one write did, and
     /// elsewhere none.
     ///
     /// # Errors
     ///
-    /// Where there isn't enough memory for the shelf and the sinks.
+    /// If an allocation for the shelf or the sinks fails.
     pub(crate) fn agrees(&self, alloc: Global) -> anyhow::Result<bool> {
         let mut shelf = self.shelf(alloc)?;
         let mut out = self.sink(alloc, self.out.len())?;

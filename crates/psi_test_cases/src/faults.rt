@@ -171,7 +171,7 @@ impl Trial {
 ///
 /// # Errors
 ///
-/// Where there isn't enough memory.
+/// If an allocation fails.
 pub(crate) fn try_faults(alloc: Global, case: Case) -> anyhow::Result<Tried> {
     let whole = Reply::whole(&case)?;
     let needed = reads(&case);

@@ -1,4 +1,4 @@
-//! The program `psi_test_cases`: makes each call that its case files describe, and tells which ones
+//! The program `psi_test_cases`: makes each call that its case files describe, and reports which ones
 //! differ.
 //!
 //! Its arguments are the paths of case files; `reader` says how these are written. A call is made
@@ -22,11 +22,11 @@
 //! | `refusals.cases` | files that are refused, by `check` and `sample`, and files at each limit that are read | by hand; the descriptions by `oracle/plain.py` |
 //! | `kinds.cases` | the marks of every kind of event on small networks | by `generate/all_kinds.py`, over all pairs of states |
 //! | `small.cases`, `small-exact.cases`, `small-closed.cases` | samples, maps of all states and closed samples of small networks | by `generate/small_networks.py`, which lists states |
-//! | `sweeps.cases` | marks and samples that tell events from the others of a list | by `generate/sweeps.py`, which lists states |
+//! | `sweeps.cases` | marks and samples that distinguish events from the others of a list | by `generate/sweeps.py`, which lists states |
 //! | `check.cases`, `sample.cases`, `report.cases`, `trial.cases`, `couple.cases`, `reward.cases`, `log.cases`, `replay.cases`, `exact.cases`, `closed.cases`, `refuse.cases`, `words.cases`, `read.cases` | random networks, whole and broken, logs, written, changed and broken, words, and files that aren't there | by an independent program (`generate/cases_from_json.py`) |
 //!
 //! It ends with 0 where all agree, with 1 where a case differs, and with 2 where a case file can't
-//! be read or there isn't enough memory, which a line on standard error tells.
+//! be read or an allocation fails, which a line on standard error reports.
 #![tactic(auto)]
 
 mod case;
@@ -70,7 +70,7 @@ fn is_named(names: &[u8], name: &str) -> bool {
         .any(|line| line == name.as_bytes())
 }
 
-// Makes the call of a case under each fault, and tells how many differ.
+// Makes the call of a case under each fault, and returns how many differ.
 fn try_case_faults(
     rt: &(impl Print + Alloc<A = Global>),
     case: Case,
@@ -142,7 +142,7 @@ fn main(rt: HostRuntime) -> ExitCode {
         Ok(counts) if counts.differing == 0 && counts.differing_faults == 0 => ExitCode::from(0),
         Ok(_) => ExitCode::from(1),
         Err(error) => {
-            // Where standard error is closed too, the exit status alone tells.
+            // Where standard error is closed too, only the exit status reports it.
             let _ = eprintln!(rt; "psi_test_cases: {error:#}");
             ExitCode::from(2)
         }

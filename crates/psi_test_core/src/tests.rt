@@ -1,4 +1,4 @@
-//! Outside values, calls that take memory, generic calls, and which events tell their pieces, worked out by hand.
+//! Outside values, calls that allocate, generic calls, and which events declare their pieces, worked out by hand.
 
 mod covering;
 mod diagrams;

@@ -11,7 +11,7 @@
 //!
 //! A line is printed for each thing that differs, and for each table a line that says how many events, states,
 //! boxes and marks agree; an event agrees where nothing of it differs. A table that can't be read, or whose network
-//! can't, is told by a line too. The last line counts the tables of which nothing differs. It ends with 0 where
+//! can't, gets a line too. The last line counts the tables of which nothing differs. It ends with 0 where
 //! those are all tables, and else with 1.
 //!
 //! The files lie in `data/`, where generate/images.py writes them: what the tables say comes from oracle/plain.py, a plain
@@ -19,7 +19,7 @@
 //!
 //! | Table | What it has |
 //! |---|---|
-//! | `wrong-*.table` | tables that are wrong in one place each, which must be told |
+//! | `wrong-*.table` | tables that are wrong in one place each, which must be reported |
 //! | `two-queues.table`, `three-*.table` | events of every kind on networks of twelve states, some by several servers |
 //! | `four-queues.table` | events that name three or four queues |
 //! | `drawn-routes.table` | routes by tables that are drawn, on seventy states |
@@ -58,7 +58,7 @@ fn try_table(rt: &(impl Files + Print + Alloc<A = Global>), name: &str) -> anyho
     compare_all(rt, name, &table, &net)
 }
 
-// Compares a table with its network, prints what comes of it, and answers whether all agrees.
+// Compares a table with its network, prints what comes of it, and returns whether all agrees.
 fn agrees(rt: &(impl Files + Print + Alloc<A = Global>), name: &str) -> anyhow::Result<bool> {
     match try_table(rt, name) {
         Ok(counts) => {
@@ -72,7 +72,7 @@ fn agrees(rt: &(impl Files + Print + Alloc<A = Global>), name: &str) -> anyhow::
     }
 }
 
-// Compares all tables that the arguments name, and answers whether all agrees.
+// Compares all tables that the arguments name, and returns whether all agrees.
 fn try_tables(rt: &(impl Env + Files + Print + Alloc<A = Global>)) -> anyhow::Result<bool> {
     let mut agreeing: u64 = 0;
     let mut all = true;
@@ -92,7 +92,7 @@ fn main(rt: HostRuntime) -> ExitCode {
         Ok(true) => ExitCode::from(0),
         Ok(false) => ExitCode::from(1),
         Err(error) => {
-            // Where standard error is closed too, the exit status alone tells.
+            // Where standard error is closed too, only the exit status reports it.
             let _ = eprintln!(rt; "psi_test_sweep: {error:#}");
             ExitCode::from(1)
         }

@@ -42,7 +42,7 @@ impl Table {
     ///
     /// # Errors
     ///
-    /// Where they aren't of the form above, a row hasn't one image for each state, or there isn't enough memory.
+    /// Where they aren't of the form above, a row hasn't one image for each state, or an allocation fails.
     pub(crate) fn read(alloc: Global, bytes: &[u8]) -> anyhow::Result<Table> {
         let mut table = Table {
             network: String::new(alloc),
@@ -79,7 +79,7 @@ impl Table {
     }
 }
 
-// The row of an event that stands behind its key.
+// The row of an event that stands after its key.
 fn row_of(alloc: Global, text: &str) -> anyhow::Result<Row> {
     let (name, rest) = text.split_once(' ').context("an event without its server")?;
     let (server, rest) = rest.split_once(' ').context("an event without its images")?;

@@ -138,14 +138,14 @@ fn push_rewards(
 }
 
 impl Tally {
-    /// The report of the samples: the numbers of samples and of those that are met; for each horizon that some
+    /// Returns the report of the samples: the numbers of samples and of those that are met; for each horizon that some
     /// sample has, ascending, how many have it; for each queue the sum of its customers over the samples that are
     /// met, and, where one is met, the least and the greatest number of them; and for each reward likewise the sum,
     /// the least and the greatest of its values.
     ///
     /// # Errors
     ///
-    /// [`OutOfMemory`] where there is no memory for the report.
+    /// [`OutOfMemory`] if an allocation fails.
     pub fn report(&self, alloc: Global, net: &Net) -> Result<Report, OutOfMemory>
         requires { (outcomes : List Outcome) × StandsFor self.now net.now outcomes }
         ensures { (outcomes : List Outcome) → StandsFor self.now net.now outcomes → IfOk result (λ report. report ≡ contents_of net.now outcomes) }
@@ -161,11 +161,11 @@ impl Tally {
         })
     }
 
-    /// The text of the report of the samples.
+    /// Returns the text of the report of the samples.
     ///
     /// # Errors
     ///
-    /// [`OutOfMemory`] where there is no memory for the report or for its text.
+    /// [`OutOfMemory`] if an allocation fails.
     pub fn text(&self, alloc: Global, net: &Net) -> Result<Vec<u8>, OutOfMemory>
         requires { (outcomes : List Outcome) × StandsFor self.now net.now outcomes }
         ensures { (outcomes : List Outcome) → StandsFor self.now net.now outcomes → IfOk result (λ text. text.items ≡ report_text net.now outcomes) }

@@ -30,7 +30,7 @@ use psi_state::{Outcome, State};
 use std::alloc::Global;
 
 // Writes the log of the run of the header's horizon, which ends with this state, or the line on one that is
-// too long. The memory is taken first; then the run is done once for the length of its log, and once more
+// too long. Its allocations come first; then the run is done once for the length of its log, and once more
 // for its text, which is written as the lines come.
 fn write_run<L: EventLaw, P: Past + Drop, F: Follower + Drop, O: Sink, E: Sink>(
     alloc: Global,
@@ -65,7 +65,7 @@ fn write_run<L: EventLaw, P: Past + Drop, F: Follower + Drop, O: Sink, E: Sink>(
     }
 }
 
-// The log of a sample of the network, written, or what is told in its place.
+// The log of a sample of the network, written, or the reply instead of it.
 fn write_sample<O: Sink, E: Sink>(
     alloc: Global,
     net: &Net,
@@ -123,7 +123,7 @@ pub(crate) fn perform<F: Shelf, O: Sink, E: Sink>(
         (record { before = O.held out.old; after = O.held out.new; took_before = O.took out.old; took_after = O.took out.new; faults_before = O.faults out.old; faults_after = O.faults out.new })
         (record { before = E.held err.old; after = E.held err.new; took_before = E.took err.old; took_after = E.took err.new; faults_before = E.faults err.old; faults_after = E.faults err.new })
         result }
-    // The answers agree with what the shelf tells.
+    // The answers agree with what the shelf's model has.
     ensures agrees { AgreesSince (F.told shelf.old) (F.gave shelf.old) (F.gave shelf.new) }
     ensures spared { F.gives shelf.old net.now → F.faults shelf.new ≡ F.faults shelf.old }
 {

@@ -29,7 +29,7 @@ pub(crate) fn work<'w, F: Shelf>(
         (Ok (replay name log.now)) (ending_of result) }
     ensures read { F.gives shelf.old log.now → HasRead (ending_of result) }
     ensures spared { F.gives shelf.old log.now → F.faults shelf.new ≡ F.faults shelf.old }
-    // The answers agree with what the shelf tells.
+    // The answers agree with what the shelf's model has.
     ensures agrees { AgreesSince (F.told shelf.old) (F.gave shelf.old) (F.gave shelf.new) }
     ensures asked { F.asked shelf.new ≡ F.asked shelf.old ++ read_of (log_file log.now) ∷ [] }
 {

@@ -1,4 +1,4 @@
-//! Which events tell the pieces that they are made of, so that states are packed; no clause says so.
+//! Which events declare the pieces that they are made of, so that states are packed; no clause says so.
 
 ghost use Rattle.std.specs.Prelude.{◌≡◌, ◌≤◌, ◌∷◌, []};
 ghost use Rattle.psi_state.specs.State.{AreCapacities};
@@ -37,7 +37,7 @@ fn targets(both: bool) -> Queues
     to
 }
 
-// Whether the event of a kind tells its pieces.
+// Whether the event of a kind declares its pieces.
 fn is_told(alloc: Global, kind: &Kind) -> Result<bool, KindRefusal>
     requires { IsKindOf (2 ∷ 2 ∷ []) kind.now }
 {
@@ -96,7 +96,7 @@ fn three() -> State
     caps
 }
 
-// Whether the event of one queue with room for three customers, with this part, tells its pieces.
+// Whether the event of one queue with room for three customers, with this part, declares its pieces.
 fn is_part_told(rt: &impl Abort, guard: (u16, u16), shift: i32, limits: (u16, u16)) -> bool {
     let part = Part {
         queue: 0,

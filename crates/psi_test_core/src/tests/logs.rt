@@ -10,8 +10,8 @@ use psi_state::{Bounds, State, Step};
 use std::alloc::{AllocError, Global};
 use std::test::Fail;
 
-// A set with states one after another of which one number differs, from one digit to two and behind the number, and
-// with others; behind it as many bytes as are looked at together.
+// A set with states one after another of which one number differs, from one digit to two and after the number, and
+// with others; after it as many bytes as are looked at together.
 const SET: &[u8] = b" set 0,8 0,9 0,10 0,11 1,0 2,0 9,0 10,0 11,0 11,12
 end 0,0                                                                                                                         ";
 

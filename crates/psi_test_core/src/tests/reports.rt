@@ -121,7 +121,7 @@ fn samples_counted_apart_and_put_together_are_those_counted_together(
     Ok(())
 }
 
-// A queue with a place for two customers, which come to it; with the reward, behind this, it costs 10
+// A queue with a place for two customers, which come to it; with the reward, after this, it costs 10
 // where one customer is there, and -5 where two are.
 const ONE_QUEUE: &[u8] = b"version = 1
 [[queue]]
@@ -141,7 +141,7 @@ queues = [\"a\"]
 table = [[0, 10, -5]]
 ";
 
-// What is told of three samples: one with a customer, met within 4 steps, one that isn't met, and one
+// The report of three samples: one with a customer, met within 4 steps, one that isn't met, and one
 // with two customers, met within one step.
 const TWO_MET: &[u8] = b"item,name,value
 samples,-,3
@@ -159,7 +159,7 @@ reward-least,cost,-5
 reward-greatest,cost,10
 ";
 
-// One text behind another.
+// One text after another.
 fn joined(alloc: Global, front: &[u8], back: &[u8]) -> Result<Vec<u8>, Fail> {
     let mut both = Vec::new(alloc);
     both.extend_from_slice(front)?;

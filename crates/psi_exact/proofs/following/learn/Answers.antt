@@ -19,7 +19,7 @@ loop-number-init g c = record {
 pub add_images-requires : goal.add_images-requires
 add_images-requires g c =
     let system = c.args.system.now in
-    let cap = event-caps g.E.EventLaw.capacities system.caps system.events c.loop-number.number c.event.result.now c.caps-caps.ensures.fit.same_caps (sym c.event.ensures) in
+    let cap = event-caps g.E.EventLaw.capacities system.caps system.events c.loop-number.number c.event.result.now c.requires.fit.same_caps (sym c.event.ensures) in
     let table : c.loop-number.table.caps ≡ system.caps = ap (λ (t : Mapped). t.caps) c.loop-number.invariant.same ∙ c.requires.same_caps in
     record {
       same_caps = cap ∙ sym table;

@@ -19,7 +19,7 @@ pub follow-requires : goal.follow-requires
 follow-requires g c =
     let system = c.args.system.now in
     let h = picked (map g.E.EventLaw.function system.events) system.rates c.args.word in
-    let closed = functions-closed g.E.EventLaw.capacities g.E.EventLaw.function system (λ t. c.args.word) g.met.E.EventLaw.closed c.caps-caps.ensures.fit.same_caps in
+    let closed = functions-closed g.E.EventLaw.capacities g.E.EventLaw.function system (λ t. c.args.word) g.met.E.EventLaw.closed c.requires.fit.same_caps in
     let are = subst (λ k. AreRanksOf system.caps (slice_index_or (map g.E.EventLaw.function system.events) k (λ x. x)) (images_at c.args.images.now c.pick-number.result.0))
     c.pick-number.ensures.number (c.requires.learned.each c.pick-number.result.0 c.if-number-images.true) in
     subst (λ (caps : List ℕ). AreRanks caps c.of.result.now) (sym c.requires.same_caps)
@@ -29,7 +29,7 @@ pub returns-then-number-images : goal.returns-then-number-images
 returns-then-number-images g c = λ f is.
     (let system = c.args.system.now in
     let h = picked (map g.E.EventLaw.function system.events) system.rates c.args.word in
-    let closed = functions-closed g.E.EventLaw.capacities g.E.EventLaw.function system (λ t. c.args.word) g.met.E.EventLaw.closed c.caps-caps.ensures.fit.same_caps in
+    let closed = functions-closed g.E.EventLaw.capacities g.E.EventLaw.function system (λ t. c.args.word) g.met.E.EventLaw.closed c.requires.fit.same_caps in
     let are = subst (λ k. AreRanksOf system.caps (slice_index_or (map g.E.EventLaw.function system.events) k (λ x. x)) (images_at c.args.images.now c.pick-number.result.0))
     c.pick-number.ensures.number (c.requires.learned.each c.pick-number.result.0 c.if-number-images.true) in
     before-event system.caps f h h c.args.table.now c.follow.new.self (closed.each 1) refl is
@@ -40,7 +40,7 @@ pub older-requires : goal.older-requires
 older-requires g c =
     let system = c.args.system.now in
     let is = ap (λ (o : Option (Bor g.row.E.Denot)). option_map (λ e. e.now) o) (sym c.in-Some.is) ∙ c.pick-number.ensures.event in
-    event-caps g.E.EventLaw.capacities system.caps system.events (event_of system.rates c.args.word) c.in-Some.event.now c.caps-caps.ensures.fit.same_caps is
+    event-caps g.E.EventLaw.capacities system.caps system.events (event_of system.rates c.args.word) c.in-Some.event.now c.requires.fit.same_caps is
     ∙ sym c.requires.same_caps
 
 pub returns-in-Some : goal.returns-in-Some
@@ -48,7 +48,7 @@ returns-in-Some g c = λ f is.
     (let system = c.args.system.now in
     let event = c.in-Some.event.now in
     let found = ap (λ (o : Option (Bor g.row.E.Denot)). option_map (λ e. e.now) o) (sym c.in-Some.is) ∙ c.pick-number.ensures.event in
-    let cap = event-caps g.E.EventLaw.capacities system.caps system.events (event_of system.rates c.args.word) event c.caps-caps.ensures.fit.same_caps found in
+    let cap = event-caps g.E.EventLaw.capacities system.caps system.events (event_of system.rates c.args.word) event c.requires.fit.same_caps found in
     before-event system.caps f (g.E.EventLaw.function event) (picked (map g.E.EventLaw.function system.events) system.rates c.args.word) c.args.table.now c.older.new.self
     (subst (λ (caps : List ℕ). IsClosed caps (g.E.EventLaw.function event)) cap (g.met.E.EventLaw.closed event))
     (picked-event g.E.EventLaw.function system.events system.rates c.args.word (Some event) found) is c.older.ensures)

@@ -11,7 +11,7 @@ pub returns-then-is_some-clause-map : goal.returns-then-is_some-clause-map
 returns-then-is_some-clause-map g c =
     let system = c.args.system.now in
     let words = g.P.Past.words c.args.past.now in
-    let closed = functions-closed g.E.EventLaw.capacities g.E.EventLaw.function system words g.met.E.EventLaw.closed c.caps-caps.ensures.fit.same_caps in
+    let closed = functions-closed g.E.EventLaw.capacities g.E.EventLaw.function system words g.met.E.EventLaw.closed c.requires.fit.same_caps in
     c.requires.map
     ∙ some-constant system.caps (system_functions g.E.EventLaw.function system words) c.args.place c.args.found closed c.if-is_some.ensures c.requires.found
 

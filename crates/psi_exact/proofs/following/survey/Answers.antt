@@ -12,10 +12,11 @@ use Rattle.psi_exact.proofs.following.survey.Goals as goal
 pub learn-requires : goal.learn-requires
 learn-requires g c =
     let cap = ap (λ (t : Mapped). t.caps) c.table.view_is ∙ c.requires.same_caps in
-    record { same_caps = cap; valid = subst (λ (caps : List ℕ). AreImages (length (all_states caps)) c.table.inside.images) cap c.table.invariant }
+    record { fit = c.caps-caps.ensures.fit; same_caps = cap; valid = subst (λ (caps : List ℕ). AreImages (length (all_states caps)) c.table.inside.images) cap c.table.invariant }
 
 pub follow_all-requires : goal.follow_all-requires
 follow_all-requires g c = record {
+  fit = c.caps-caps.ensures.fit;
   same_caps = ap (λ (t : Mapped). t.caps) c.learn.ensures.same ∙ (ap (λ (t : Mapped). t.caps) c.table.view_is ∙ c.requires.same_caps);
   most = c.requires.most;
   valid = c.learn.ensures.valid;

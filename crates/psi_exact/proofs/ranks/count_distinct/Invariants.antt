@@ -3,7 +3,7 @@ use Rattle.std.proofs.Common.{◌≡◌, ℕ, ◌+◌, ◌<◌, ◌≤◌, lengt
 use Rattle.psi_exact.specs.Distinct.{distinct_count, stands}
 use Rattle.psi_exact.proofs.ranks.count_distinct.Given as goal
 
--- the ranks behind the place are counted, and those are marked that stand among them
+-- the ranks after the place are counted, and those are marked that stand among them
 abbrev pub invariant-loop-place : goal.invariant-loop-place
 invariant-loop-place l = record {
   counted : l.count ≡ distinct_count (drop l.place l.ranks);

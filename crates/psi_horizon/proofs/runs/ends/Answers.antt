@@ -24,7 +24,7 @@ ends-requires g c =
     let network = g.F.Follower.stands_for c.args.follower.now in
     record {
       numbers = numbers-events system.rates (g.P.Past.words c.extend_to.new.past) c.args.horizon (length network.functions) c.below-below.result.now
-          (c.caps-caps.ensures.fit.same_count ∙ sym (length-map system.events g.E.EventLaw.function)
+          (c.requires.fit.same_count ∙ sym (length-map system.events g.E.EventLaw.function)
           ∙ sym (ap (λ (n : Followed). length n.functions) c.requires.follower))
           (c.below-below.ensures.numbers ∙ ap (λ (rates : List ℕ). numbers_below rates (g.P.Past.words c.extend_to.new.past) c.args.horizon) c.wheel-wheel.ensures);
     }
@@ -35,8 +35,8 @@ returns-clause-ends g c =
     let words = g.P.Past.words c.args.past.now in
     areas-ends system.split system.caps (map g.E.EventLaw.function system.events) system.rates words c.args.horizon c.below-below.result.now
     (g.F.Follower.stands_for c.args.follower.now) c.ends.result c.requires.follower
-    (c.caps-caps.ensures.fit.same_count ∙ sym (length-map system.events g.E.EventLaw.function))
+    (c.requires.fit.same_count ∙ sym (length-map system.events g.E.EventLaw.function))
     (c.below-below.ensures.numbers ∙ ap (λ (rates : List ℕ). numbers_below rates (g.P.Past.words c.extend_to.new.past) c.args.horizon) c.wheel-wheel.ensures
     ∙ ap (λ (w : ℕ → ℕ). numbers_below system.rates w c.args.horizon) c.extend_to.ensures.words)
-    (functions-closed g.E.EventLaw.capacities g.E.EventLaw.function system words g.met.E.EventLaw.closed c.caps-caps.ensures.fit.same_caps)
+    (functions-closed g.E.EventLaw.capacities g.E.EventLaw.function system words g.met.E.EventLaw.closed c.requires.fit.same_caps)
     c.ends.ensures.ends

@@ -6,7 +6,7 @@ use Rattle.psi_log.specs.LogViews.{entries_of}
 use Rattle.psi_log.proofs.StepLemmas.{behind}
 use Rattle.psi_log.proofs.log.read_lines.Given as goal
 
--- what is left of the lines, behind the steps that are read, is what all of them are
+-- what is left of the lines, after the steps that are read, is what all of them are
 abbrev pub invariant-loop-done : goal.invariant-loop-done
 invariant-loop-done l = record {
   begin : l.regions.regions ≡ l.fn.reader.region ∷ drop 1 l.regions.regions;

@@ -6,7 +6,7 @@ use Rattle.psi_replay.specs.Verdict.{is_within, event_numbers}
 use Rattle.psi_replay.specs.Passes.{told, verdict_left}
 use Rattle.psi_replay.proofs.passing.judge_lines.Given as goal
 
--- what is left of the lines gives what all of them give, whatever text comes behind
+-- what is left of the lines gives what all of them give, whatever text comes after
 abbrev pub invariant-loop-done : goal.invariant-loop-done
 invariant-loop-done g l = record {
   words : g.P.Past.words l.past ≡ g.P.Past.words l.fn.past;

@@ -1,4 +1,4 @@
--- The counts behind the place are added.
+-- The counts after the place are added.
 use Rattle.std.proofs.Common.{◌≡◌, ◌-◌, length, take}
 use Rattle.psi_report_reader.specs.Counts.{joined_counts}
 use Rattle.psi_report_reader.proofs.counts.join_counts.Given as goal

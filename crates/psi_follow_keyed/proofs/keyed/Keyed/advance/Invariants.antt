@@ -5,7 +5,7 @@ use Rattle.psi_follow_keyed.specs.Keys.{AreKeys}
 use Rattle.psi_follow_keyed.specs.Keyed.{Follows}
 use Rattle.psi_follow_keyed.proofs.keyed.Keyed.advance.Given as goal
 
--- the states are those that the numbers behind this place make of the states of before
+-- the states are those that the numbers after this place make of the states of before
 abbrev pub invariant-loop-place : goal.invariant-loop-place
 invariant-loop-place l = record {
   low_within : IsBelow l.low.state l.self.keys.caps;

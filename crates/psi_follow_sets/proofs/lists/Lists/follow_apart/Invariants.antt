@@ -2,7 +2,7 @@ use Rattle.std.proofs.Common.{◌≤◌, length, drop}
 use Rattle.psi_follow_sets.specs.HoldingKept.{AreMoved}
 use Rattle.psi_follow_sets.proofs.lists.Lists.follow_apart.Given as goal
 
--- the words are those that the numbers behind this place make of the words of before
+-- the words are those that the numbers after this place make of the words of before
 abbrev pub invariant-loop-left : goal.invariant-loop-left
 invariant-loop-left g l = record {
   moved : AreMoved l.program (drop l.left l.numbers) l.fn.self l.self;

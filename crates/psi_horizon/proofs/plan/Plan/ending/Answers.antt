@@ -20,7 +20,7 @@ pub returns-clause-within : goal.returns-clause-within
 returns-clause-within g c =
     let plan = c.args.self.now in
     let f = system_functions g.E.EventLaw.function plan.system (g.P.Past.words plan.past) in
-    let fit = subst (λ (p : Planned g.row.E.Denot g.row.P.Denot). IsSystem g.E.EventLaw.capacities p.system) c.self.view_is c.ending.ensures.fit in
+    let fit = subst (λ (p : Planned g.row.E.Denot g.row.P.Denot). IsSystem g.E.EventLaw.capacities p.system) c.self.view_is c.self.invariant.fit in
     one-within plan.system.caps (region_at plan.system.split f plan.system.caps c.args.horizon) c.ending.result
     (run-area plan.system.split plan.system.caps f c.args.horizon
     (functions-closed g.E.EventLaw.capacities g.E.EventLaw.function plan.system (g.P.Past.words plan.past) g.met.E.EventLaw.closed fit.same_caps))
@@ -35,6 +35,7 @@ invariant_of-self g c =
     let system = c.self.inside.system in
     let kept = c.self.invariant in
     record {
+      fit = kept.fit;
       split = kept.split;
       kept = subst (λ (w : ℕ → ℕ). KeepsNumbers system.rates w (2 ^ system.limit) c.ending.new.numbers) (sym c.ending.ensures.words) c.ending.ensures.kept;
       follower = c.ending.ensures.follower ∙ kept.follower;

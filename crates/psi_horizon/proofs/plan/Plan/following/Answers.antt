@@ -11,6 +11,7 @@ invariant_of-result g c =
     let most : 1 * 2 ^ c.limit.result % 4294967296 ≡ 2 ^ system.limit =
     shift-power c.limit.result c.limit.ensures.bound ∙ ap (λ n. 2 ^ n) c.limit.ensures.value in
     record {
+      fit = c.caps-caps.ensures.fit;
       split = ap (λ (region : Regional). region.split) c.in_ok-region.ensures ∙ c.split.ensures.value;
       kept = subst (λ n. KeepsNumbers system.rates (g.P.Past.words c.new.result) n c.in_ok-numbers.numbers) most (c.in_ok-numbers.ensures system.rates (g.P.Past.words c.new.result));
       follower = c.requires;

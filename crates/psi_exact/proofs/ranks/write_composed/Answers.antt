@@ -1,7 +1,7 @@
--- Answers in the proof of `write_older`.
+-- Answers in the proof of `write_composed`.
 use Rattle.std.proofs.Common.{arith}
 use Rattle.psi_exact.proofs.TablesLemmas.{ranks-images, ranks-looked_up, table_of-older}
-use Rattle.psi_exact.proofs.ranks.write_older.Goals as goal
+use Rattle.psi_exact.proofs.ranks.write_composed.Goals as goal
 
 pub look_up-requires : goal.look_up-requires
 look_up-requires g c =
