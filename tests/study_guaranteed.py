@@ -136,8 +136,7 @@ def is_checked(row, ends):
     file = json.loads(json.dumps(file_of([row], {})))
     for entry in file["rows"]:
         for claim in entry["claims"]:
-            low, high, q = check_interval.interval(entry, claim, file["d"])
-            if None in (low, high) or (low, high) != (ends[0] * q, ends[1] * q):
+            if check_interval.interval(entry, claim, file["d"]) != [*ends]:
                 return False
     return len(file["rows"][0]["claims"]) == 1
 

@@ -194,11 +194,11 @@ def test_changed_certificates_do_not_prove_more():
         except ValueError:
             outcomes["refused"] = outcomes.get("refused", 0) + 1
             continue
-        for row, claim, (low, high, q) in found:
+        for row, claim, ends in found:
             wanted = ends_in_whole_numbers(row, claim, changed["d"])
-            for end, other in zip((low, high), wanted):
-                assert end is None or fractions.Fraction(end, q) == other, (path, old, claim)
-            kind = "proved" if None not in (low, high) else "not proved"
+            for end, other in zip(ends, wanted):
+                assert end is None or end == other, (path, old, claim)
+            kind = "proved" if None not in ends else "not proved"
             outcomes[kind] = outcomes.get(kind, 0) + 1
     assert min(outcomes[kind] for kind in ("refused", "proved", "not proved")) > 20, outcomes
 
@@ -213,7 +213,7 @@ def test_a_greater_claim_is_not_proved():
                 entry[side] -= 1
             else:
                 entry[side]["r"] += 4
-            low, high, _ = check_interval.interval(row, entry, file["d"])
+            low, high = check_interval.interval(row, entry, file["d"])
             assert (low if side == "low" else high) is None
 
 
@@ -244,6 +244,63 @@ def test_files_of_certificates_that_are_worked_by_hand(tmp_path, seen, greatest,
         shown = ends if status == 0 else f"not proved to {ends.split()[-1]}"
         assert (done.returncode, done.stderr) == (status, "")
         assert done.stdout.splitlines()[0] == f"row: mean: {shown}"
+
+
+BETS = {"by": "bets", "r": 11, "t": 10, "stakes": [7]}
+SHARE = {"of": "share", "q": 10, "unit": 1, "from": 2, "to": 2, "low": None, "high": None}
+QUANTILE = {"of": "quantile", "r": 1, "q": 2, "low": 9, "high": 9}
+
+
+@pytest.mark.parametrize(
+    "row, claim, low",
+    [
+        ({}, {}, fractions.Fraction(11, 10)),
+        ({}, {"low": {**BETS, "stakes": []}}, None),
+        ({}, {"low": {**BETS, "stakes": [7, 0]}}, None),
+        ({}, {"low": {**BETS, "stakes": [-7]}}, ValueError),
+        ({}, {"low": {**BETS, "stakes": [10]}}, None),
+        ({}, {"low": {**BETS, "t": 0}}, None),
+        ({}, {"low": {**BETS, "by": "binomial"}}, None),
+        ({}, {"low": {**BETS, "by": "word"}}, None),
+        ({}, {"low": {}}, KeyError),
+        ({}, {"unit": 2}, ValueError),
+        ({}, {"of": "word"}, ValueError),
+        ({"samples": 9}, {}, ValueError),
+        ({"samples": 11}, {}, ValueError),
+        ({"samples": 11, "uncoupled": 1}, {}, None),
+        ({"samples": 11, "uncoupled": 1}, {"low": {**BETS, "r": 9}}, fractions.Fraction(9, 10)),
+        ({"samples": 40, "uncoupled": 30}, {}, None),
+        ({"least": 2}, {}, ValueError),
+        ({"greatest": 1}, {}, ValueError),
+        ({"counts": [[1, 2], [2, -8]]}, {}, ValueError),
+        ({"counts": [[1, 2], [2, 8.0]]}, {}, ValueError),
+        ({"counts": [[1, True], [2, 9]]}, {}, ValueError),
+        ({"counts": [], "sum": 18}, {}, None),
+        ({"counts": [], "sum": 18}, SHARE, ValueError),
+        ({"counts": [], "sum": 18}, QUANTILE, ValueError),
+        ({"counts": [], "sum": 21}, {"low": None}, 0),
+        ({"counts": [], "sum": 21}, {"low": {"by": "chernoff", "r": 9, "a": 2, "b": 1}}, None),
+        ({"counts": [], "sum": -1}, {"low": {"by": "chernoff", "r": 9, "a": 2, "b": 1}}, None),
+        ({}, SHARE, 0),
+        ({}, {**SHARE, "low": {"by": "binomial", "r": 4}}, fractions.Fraction(4, 10)),
+        ({}, {**SHARE, "low": {"by": "binomial", "r": 5}}, None),
+        ({}, {**SHARE, "unit": 2}, ValueError),
+        ({}, {**QUANTILE, "low": 10}, 1),
+        ({}, {**QUANTILE, "low": 8}, None),
+        ({}, {**QUANTILE, "low": 11}, None),
+        ({}, {**QUANTILE, "r": 2}, None),
+        ({"least": 0, "counts": [[1, 2], [2, 6]], "uncoupled": 2}, QUANTILE, 0),
+    ],
+)
+def test_what_numbers_of_a_file_prove(row, claim, low):
+    """Eight values of 2 and two of 1; bets prove 11 of 10, as the proof computes."""
+    row = {"samples": 10, "uncoupled": 0, "least": 0, "greatest": 2, "counts": [[1, 2], [2, 8]], **row}
+    claim = {"of": "mean", "q": 10, "unit": 1, "low": BETS, "high": None, **claim}
+    if type(low) is type:
+        with pytest.raises(low):
+            check_interval.interval(row, claim, 40)
+    else:
+        assert check_interval.interval(row, claim, 40)[0] == low
 
 
 @pytest.mark.parametrize("wrong", [{"d": 0}, {"d": 40.0}, {"d": True}, {"d": "40"}, {}, {"d": 40, "rows": [{}]}, [], 7])

@@ -13,6 +13,7 @@ pub mod SquareLemmas
 pub mod DrawsLemmas
 pub mod SpreadLemmas
 pub mod NearLemmas
+pub mod BetweenLemmas
 pub mod ReportLemmas
 pub mod ManyLemmas
 mod Worked

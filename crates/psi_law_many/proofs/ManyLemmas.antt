@@ -9,6 +9,7 @@ use Rattle.psi_law.specs.Samples.{Reaches}
 use Rattle.psi_law.proofs.ChainLemmas.{function_of-keeps}
 use Rattle.psi_law.proofs.ExistenceLemmas.{elimination-stationary}
 use Rattle.psi_law_many.specs.Values.{Score, surplus, deficit, added}
+use Rattle.psi_law_many.specs.Near.{HasNear}
 use Rattle.psi_law_many.specs.Intervals.{HasIntervals}
 use Rattle.psi_law_many.specs.Bets.{HasBets}
 use Rattle.psi_law_many.specs.Statements.{HasTails, StationaryIsMeasured, BalanceIsNear, BalanceHas, BalanceHasQuantiles, UnmetAdds, DifferenceHas}
@@ -18,6 +19,7 @@ use Rattle.psi_law_many.proofs.IntervalLemmas.{tailed, has-intervals}
 use Rattle.psi_law_many.proofs.BetsLemmas.{has-bets}
 use Rattle.psi_law_many.proofs.QuantileLemmas.{balance-quantiles}
 use Rattle.psi_law_many.proofs.NearLemmas.{balance-near}
+use Rattle.psi_law_many.proofs.BetweenLemmas.{sample-pair, added-pair, has-near}
 
 -- a claim that holds of each two scores
 abbrev HoldsOfScores : (ℕ → Score → Score → Type 0) → Type 0
@@ -88,7 +90,18 @@ difference-has Claim holds chain sample other opposed n is reaches also arrives 
     let last2 = deficit opposed other weight2 value2 low2 high2 in
     holds n (added first last2) (added last first2) (added-is n first last2 up down2) (added-is n last first2 down up2))
 
+difference-near : (chain : Chain) (sample : Words → Outcome) (other : Chain) (opposed : Words → Outcome) (n : ℕ)
+    → IsChain chain → Reaches chain sample n → IsChain other → Reaches other opposed n → DifferenceHas chain sample n HasNear other opposed
+difference-near chain sample other opposed n is reaches also arrives = λ weight value low high weight2 value2 low2 high2 measured compared.
+    (let up = surplus sample chain weight value low high in
+    let down = deficit sample chain weight value low high in
+    let up2 = surplus opposed other weight2 value2 low2 high2 in
+    let down2 = deficit opposed other weight2 value2 low2 high2 in
+    has-near n (added up down2) (added down up2)
+    (added-pair n up down up2 down2 (sample-pair chain sample n is reaches weight value low high measured) (sample-pair other opposed n also arrives weight2 value2 low2 high2 compared)))
+
 pub record AreDifferent (chain : Chain) (sample : Words → Outcome) (other : Chain) (opposed : Words → Outcome) (n : ℕ) : Type 0 where
+  pub near : DifferenceHas chain sample n HasNear other opposed
   pub tails : DifferenceHas chain sample n HasTails other opposed
   pub intervals : DifferenceHas chain sample n HasIntervals other opposed
   pub bets : DifferenceHas chain sample n HasBets other opposed
@@ -96,6 +109,7 @@ pub record AreDifferent (chain : Chain) (sample : Words → Outcome) (other : Ch
 are-compared : (chain : Chain) (sample : Words → Outcome) (other : Chain) (opposed : Words → Outcome) (n : ℕ)
     → IsChain chain → Reaches chain sample n → IsChain other → Reaches other opposed n → AreDifferent chain sample other opposed n
 are-compared chain sample other opposed n is reaches also arrives = record {
+  near = difference-near chain sample other opposed n is reaches also arrives;
   tails = difference-has HasTails has-tails chain sample other opposed n is reaches also arrives;
   intervals = difference-has HasIntervals has-intervals chain sample other opposed n is reaches also arrives;
   bets = difference-has HasBets has-bets chain sample other opposed n is reaches also arrives;

@@ -52,12 +52,12 @@ range-of s b c k g q v some near range =
     let both : s * (b * (4 * c)) ≤ s * (k * q * v) = omega arith in
     le_of_mul-le-mul_left both some
 
-plain-of : (s b e k z v : ℕ) → 1 ≤ s → b * (4 * (s * e * (s * e))) ≤ k * (s * z * (s * z)) * v → b * (4 * (e * e)) ≤ k * (z * z) * v
+pub plain-of : (s b e k z v : ℕ) → 1 ≤ s → b * (4 * (s * e * (s * e))) ≤ k * (s * z * (s * z)) * v → b * (4 * (e * e)) ≤ k * (z * z) * v
 plain-of s b e k z v some range =
     let both : s * s * (b * (4 * (e * e))) ≤ s * s * (k * (z * z) * v) = omega arith in
     le_of_mul-le-mul_left both (one-le-mul some some)
 
-some-words : 1 ≤ word_count
+pub some-words : 1 ≤ word_count
 unfolding word_count
 some-words = omega arith
 

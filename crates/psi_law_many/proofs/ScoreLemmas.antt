@@ -30,6 +30,12 @@ pub or-between : (o : Outcome) (z : List ℕ) (value : List ℕ → ℕ) (other 
 or-between (Met t y) z value other low high above below least most at = (let e : value z ≡ value y = ap value (at t y refl) in (omega arith, omega arith))
 or-between (NotMet l) z value other low high above below least most at = (least, most)
 
+-- how far a value is above the least and how far it is below the greatest is together at most the range
+or-both : (o : Outcome) (value : List ℕ → ℕ) (low high : ℕ) → low ≤ value_or low value o → value_or low value o ≤ high → low ≤ high
+    → value_or low value o - low + (high - value_or high value o) ≤ high - low
+or-both (Met t y) value low high least most order = omega arith
+or-both (NotMet l) value low high least most order = omega arith
+
 or-parts : (value : List ℕ → ℕ) (other : ℕ) (o : Outcome) → value_or other value o ≡ value_met value o + other * one_if (is_unmet o)
 or-parts value other (Met t y) = omega arith
 or-parts value other (NotMet l) = omega arith
@@ -131,6 +137,16 @@ module _ (chain : Chain) (sample : Words → Outcome) (n : ℕ) (is : IsChain ch
             most-or mean-most;
         share = omega arith;
       }
+
+  -- the two are scores of one number
+  pub both-range : (past : Words) → value_or low value (sample past) - low + (high - value_or high value (sample past)) ≤ high - low
+  both-range past =
+      let order = range-order in
+      let sides = between low (omega arith) order past in
+      or-both (sample past) value low high sides.0 sides.1 order
+
+  pub both-means : weighted chain weight value - low * whole chain weight + (high * whole chain weight - weighted chain weight value) ≡ whole chain weight * (high - low)
+  both-means = range-of (whole chain weight) (weighted chain weight value) low high range-order mean-least mean-most
 
 -- ---- sums of scores
 

@@ -1,8 +1,9 @@
 -- The definitions on small inputs, counted by hand and computed by the checker. The modulus of the networks is 4, so lists of pasts are counted of
 -- the words below 4.
 use Rattle.std.proofs.Common.{◌≡◌, ℕ, zero, suc, ◌+◌, ◌-◌, ◌<◌, ◌≤◌, ◌^◌, ◌*◌, List, [], ◌∷◌, map, slice_index, inl, inr, ap, sym, subst, ◌∙◌, refl, arith}
-use Rattle.std.specs.Prelude.{Bool, codes, nat_le, nat_lt, nat_eq, if◌then◌else◌}
+use Rattle.std.specs.Prelude.{Bool, true, false, ◌||◌, codes, nat_le, nat_lt, nat_eq, if◌then◌else◌}
 use Rattle.std.specs.List.{list_any, sum_by}
+use Rattle.std.proofs.Math.Nat.{one-le-pow}
 use Rattle.std.proofs.lemmas.Bool.{cases_eq, ne_eqb, cases_Bool}
 use Rattle.std.proofs.lemmas.List.Elements.{All-nil, All-cons}
 use Rattle.psi_state.specs.Members.{In}
@@ -21,7 +22,7 @@ use Rattle.psi_net_model.specs.Valid.{IsNetwork, IsQueue, IsAccepted}
 use Rattle.psi_net_model.specs.declared.entries.NamedEvent.{NamedEvent}
 use Rattle.psi_report.specs.Samples.{met_states}
 use Rattle.psi_report.specs.Report.{contents_of}
-use Rattle.psi_law.specs.Counting.{sum_below}
+use Rattle.psi_law.specs.Counting.{Words, sum_below}
 use Rattle.psi_law.specs.Wheel.{word_count}
 use Rattle.psi_law.specs.Chains.{Chain, whole, weighted, flow_to, IsBalanced, is_same}
 use Rattle.psi_law.specs.Samples.{is_unmet}
@@ -30,11 +31,14 @@ use Rattle.psi_law.proofs.NetworkLemmas.{network-lawful}
 use Rattle.psi_law_many.specs.Lists.{count_lists, AtMost}
 use Rattle.psi_law_many.specs.Values.{sum_or, IsMeasured, Score, surplus, deficit, added}
 use Rattle.psi_law_many.specs.Means.{spread, distance, far}
+use Rattle.psi_law_many.specs.Near.{deviation, deviating}
 use Rattle.psi_law_many.specs.Tails.{cases_from, at_least}
-use Rattle.psi_law_many.specs.Intervals.{IsChernoff, IsBinomial, IsRule, misses}
+use Rattle.psi_law_many.specs.Intervals.{overstates, IsChernoff, IsBinomial, IsRule, misses}
 use Rattle.psi_law_many.specs.Bets.{paid, product_by, IsWon, IsBet, loses}
 use Rattle.psi_law_many.specs.Reports.{report_of}
 use Rattle.psi_law_many.specs.Quantiles.{hits, IsQuantile}
+use Rattle.psi_law_many.proofs.ListsLemmas.{lists-ones, lists-power}
+use Rattle.psi_law_many.proofs.NearLemmas.{some-words}
 use Rattle.psi_law_many.proofs.ManyLemmas.{AreMany, are-many, AreDifferent, are-different}
 
 -- ---- the networks
@@ -249,6 +253,22 @@ difference-worked : ((added (surplus (network_sample (queueing 2 1)) (network_ch
     (deficit (network_sample (queueing 1 1)) (network_chain (queueing 1 1)) thirds customers 0 1)).whole ≡ 21)
 difference-worked = (refl, refl)
 
+-- how many of the lists of k pasts are at least so far off: the difference is known of the past that gives 2 and 1 (16 of 21 off) and of the 4 that empty both (5 off); of
+-- the others one end or none is known. Of two pasts 1 list has 2 and 1 twice, 8 have it once with 0 and 0, and 16 have 0 and 0 twice; 12 have 2 and 1 once and an empty second network
+apart-of : ℕ → ℕ → ℕ
+apart-of k d = count_lists 4 2 k (λ pasts. nat_le d (deviation (added (surplus (network_sample (queueing 2 1)) (network_chain (queueing 2 1)) halves customers 0 2)
+    (deficit (network_sample (queueing 1 1)) (network_chain (queueing 1 1)) thirds customers 0 1))
+    (added (deficit (network_sample (queueing 2 1)) (network_chain (queueing 2 1)) halves customers 0 2)
+    (surplus (network_sample (queueing 1 1)) (network_chain (queueing 1 1)) thirds customers 0 1)) k pasts))
+
+apart-counted : (map (apart-of 1) (0 ∷ 1 ∷ 5 ∷ 6 ∷ 16 ∷ 17 ∷ []) ≡ 16 ∷ 5 ∷ 5 ∷ 1 ∷ 1 ∷ 0 ∷ [])
+    × (map (apart-of 2) (0 ∷ 1 ∷ 10 ∷ 11 ∷ 12 ∷ 32 ∷ 33 ∷ []) ≡ 256 ∷ 37 ∷ 37 ∷ 21 ∷ 1 ∷ 1 ∷ 0 ∷ [])
+unfolding apart-of sum_below do_kind event_of least_power outcome_within first_answer step
+apart-counted = (refl, refl)
+
+apart-worked : (1 * (4 * (16 * 16)) ≤ 1 * (21 * 3 * (21 * 3)) * 16) × ((37 * (4 * (10 * 10)) ≤ 2 * (21 * 3 * (21 * 3)) * 256) × (1 * (4 * (32 * 32)) ≤ 2 * (21 * 3 * (21 * 3)) * 256))
+apart-worked = (omega arith, (omega arith, omega arith))
+
 -- ---- certificates
 
 -- where 8 of 10 scores of 0 and 1 are 1, their mean is at least 44 of 100, but for 1 list in 40, and 45 has no certificate
@@ -303,6 +323,48 @@ median-counted : map (λ i. cases_from 1 1 10 i) (8 ∷ 9 ∷ 10 ∷ 11 ∷ []) 
 unfolding cases_from
 median-counted = refl
 
+-- ---- what claims, rules and shares of lists say
+
+-- full states have 1 of 7 parts: a claim of 15 of 100 is false, and one of 14 of 100 is not
+overstates-worked : (overstates (surplus (network_sample (queueing 2 1)) (network_chain (queueing 2 1)) halves full 0 1) 100 14 ≡ false)
+    × (overstates (surplus (network_sample (queueing 2 1)) (network_chain (queueing 2 1)) halves full 0 1) 100 15 ≡ true)
+overstates-worked = (refl, refl)
+
+-- a rule that claims 44 of 100 from 8 of 10 full samples, and nothing from any other number
+abbrev eight : ℕ → ℕ
+eight i = if nat_eq i 8 then 44 else 0
+
+-- it is wrong where 8 pasts of 10 are arrivals, and not where 7 are
+abbrev seven_full : List Words → List Words
+seven_full pasts = (λ k. 0) ∷ (λ k. 0) ∷ (λ k. 0) ∷ (λ k. 0) ∷ (λ k. 0) ∷ (λ k. 0) ∷ (λ k. 0) ∷ pasts
+
+misses-worked : (misses (surplus (network_sample (queueing 2 1)) (network_chain (queueing 2 1)) halves full 0 1) 100 eight (seven_full ((λ k. 0) ∷ (λ k. 3) ∷ (λ k. 3) ∷ [])) ≡ true)
+    × (misses (surplus (network_sample (queueing 2 1)) (network_chain (queueing 2 1)) halves full 0 1) 100 eight (seven_full ((λ k. 3) ∷ (λ k. 3) ∷ (λ k. 3) ∷ [])) ≡ false)
+unfolding do_kind event_of least_power outcome_within first_answer step
+misses-worked = (refl, refl)
+
+-- a rule that claims 11 of 10 from the ten scores above, and nothing from any others
+abbrev ten_claims : List ℕ → ℕ
+ten_claims scores = if is_same scores ten then 11 else 0
+
+-- it is wrong where the samples have these values, and not where all ten are full
+abbrev to_one : Words
+to_one k = slice_index (0 ∷ 1 ∷ 1 ∷ 3 ∷ []) k
+
+loses-worked : (loses (surplus (network_sample (queueing 2 2)) (network_chain (queueing 2 2)) halves customers 0 2) 10 ten_claims
+    ((λ k. 0) ∷ (λ k. 0) ∷ to_one ∷ (λ k. 0) ∷ (λ k. 0) ∷ (λ k. 0) ∷ (λ k. 0) ∷ to_one ∷ (λ k. 0) ∷ (λ k. 0) ∷ []) ≡ true)
+    × (loses (surplus (network_sample (queueing 2 2)) (network_chain (queueing 2 2)) halves customers 0 2) 10 ten_claims (seven_full ((λ k. 0) ∷ (λ k. 0) ∷ (λ k. 0) ∷ [])) ≡ false)
+unfolding do_kind event_of least_power outcome_within first_answer step
+loses-worked = (refl, refl)
+
+-- all lists are not half of them
+all-not : AtMost 1 2 1 1 (λ pasts. true) → ⊥
+all-not few =
+    let ones = lists-ones word_count 1 1 in
+    let power = lists-power word_count 1 1 in
+    let some = one-le-pow (1 * 1) word_count some-words in
+    absurd (omega (arith, few, ones, power, some))
+
 -- ---- instances, with all words
 
 -- of all lists of 1000 pasts, the customers of the samples are 100 or more away from 4000 of 7 for at most 1 in 10
@@ -314,10 +376,7 @@ two-thousand =
     thousand-of (far (network_sample (queueing 2 18)) (2 ^ 18) (network_chain (queueing 2 18)) halves customers 0 2 1000 700) (word_count ^ (2 ^ 18 * 1000))
     (((many 2 18 (omega arith) (omega arith) (omega arith)).near halves customers 0 2 (customers-measured 18)).plain 1000 100 (omega arith))
 
--- a rule that claims 44 of 100 from 8 of 10 full samples, and nothing from any other number: an interval that it makes misses 1 of 7 for at most 2 lists in 40
-abbrev eight : ℕ → ℕ
-eight i = if nat_eq i 8 then 44 else 0
-
+-- the claims of the rule from 8 of 10 full samples are false for at most 1 list in 40, and an interval with both ends for at most 2
 eight-rule : IsRule 10 1 100 40 eight
 eight-rule = record {
   each = λ i small. elim (cases_eq i 8) [
@@ -329,6 +388,17 @@ eight-rule = record {
 eight-covered : AtMost 1 40 (2 ^ 18) 10 (misses (surplus (network_sample (queueing 2 18)) (network_chain (queueing 2 18)) halves full 0 1) 100 eight)
 eight-covered = ((many 2 18 (omega arith) (omega arith) (omega arith)).intervals halves full 0 1 (full-measured 18)).lower 10 100 40 eight eight-rule
 
+eight-both : AtMost 2 40 (2 ^ 18) 10 (λ pasts. misses (surplus (network_sample (queueing 2 18)) (network_chain (queueing 2 18)) halves full 0 1) 100 eight pasts
+    || misses (deficit (network_sample (queueing 2 18)) (network_chain (queueing 2 18)) halves full 0 1) 100 eight pasts)
+eight-both = ((many 2 18 (omega arith) (omega arith) (omega arith)).intervals halves full 0 1 (full-measured 18)).both 10 100 40 eight eight eight-rule eight-rule
+
+-- 1 is a quantile of 3 of 5, and for at most 1 list of ten pasts in 40 are all samples below 1 customer
+fifths-covered : AtMost 1 40 (2 ^ 18) 10 (λ pasts. nat_le 10 (hits (λ x. nat_lt (customers x) 1) (network_sample (queueing 2 18)) pasts))
+unfolding cases_from
+fifths-covered =
+    ((many 2 18 (omega arith) (omega arith) (omega arith)).quantiles halves customers (two-balanced 18)).upper 10 3 5 40 10 1
+    (record { some = omega arith; parts = omega arith; share = omega arith; below = omega arith; above = omega arith }) (omega arith)
+
 -- for at most 1 list of ten pasts in 40 are 9 or more samples above 0 customers
 median-covered : AtMost 1 40 (2 ^ 18) 10 (λ pasts. nat_le 9 (hits (λ x. nat_lt 0 (customers x)) (network_sample (queueing 2 18)) pasts))
 unfolding cases_from
@@ -336,10 +406,7 @@ median-covered =
     ((many 2 18 (omega arith) (omega arith) (omega arith)).quantiles halves customers (two-balanced 18)).lower 10 1 2 40 9 0
     (record { some = omega arith; parts = omega arith; share = omega arith; below = omega arith; above = omega arith }) (omega arith)
 
--- a rule that claims 11 of 10 from the ten scores above, and nothing from any others
-abbrev ten_claims : List ℕ → ℕ
-ten_claims scores = if is_same scores ten then 11 else 0
-
+-- and so it is of the rule from ten scores
 ten-bet : IsBet 10 10 10 40 (7 ∷ []) ten_claims
 ten-bet = record {
   some = omega arith;
@@ -386,3 +453,17 @@ unfolding lead
 ten-differences =
     differences-of (at_least (2 ^ 18) 10 lead 30) (word_count ^ (2 ^ 18 * 10))
     ((compared.tails halves customers 0 2 thirds customers 0 1 (customers-measured 18) one-measured).0.exponential 10 2 1 30 0 (omega arith) (omega arith))
+
+-- of all lists of 1000 pasts, the differences are 200 or more away from 1000 times 5 of 21 for at most 1 in 17
+thousand-apart : (b w : ℕ) → b * (4 * (200 * 200)) ≤ 1000 * (3 * 3) * w → b * 17 ≤ w
+thousand-apart b w near = omega arith
+
+trail : Score
+trail = added (deficit (network_sample (queueing 2 18)) (network_chain (queueing 2 18)) halves customers 0 2)
+    (surplus (network_sample (queueing 1 17)) (network_chain (queueing 1 17)) thirds customers 0 1)
+
+thousand-differences : deviating lead trail 1000 (2 ^ 18) (21 * 200) * 17 ≤ word_count ^ (2 ^ 18 * 1000)
+unfolding lead trail
+thousand-differences =
+    thousand-apart (deviating lead trail 1000 (2 ^ 18) (21 * 200)) (word_count ^ (2 ^ 18 * 1000))
+    ((compared.near halves customers 0 2 thirds customers 0 1 (customers-measured 18) one-measured).plain 1000 200 (omega arith))

@@ -2,6 +2,7 @@
 pub mod Lists
 pub mod Values
 pub mod Means
+pub mod Near
 pub mod Tails
 pub mod Intervals
 pub mod Bets

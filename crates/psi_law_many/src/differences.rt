@@ -5,6 +5,7 @@ ghost use Rattle.psi_kinds.specs.Moves.{move_of};
 ghost use Rattle.psi_closed.specs.Diagram.{IsTotal};
 ghost use Rattle.psi_net_model.specs.Network.{caps_of};
 ghost use Rattle.psi_law.specs.Networks.{network_chain, network_sample, network_total_chain, network_total_sample};
+ghost use Rattle.psi_law_many.specs.Near.{HasNear};
 ghost use Rattle.psi_law_many.specs.Intervals.{HasIntervals};
 ghost use Rattle.psi_law_many.specs.Bets.{HasBets};
 ghost use Rattle.psi_law_many.specs.Statements.{HasTails, DifferenceHas};
@@ -13,10 +14,13 @@ use psi_net_model::Net;
 
 /// The law of the difference of two networks, each sample of which is drawn from the same past.
 ///
-/// Over all lists of k pasts of n random words, where n is large enough for both networks: few lists have a large or a small
-/// total of the differences of a value of the one and a value of the other (`tails`), and an interval with certificates
-/// misses the difference of the stationary means for few (`intervals`, `bets`). The values may be any of their networks' states.
+/// Over all lists of k pasts of n random words, where n is large enough for both networks: few lists have a mean difference of
+/// a value of the one and a value of the other that is far from the difference of the stationary means (`near`; Chebyshev's
+/// inequality), few have a large or a small total of these differences (`tails`), and an interval with certificates misses
+/// the difference of the stationary means for few (`intervals`, `bets`). The values may be any of their networks' states.
 pub fn law_of_differences(net: &Net, other: &Net)
+    ensures near { (n : ℕ) → 2 ^ net.now.limit ≤ n → 2 ^ other.now.limit ≤ n
+        → DifferenceHas (network_chain net.now) (network_sample net.now) n HasNear (network_chain other.now) (network_sample other.now) }
     ensures tails { (n : ℕ) → 2 ^ net.now.limit ≤ n → 2 ^ other.now.limit ≤ n
         → DifferenceHas (network_chain net.now) (network_sample net.now) n HasTails (network_chain other.now) (network_sample other.now) }
     ensures intervals { (n : ℕ) → 2 ^ net.now.limit ≤ n → 2 ^ other.now.limit ≤ n
@@ -35,6 +39,9 @@ pub fn law_of_closed_differences(net: &Net, total: u16, other: &Net, contrast: u
     requires moves { All (λ event. IsSome (move_of event.kind)) net.now.events }
     requires also_fits { IsTotal (caps_of other.now) contrast }
     requires also_moves { All (λ event. IsSome (move_of event.kind)) other.now.events }
+    ensures near { (n : ℕ) → 2 ^ net.now.limit ≤ n → 2 ^ other.now.limit ≤ n
+        → DifferenceHas (network_total_chain net.now total) (network_total_sample net.now total) n HasNear
+        (network_total_chain other.now contrast) (network_total_sample other.now contrast) }
     ensures tails { (n : ℕ) → 2 ^ net.now.limit ≤ n → 2 ^ other.now.limit ≤ n
         → DifferenceHas (network_total_chain net.now total) (network_total_sample net.now total) n HasTails
         (network_total_chain other.now contrast) (network_total_sample other.now contrast) }

@@ -3,6 +3,8 @@ use Rattle.std.specs.Prelude.{◌≡◌, ℕ, ◌^◌, List, [], ◌∷◌, map,
 use Rattle.std.proofs.Common.{ap, ◌∙◌, arith}
 use Rattle.std.proofs.lemmas.Bool.{le-leb}
 use Rattle.std.proofs.lemmas.List.Elements.{All-nil, All-cons}
+use Rattle.psi_state.specs.State.{numbers_from}
+use Rattle.psi_state.specs.declared.Outcome.{Outcome}
 use Rattle.psi_past.specs.SeedWord.{seed_word}
 use Rattle.psi_reward.specs.declared.kinds.RewardKind.{RewardKind}
 use Rattle.psi_kinds.specs.declared.moves.Move.{Move}
@@ -15,24 +17,26 @@ use Rattle.psi_net_model.specs.declared.entries.NamedEvent.{NamedEvent}
 use Rattle.psi_net_model.specs.Valid.{IsNetwork}
 use Rattle.psi_net_document.specs.declared.refusals.NetRefusal.{NetRefusal}
 use Rattle.psi_net.specs.Reading.{network_of}
-use Rattle.psi_command.specs.declared.status.Status.TheVariants.{NoSuchTotal}
-use Rattle.psi_command.specs.Command.{sample, couple, reward, closed}
-use Rattle.psi_program.specs.Reply.{line_reply}
+use Rattle.psi_report.specs.Report.{report_text}
+use Rattle.psi_command.specs.declared.status.Status.TheVariants.{Done, NoSuchTotal}
+use Rattle.psi_command.specs.Command.{sample, couple, reward, report, closed}
+use Rattle.psi_program.specs.Reply.{text_reply, line_reply}
 use Rattle.psi_reply.specs.Lines.{no_total_line}
 use Rattle.psi_reply.specs.Sample.{functions_by_time, sampled}
+use Rattle.psi_reply.specs.Report.{samples_of}
 use Rattle.psi_reply.specs.Couple.{endings, coupling}
 use Rattle.psi_reply.specs.Reward.{values, valuation}
 use Rattle.psi_reply.specs.Closed.{first_other, closed_endings, closed_sampled}
 use Rattle.psi_reply.proofs.ClosingLemmas.{moves-of_none}
 use Rattle.psi_reply.specs.Reply.{Reply, value_reply, outcome_reply, closed_reply}
 use Rattle.psi_run.specs.Reply.{reply_to, reply_of, judged_reply}
-use Rattle.psi_law.specs.Networks.{network_total_sample}
+use Rattle.psi_law.specs.Networks.{network_sample, network_total_sample}
 use Rattle.psi_law.proofs.WheelLemmas.{wheel-exact}
 use Rattle.psi_law.proofs.WordsLemmas.{seed_word-small}
 use Rattle.psi_law.proofs.NetworkLemmas.{network-lawful}
 use Rattle.psi_law.proofs.NetworkAnswerLemmas.{coupling-lawful, values-lawful}
 use Rattle.psi_law.proofs.ClosedLemmas.{kinds-lawful}
-use Rattle.psi_law_printed.specs.Printed.{AreCountedWords, RepliesAreCounted, SamplesAreCounted, ClosedSamplesAreCounted}
+use Rattle.psi_law_printed.specs.Printed.{AreCountedWords, RepliesAreCounted, SamplesAreCounted, ReportsAreCounted, ClosedSamplesAreCounted}
 use Rattle.psi_law_printed.proofs.FileLemmas.{read-kept}
 
 -- the words of a seed and a stream that a network looks at
@@ -86,6 +90,27 @@ samples-counted = λ bytes net read.
       words = words-counted net kept;
       printed = λ told name seed stream is. replies-counted told name bytes net seed stream is read;
     })
+
+-- ---- reports
+
+-- the sample of each stream is that of its past
+streams-sampled : (net : Network) (seed : ℕ) (streams : List ℕ) → map (λ stream. sampled net seed stream) streams ≡ map (network_sample net) (map (λ stream. seed_word seed stream) streams)
+unfolding sampled functions_by_time
+streams-sampled net seed [] = refl
+streams-sampled net seed (stream ∷ streams) = ap (λ (outcomes : List Outcome). network_sample net (seed_word seed stream) ∷ outcomes) (streams-sampled net seed streams)
+
+report-reply : (told : List ℕ → Option (List ℕ)) (name bytes : List ℕ) (net : Network) (seed first count : ℕ) → told name ≡ Some bytes → network_of bytes ≡ Ok net
+    → reply_to (Ok (report name seed first count)) told ≡ Some (text_reply Done (report_text net (samples_of net seed first count)))
+unfolding reply_to
+report-reply told name bytes net seed first count is read = file-reply (reply_of (report name seed first count) told) (told name) bytes net is read
+
+pub reports-counted : ReportsAreCounted
+reports-counted = λ bytes net read. record {
+  samples = λ seed first count. streams-sampled net seed (numbers_from first count);
+  printed = λ told name seed first count is.
+      report-reply told name bytes net seed first count is read
+      ∙ ap (λ (outcomes : List Outcome). Some (text_reply Done (report_text net outcomes))) (streams-sampled net seed (numbers_from first count));
+}
 
 -- ---- closed networks
 

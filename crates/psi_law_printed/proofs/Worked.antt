@@ -1,6 +1,6 @@
 -- The network of `first.toml`, worked out by the checker for seed 0 and stream 0. That its sample is met at 4 and its coupling at 3, both in the state 1, is what the plain program
 -- of oracle/plain.py says too.
-use Rattle.std.specs.Prelude.{◌≡◌, ℕ, List, [], ◌∷◌, codes, refl}
+use Rattle.std.specs.Prelude.{◌≡◌, ℕ, List, [], ◌∷◌, map, codes, refl}
 use Rattle.std.proofs.Common.{inl, inr}
 use Rattle.rand_core.specs.Steps.{u32_at}
 use Rattle.psi_state.specs.declared.Outcome.TheVariants.{Met}
@@ -20,6 +20,8 @@ use Rattle.psi_net_model.specs.Network.{Network}
 use Rattle.psi_net_model.specs.Valid.{IsNetwork}
 use Rattle.psi_reply.specs.Sample.{functions_by_time, sampled}
 use Rattle.psi_reply.specs.Couple.{endings, coupling}
+use Rattle.psi_law.specs.Networks.{network_sample}
+use Rattle.psi_law_printed.specs.Printed.{pasts_of}
 use Rattle.psi_law_printed.specs.Agreement.{IsLogged}
 use Rattle.psi_law_printed.proofs.AgreementLemmas.{given-one}
 
@@ -41,6 +43,11 @@ first-sampled = refl
 first-coupled : coupling first 0 0 ≡ At 3 (1 ∷ [])
 unfolding u32_at quarter_round column_round diagonal_round double_rounds chacha20_block seed_word functions_by_time endings coupling do_kind event_of least_power coupled_within least_answer step
 first-coupled = refl
+
+-- the report of streams 0 and 1 is that of the two pasts; the second sample is met at 4 too, in the state 0
+first-reported : map (network_sample first) (pasts_of 0 0 2) ≡ Met 4 (1 ∷ []) ∷ Met 4 (0 ∷ []) ∷ []
+unfolding u32_at quarter_round column_round diagonal_round double_rounds chacha20_block seed_word do_kind event_of least_power outcome_within first_answer step
+first-reported = refl
 
 -- so an accepted log of this seed and stream, whoever wrote it, has the state 1
 first-logged : IsNetwork first → (state : List ℕ) → IsLogged first 0 0 state → state ≡ 1 ∷ []

@@ -1,5 +1,5 @@
 -- The network of a file has the law of samples, and what is printed of a seed and a stream is the sample that is counted there.
-use Rattle.std.specs.Prelude.{◌≡◌, ℕ, ◌^◌, ◌<◌, ◌≤◌, List, length, All, Option, Some, None, Ok}
+use Rattle.std.specs.Prelude.{◌≡◌, ℕ, ◌^◌, ◌<◌, ◌≤◌, List, length, map, All, Option, Some, None, Ok}
 use Rattle.psi_past.specs.SeedWord.{seed_word}
 use Rattle.psi_reward.specs.declared.kinds.RewardKind.{RewardKind}
 use Rattle.psi_reward.specs.Worth.{worth_of}
@@ -7,7 +7,8 @@ use Rattle.psi_closed.specs.Diagram.{IsTotal}
 use Rattle.psi_event.specs.Law.{IsMonotone}
 use Rattle.psi_net_model.specs.Network.{Network, caps_of, rates_of, functions_of}
 use Rattle.psi_net.specs.Reading.{network_of}
-use Rattle.psi_command.specs.Command.{sample, couple, reward, closed}
+use Rattle.psi_command.specs.declared.status.Status.TheVariants.{Done}
+use Rattle.psi_command.specs.Command.{sample, couple, reward, report, closed}
 use Rattle.psi_program.specs.Reply.{text_reply}
 use Rattle.psi_reply.specs.Couplings.{coupling_text}
 use Rattle.psi_reply.specs.Values.{value_text}
@@ -15,12 +16,14 @@ use Rattle.psi_reply.specs.Couple.{coupling_status}
 use Rattle.psi_reply.specs.Reward.{kind_named, value_status}
 use Rattle.psi_reply.specs.Closed.{first_other}
 use Rattle.psi_reply.specs.Reply.{outcome_reply}
+use Rattle.psi_reply.specs.Report.{samples_of}
 use Rattle.psi_run.specs.Reply.{reply_to}
 use Rattle.psi_law.specs.Counting.{Words}
 use Rattle.psi_law.specs.Wheel.{word_count, IsExact}
 use Rattle.psi_law.specs.Chains.{Chain}
 use Rattle.psi_state.specs.declared.Outcome.{Outcome}
-use Rattle.psi_state.specs.State.{all_states}
+use Rattle.psi_state.specs.State.{numbers_from, all_states}
+use Rattle.psi_report.specs.Report.{report_text}
 use Rattle.psi_law.specs.Samples.{HasStationaryLaw}
 use Rattle.psi_law.specs.Networks.{network_chain, network_ending, network_sample, network_total_chain, network_total_ending, network_total_sample}
 use Rattle.psi_law.specs.Couplings.{network_coupling, coupled_outcome}
@@ -69,6 +72,19 @@ pub record IsCounted (bytes : List ℕ) (net : Network) : Type 0 where
 
 abbrev pub SamplesAreCounted : Type 0
 SamplesAreCounted = (bytes : List ℕ) (net : Network) → network_of bytes ≡ Ok net → IsCounted bytes net
+
+-- the pasts of a seed and so many streams, from the first on: each has the words of the seed and its stream
+abbrev pub pasts_of : (seed first count : ℕ) → List Words
+pasts_of seed first count = map (λ stream. seed_word seed stream) (numbers_from first count)
+
+-- the report of streams is that of the samples of their pasts; of the same samples `psi_states` prints a row each
+pub record IsReportCounted (bytes : List ℕ) (net : Network) : Type 0 where
+  pub samples : (seed first count : ℕ) → samples_of net seed first count ≡ map (network_sample net) (pasts_of seed first count)
+  pub printed : (told : List ℕ → Option (List ℕ)) (name : List ℕ) (seed first count : ℕ) → told name ≡ Some bytes
+      → reply_to (Ok (report name seed first count)) told ≡ Some (text_reply Done (report_text net (map (network_sample net) (pasts_of seed first count))))
+
+abbrev pub ReportsAreCounted : Type 0
+ReportsAreCounted = (bytes : List ℕ) (net : Network) → network_of bytes ≡ Ok net → IsReportCounted bytes net
 
 -- the same of a closed network whose queues can hold so many customers, 256 at most
 pub record IsClosedCounted (bytes : List ℕ) (net : Network) (total : ℕ) : Type 0 where

@@ -1,7 +1,7 @@
 //! Laws on the states and the samples that the program prints.
 
 ghost use Rattle.psi_law_printed.specs.Agreement.{StatesAgree, ValuesAgree, HorizonsAgree};
-ghost use Rattle.psi_law_printed.specs.Printed.{SamplesAreCounted, ClosedSamplesAreCounted};
+ghost use Rattle.psi_law_printed.specs.Printed.{SamplesAreCounted, ReportsAreCounted, ClosedSamplesAreCounted};
 
 /// The commands agree, for one network that a file describes, one seed and one stream.
 ///
@@ -21,9 +21,11 @@ pub fn states_agree()
 ///
 /// - `samples`: the samples of the network, of all lists of random words, have the law, and the reply to `sample`, `couple` or
 ///   `reward` is that of the one at the random words of the seed and the stream.
+/// - `reports`: the reply to `report` is the report of the samples at the random words of the seed and of each stream.
 /// - `closed`: so it is of the samples of a closed network and of the reply to `closed`.
 pub fn printed_samples_are_counted()
     ensures samples { SamplesAreCounted }
+    ensures reports { ReportsAreCounted }
     ensures closed { ClosedSamplesAreCounted }
 {
     // Nothing is called: it is true of every file.

@@ -18,6 +18,7 @@ returns c =
     = λ n long longer. are-different (network_total_chain net total) (network_total_sample net total) (network_total_chain other contrast) (network_total_sample other contrast)
     (2 ^ net.limit) (2 ^ other.limit) n first.is_chain first.reaches last.is_chain last.reaches long longer in
     record {
+      near = λ n long longer. (laws n long longer).near;
       tails = λ n long longer. (laws n long longer).tails;
       intervals = λ n long longer. (laws n long longer).intervals;
       bets = λ n long longer. (laws n long longer).bets;
