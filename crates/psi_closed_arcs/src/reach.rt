@@ -15,7 +15,7 @@ use crate::arcs::Arcs;
 use crate::ends::ENDS;
 use crate::marks::{Marks, Reach};
 use crate::spans::{Span, Stretch, no_spans, tell_spans};
-use crate::sums::Sums;
+use crate::sums::{SUMS, Sums};
 use crate::windows::{Rule, Window};
 use std::alloc::{AllocError, Global};
 
@@ -30,6 +30,29 @@ pub(crate) fn no_sums(alloc: Global, count: u32) -> Result<Vec<Sums>, AllocError
     Ok(sums)
 }
 
+// Those of the sums from `before` on to which at least `least` customers lead.
+#[inline]
+fn with_least(sums: Sums, before: u16, least: u32) -> Sums
+    requires { (t : ℕ) → t < 320 → has sums t ≡ true → before ≤ t }
+    ensures { (t : ℕ) → t < 320 → (has result t ≡ true) ↔ ((has sums t ≡ true) × (before + least ≤ t)) }
+{
+    if least == 0 {
+        return sums;
+    }
+    sums.at_least(u32::from(before).saturating_add(least))
+}
+
+// Those of the sums to which fewer than `end` customers lead, from `before` on.
+#[inline]
+fn with_fewer(sums: Sums, before: u16, end: u32) -> Sums
+    ensures { (t : ℕ) → t < 320 → (has result t ≡ true) ↔ ((has sums t ≡ true) × (t < before + end)) }
+{
+    if end >= SUMS {
+        return sums;
+    }
+    sums.below(u32::from(before).saturating_add(end))
+}
+
 // The sums to which arcs within the window lead that leave queue `level` with `before` customers before it.
 #[inline]
 fn windowed(of: &Arcs, level: u8, before: u16, window: Window) -> Sums
@@ -40,14 +63,8 @@ fn windowed(of: &Arcs, level: u8, before: u16, window: Window) -> Sums
     ensures ranged { (t : ℕ) → t < 320 → has result t ≡ true → (before ≤ t) × (t ≤ of.now.total) }
 {
     let row = of.row(level, before);
-    if window.is_any() {
-        return row;
-    }
-    let before = u32::from(before);
-    row.between(
-        before.saturating_add(window.least),
-        before.saturating_add(window.end),
-    )
+    let least = with_least(row, before, window.least);
+    with_fewer(least, before, window.end)
 }
 
 // The sums, and those to which arcs within the window lead that leave queue `level` with `before` customers before it, if
