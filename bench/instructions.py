@@ -2,14 +2,17 @@
 """instructions.py PSI [--write]
 
 Counts by callgrind the instructions of six runs of the built program PSI, and compares them with
-bounds.txt, which has a line `LEVEL RUN INSTRUCTIONS` for each run and each processor that the
-program may be built for. A run that takes more than 3 % above its bound is a failure; one that
-takes more than 3 % less is reported, so that the bound can follow. The last line is
-`N runs within their bounds, M above`. The exit status is 1 where a run is above its bound or has
-none, and 2 where valgrind or objdump is not there.
+bounds.txt, which has a line `KIT LEVEL RUN INSTRUCTIONS` for each kit of the toolchain that builds
+the program, each processor that it may be built for, and each run. The kit is the one of the `rt`
+on the PATH; where it has no line, nothing is compared, and the last line says so.
 
-With --write the bounds of the program's own level become what was counted: do that where a change
-is meant, and say in the commit what it was.
+A run that takes more than 3 % above its bound is a failure; one that takes more than 3 % less is
+reported, so that the bound can follow. The last line is `N runs within their bounds, M above`. The
+exit status is 1 where a run is above its bound or has none, and 2 where valgrind or objdump is not
+there.
+
+With --write the bounds of this kit and of the program's own level become what was counted, and all
+others stay: do that where a change is meant, and say in the commit what it was.
 """
 
 import argparse
@@ -32,33 +35,36 @@ RUNS = {
     "replay-forks": ("forks", "replay {net} {log}"),
 }
 HEAD = "# Instructions by callgrind, which `bench/instructions.py PSI --write` writes.\n"
-KIT = "# Made with "
+
+# The bounds of one kit, by the processor level and the run; and those of all kits, by the kit's name first.
+Bounds = dict[tuple[str, str], int]
+AllBounds = dict[tuple[str, str, str], int]
 
 
-def read_bounds() -> dict[tuple[str, str], int]:
-    """The bounds, by level and run."""
+def read_bounds() -> AllBounds:
+    """The bounds, by kit, level and run."""
     lines = BOUNDS.read_text().splitlines() if BOUNDS.exists() else []
     rows = (line.split() for line in lines if not line.startswith("#"))
-    return {(level, name): int(count) for level, name, count in rows}
+    return {(kit, level, name): int(count) for kit, level, name, count in rows}
 
 
-def kit() -> str:
-    """The toolchain's kit, as `rt version` prints it; nothing where there is no `rt`."""
+def kit_here() -> str:
+    """The name of the toolchain's kit, with which `rt version` begins; nothing where there is no `rt`."""
     if not shutil.which("rt"):
         return ""
-    return measure.run(["rt", "version"]).out.strip()
+    name, *_ = measure.run(["rt", "version"]).out.split()
+    return name
 
 
-def kit_of_bounds() -> str:
-    """The kit that made the programs whose instructions the bounds are."""
-    lines = BOUNDS.read_text().splitlines() if BOUNDS.exists() else []
-    return next((line.removeprefix(KIT) for line in lines if line.startswith(KIT)), "")
+def bounds_of(kit: str, bounds: AllBounds) -> Bounds:
+    """The bounds of the programs that a kit makes."""
+    return {(level, name): count for (other, level, name), count in bounds.items() if other == kit}
 
 
-def write_bounds(bounds: dict[tuple[str, str], int]) -> None:
-    """Writes the bounds, in the order of levels and of runs, with the kit that is there."""
-    rows = sorted(bounds, key=lambda row: (row[0], [*RUNS].index(row[1])))
-    BOUNDS.write_text(f"{HEAD}{KIT}{kit()}\n" + "".join(f"{lv} {name} {bounds[lv, name]}\n" for lv, name in rows))
+def write_bounds(bounds: AllBounds) -> None:
+    """Writes the bounds, in the order of kits, levels and runs."""
+    rows = sorted(bounds, key=lambda row: (row[0], row[1], [*RUNS].index(row[2])))
+    BOUNDS.write_text(HEAD + "".join(f"{' '.join(row)} {bounds[row]}\n" for row in rows))
 
 
 def calls_of(program: str, folder: pathlib.Path) -> dict[str, list[str]]:
@@ -84,7 +90,7 @@ def verdict(count: int, bound: int | None) -> str:
     return f"below its bound, {off}" if count < bound * (1 - SLACK) else ""
 
 
-def compare(counts: dict[str, int], level: str, bounds: dict[tuple[str, str], int]) -> int:
+def compare(counts: dict[str, int], level: str, bounds: Bounds) -> int:
     """Prints each run with its verdict; returns how many are above their bounds or have none."""
     faults = 0
     for name, count in counts.items():
@@ -103,17 +109,19 @@ def main() -> int:
     if not shutil.which("valgrind") or not shutil.which("objdump"):
         print("instructions: valgrind or objdump is not there", file=sys.stderr)
         return 2
-    if not given.write and kit() != kit_of_bounds():
-        print(f"the bounds were made with {kit_of_bounds()}, not with {kit() or 'this toolchain'}: nothing is compared")
+    kit, bounds = kit_here(), read_bounds()
+    own = bounds_of(kit, bounds)
+    if not given.write and not own:
+        print(f"no bound was made with {kit or 'a kit, which is not here'}: nothing is compared")
         return 0
     program = str(pathlib.Path(given.program).resolve())
-    level, bounds = measure.level(program), read_bounds()
+    level = measure.level(program)
     with tempfile.TemporaryDirectory() as folder:
         counts = measure.all_instructions(calls_of(program, pathlib.Path(folder)))
     if given.write:
-        write_bounds(bounds | {(level, name): count for name, count in counts.items()})
+        write_bounds(bounds | {(kit, level, name): count for name, count in counts.items()})
         return 0
-    return 1 if compare(counts, level, bounds) else 0
+    return 1 if compare(counts, level, own) else 0
 
 
 if __name__ == "__main__":

@@ -185,10 +185,10 @@ def test_a_run_above_its_bound_or_without_one_is_a_fault(capsys):
     assert capsys.readouterr().out.splitlines()[-1] == "1 runs within their bounds, 2 above"
 
 
-def test_every_run_has_a_bound_for_its_level():
+def test_every_run_has_a_bound_for_its_kit_and_level():
     bounds = instructions.read_bounds()
-    levels = {level for level, _ in bounds}
-    assert levels and set(bounds) == {(lv, name) for lv in levels for name in instructions.RUNS}
+    levels = {(kit, level) for kit, level, _ in bounds}
+    assert levels and set(bounds) == {(*level, name) for level in levels for name in instructions.RUNS}
 
 
 def found(seconds):

@@ -237,6 +237,13 @@ gives-reach A q r from to l s v changing short full = (
       (subst (λ (m : Marks). Shifts A r.changing from to l s v ⊎ (Keeps A r.short l s v ⊎ Keeps A m l s v)) (sym full) gives)),
 )
 
+-- what is given at the same queue, by the same move
+pub gives-at : (A : ℕ → ℕ → ℕ → Type 0) (reach : Reach) (from to l f t m s v : ℕ) → f ≡ from → t ≡ to → m ≡ l → Gives A reach f t m s v ↔ Gives A reach from to l s v
+gives-at A reach from to l f t m s v source target level = (
+  λ gives. subst (λ k. Gives A reach k to l s v) source (subst (λ k. Gives A reach f k l s v) target (subst (λ k. Gives A reach f t k s v) level gives)),
+  λ gives. subst (λ k. Gives A reach f t k s v) (sym level) (subst (λ k. Gives A reach f k l s v) (sym target) (subst (λ k. Gives A reach k to l s v) (sym source) gives)),
+)
+
 -- a queue outside the move's
 pub outside-is : (from to l : ℕ) → (l < min from to) ⊎ (max from to < l) → IsOutside from to l
 outside-is from to l either = elim either [ inl low ↦ inl (omega arith, omega arith) | inr high ↦ inr (omega arith, omega arith) ]

@@ -80,22 +80,21 @@ has-and x y t small =
       λ both. whole.1 (parts.1 (one.0 both.0, other.0 both.1)),
     )
 
--- a stretch of a word's bits
-abbrev pub IsStretch : ℕ → ℕ → ℕ → ℕ → Type 0
-IsStretch word first end n = (i : ℕ) → i < 64 → (bit_at n i ≡ 1) ↔ ((first ≤ word * 64 + i) × (word * 64 + i < end))
+-- the bits of a word, 64 numbers from 64 times its place on, that stand for numbers of which P holds
+abbrev pub IsMask : (ℕ → Type 0) → ℕ → ℕ → Type 0
+IsMask P word n = (i : ℕ) → i < 64 → (bit_at n i ≡ 1) ↔ P (word * 64 + i)
 
-pub has-between : (x : Sums) (first end a b c d e t : ℕ) → IsStretch 0 first end a → IsStretch 1 first end b → IsStretch 2 first end c → IsStretch 3 first end d → IsStretch 4 first end e → t < 320
+pub has-masked : (x : Sums) (P : ℕ → Type 0) (a b c d e t : ℕ) → IsMask P 0 a → IsMask P 1 b → IsMask P 2 c → IsMask P 3 d → IsMask P 4 e → t < 320
     → (has (record { words = bit_and (slice_index x.words 0) a ∷ bit_and (slice_index x.words 1) b ∷ bit_and (slice_index x.words 2) c ∷ bit_and (slice_index x.words 3) d ∷ bit_and (slice_index x.words 4) e ∷ [] }) t ≡ true)
-    ↔ ((has x t ≡ true) × ((first ≤ t) × (t < end)))
-has-between x first end a b c d e t sa sb sc sd se small =
-    let m = a ∷ b ∷ c ∷ d ∷ e ∷ [] in
+    ↔ ((has x t ≡ true) × P t)
+has-masked x P a b c d e t sa sb sc sd se small =
     let whole = has-at (λ k. bit_and (slice_index x.words k) (slice_index (a ∷ b ∷ c ∷ d ∷ e ∷ []) k)) t small in
     let parts = bit-and (slice_index x.words (t / 64)) (slice_index (a ∷ b ∷ c ∷ d ∷ e ∷ []) (t / 64)) (t % 64) in
     let one = has-bit x t in
-    let mask = five (λ k. IsStretch k first end (slice_index (a ∷ b ∷ c ∷ d ∷ e ∷ []) k)) sa sb sc sd se (t / 64) (omega arith) (t % 64) (omega arith) in
+    let mask = five (λ k. IsMask P k (slice_index (a ∷ b ∷ c ∷ d ∷ e ∷ []) k)) sa sb sc sd se (t / 64) (omega arith) (t % 64) (omega arith) in
     let place : t / 64 * 64 + t % 64 ≡ t = omega arith in (
-      λ given. (let both = parts.0 (whole.0 given) in let bounds = mask.0 both.1 in let low = bounds.0 in let high = bounds.1 in (one.1 both.0, (omega arith, omega arith))),
-      λ both. (let low = both.1.0 in let high = both.1.1 in whole.1 (parts.1 (one.0 both.0, mask.1 (omega arith, omega arith)))),
+      λ given. (let both = parts.0 (whole.0 given) in (one.1 both.0, subst P place (mask.0 both.1))),
+      λ both. whole.1 (parts.1 (one.0 both.0, mask.1 (subst P (sym place) both.1))),
     )
 
 -- the ones of a word from a place on, and their stretch
@@ -108,16 +107,22 @@ ones-below low i less more = ap (λ n. bit_at n i) (ones_shl 64 low (omega arith
 not-one : (p q : ℕ) → q ≡ 1 - p → p < 2 → (q ≡ 1) ↔ (p ≡ 0)
 not-one p q is a = (λ one. omega arith, λ none. omega arith)
 
-pub stretch-is : (word first end a b : ℕ) → b < 2 ^ 64 → ((i : ℕ) → i < 64 → first ≤ word * 64 + i → bit_at a i ≡ 1) → ((i : ℕ) → i < 64 → word * 64 + i < first → bit_at a i ≡ 0)
-    → ((i : ℕ) → i < 64 → end ≤ word * 64 + i → bit_at b i ≡ 1) → ((i : ℕ) → i < 64 → word * 64 + i < end → bit_at b i ≡ 0) → IsStretch word first end (bit_and a (18446744073709551615 - b))
-stretch-is word first end a b fits a_in a_out b_in b_out i small =
-    let parts = bit-and a (18446744073709551615 - b) i in
-    let other = not-one (bit_at b i) (bit_at (18446744073709551615 - b) i) (bit_at_not w64 b i fits small) (bit_at-lt b i) in (
-      λ given. (let both = parts.0 given in (
-        elim (cases_lt (word * 64 + i) first) [ inl less ↦ absurd (zero-one (a_out i small less) both.0) | inr more ↦ more ],
-        elim (cases_lt (word * 64 + i) end) [ inl less ↦ less | inr more ↦ absurd (zero-one (other.0 both.1) (b_in i small more)) ],
-      )),
-      λ both. parts.1 (a_in i small both.0, other.1 (b_out i small both.1)),
+-- those from a number on, and those below it
+pub ones-mask : (word first low : ℕ) → low ≡ first - word * 64 → low < 64 → IsMask (λ t. first ≤ t) word (18446744073709551615 * 2 ^ low % 18446744073709551616)
+ones-mask word first low is less i small = (
+  λ one. elim (cases_lt i low) [ inl under ↦ absurd (zero-one (ones-below low i less under) one) | inr more ↦ omega arith ],
+  λ more. ones-inside low i less small (omega arith),
+)
+
+pub no-mask : (word first : ℕ) → 64 ≤ first - word * 64 → IsMask (λ t. first ≤ t) word 0
+no-mask word first far i small = (λ one. absurd (zero-one (bit_at-zero i) one), λ more. absurd (omega arith))
+
+pub rest-mask : (word end b : ℕ) → b < 2 ^ 64 → IsMask (λ t. end ≤ t) word b → IsMask (λ t. t < end) word (18446744073709551615 - b)
+rest-mask word end b fits mask i small =
+    let other = not-one (bit_at b i) (bit_at (18446744073709551615 - b) i) (bit_at_not w64 b i fits small) (bit_at-lt b i) in
+    let bit = bit_at-lt b i in (
+      λ one. elim (cases_lt (word * 64 + i) end) [ inl less ↦ less | inr more ↦ absurd (zero-one (other.0 one) ((mask i small).1 more)) ],
+      λ less. other.1 (elim (cases_eq (bit_at b i) 1) [ inl one ↦ absurd (let more = (mask i small).0 one in omega arith) | inr none ↦ omega arith ]),
     )
 
 -- a number that isn't 0 has a one

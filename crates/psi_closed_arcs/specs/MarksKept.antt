@@ -2,9 +2,12 @@
 use Rattle.std.specs.Prelude.{◌≡◌, ℕ, suc, ◌+◌, ◌≤◌, ◌↔◌, ◌⊎◌, true}
 use Rattle.psi_closed_arcs.specs.declared.marks.Marks.{Marks}
 use Rattle.psi_closed_arcs.specs.declared.marks.Reach.{Reach}
+use Rattle.psi_closed_arcs.specs.declared.marks.LevelMarks.{LevelMarks}
+use Rattle.psi_closed_arcs.specs.declared.marks.LevelReach.{LevelReach}
 use Rattle.psi_closed_arcs.specs.Walks.{Useful}
 use Rattle.psi_closed_arcs.specs.Joining.{Only, IsShifted}
-use Rattle.psi_closed_arcs.specs.Windows.{Allows, is_marked, MarkBefore, MarkAfter}
+use Rattle.psi_closed_arcs.specs.RowsKept.{sums_at}
+use Rattle.psi_closed_arcs.specs.Windows.{window_at, Allows, is_marked, MarkBefore, MarkAfter}
 
 -- the marks are those of the arcs that their rule allows, from queue `low` to queue `high`
 pub record AreMarked (A : ℕ → ℕ → ℕ → Type 0) (n t low high : ℕ) (marks : Marks) : Type 0 where
@@ -36,3 +39,15 @@ pub record Shifts (A : ℕ → ℕ → ℕ → Type 0) (marks : Marks) (from to 
 -- what a move makes of an arc is this one, or this one stays
 abbrev pub Gives : (ℕ → ℕ → ℕ → Type 0) → Reach → ℕ → ℕ → ℕ → ℕ → ℕ → Type 0
 Gives A reach from to l s v = Shifts A reach.changing from to l s v ⊎ (Keeps A reach.short l s v ⊎ Keeps A reach.full l s v)
+
+-- they are those of the marks at queue l
+pub record AreAt (marks : Marks) (l : ℕ) (at : LevelMarks) : Type 0 where
+  pub window : at.window ≡ window_at marks.rule l
+  pub behind : at.before ≡ sums_at marks.before.items l
+  pub ahead : at.after ≡ sums_at marks.after.items (suc l)
+
+-- they are those of a step's marks at their queue
+pub record AreOf (reach : Reach) (at : LevelReach) : Type 0 where
+  pub changing : AreAt reach.changing at.level at.changing
+  pub short : AreAt reach.short at.level at.short
+  pub full : AreAt reach.full at.level at.full

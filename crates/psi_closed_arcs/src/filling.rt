@@ -15,7 +15,7 @@ fn reached(before: u16, most: u16, total: u16) -> Sums
     ensures { (t : ℕ) → t < 320 → (has result t ≡ true) ↔ ((before ≤ t) × ((t ≤ before + most) × (t ≤ total))) }
 {
     let last = (u32::from(before) + u32::from(most)).min(u32::from(total));
-    Sums::all().between(u32::from(before), last + 1)
+    Sums::all().at_least(u32::from(before)).below(last + 1)
 }
 
 impl Arcs {

@@ -6,11 +6,11 @@ ghost use Rattle.psi_closed_arcs.specs.Walks.{Useful};
 ghost use Rattle.psi_closed_arcs.specs.Held.{Listed};
 ghost use Rattle.psi_closed_arcs.specs.RowsKept.{sums_at};
 ghost use Rattle.psi_closed_arcs.specs.Joining.{past, IsShiftable, Joined};
-ghost use Rattle.psi_closed_arcs.specs.MarksKept.{IsReached, Keeps, Shifts, Gives};
+ghost use Rattle.psi_closed_arcs.specs.MarksKept.{IsReached, Keeps, Shifts, Gives, AreAt, AreOf};
 ghost use Rattle.psi_closed_arcs.specs.SpansKept.{IsSpan};
 
 use crate::arcs::Arcs;
-use crate::marks::{Marks, Reach};
+use crate::marks::{LevelReach, Marks, Reach};
 use crate::spans::{Span, Stretch, tell_spans, widened};
 use crate::sums::Sums;
 use crate::windows::Rule;
@@ -54,41 +54,51 @@ fn source(now: u16, away: u16, come: u16, total: u16) -> Option<u16>
     if sum <= total { Some(sum) } else { None }
 }
 
-// The sums to which shifted arcs lead that leave queue `level` with `before` customers before it.
+// The sums to which shifted arcs lead that leave the queue with `before` customers before it.
 #[inline]
-fn shifted(of: &Arcs, level: u8, before: u16, from: u8, to: u8, marks: &Marks) -> Sums
-    requires level { level < of.now.levels }
+fn shifted(of: &Arcs, before: u16, marks: &Marks, at: &LevelReach) -> Sums
+    requires at { AreAt marks.now at.now.level at.now.changing }
+    requires level { at.now.level < of.now.levels }
     requires before { before ≤ of.now.total }
     requires few { of.now.levels ≤ 32 }
-    requires shiftable { (s v : ℕ) → Listed of.now.arcs level s v → IsReached marks.now level s v → IsShiftable from to of.now.total level s v }
-    ensures arcs { (v : ℕ) → Leads result before v ↔ Shifts (Listed of.now.arcs) marks.now from to level before v }
+    requires shiftable { (s v : ℕ) → Listed of.now.arcs at.now.level s v → IsReached marks.now at.now.level s v
+        → IsShiftable at.now.from at.now.to of.now.total at.now.level s v }
+    ensures arcs { (v : ℕ) → Leads result before v ↔ Shifts (Listed of.now.arcs) marks.now at.now.from at.now.to at.now.level before v }
     ensures ranged { (t : ℕ) → t < 320 → has result t ≡ true → (before ≤ t) × (t ≤ of.now.total) }
 {
+    let level = at.level;
     let total = of.total();
-    match source(before, one_past(from, level), one_past(to, level), total) {
+    match source(
+        before,
+        one_past(at.from, level),
+        one_past(at.to, level),
+        total,
+    ) {
         Some(sum) => turned(
-            marks.kept(of, level, sum),
-            one_past(from, level + 1),
-            one_past(to, level + 1),
+            marks.kept(&at.changing, of, level, sum),
+            one_past(at.from, level + 1),
+            one_past(at.to, level + 1),
         ),
         None => Sums::none(),
     }
 }
 
-// The sums to which arcs lead after the move that leave queue `level` with `before` customers before it.
+// The sums to which arcs lead after the move that leave the queue with `before` customers before it.
 #[inline]
-fn given(of: &Arcs, level: u8, before: u16, from: u8, to: u8, reach: &Reach) -> Sums
-    requires level { level < of.now.levels }
+fn given(of: &Arcs, before: u16, reach: &Reach, at: &LevelReach) -> Sums
+    requires at { AreOf reach.now at.now }
+    requires level { at.now.level < of.now.levels }
     requires before { before ≤ of.now.total }
     requires few { of.now.levels ≤ 32 }
     requires small { of.now.total ≤ 256 }
-    requires shiftable { (s v : ℕ) → Listed of.now.arcs level s v → IsReached reach.now.changing level s v → IsShiftable from to of.now.total level s v }
-    ensures arcs { (v : ℕ) → Leads result before v ↔ Gives (Listed of.now.arcs) reach.now from to level before v }
+    requires shiftable { (s v : ℕ) → Listed of.now.arcs at.now.level s v → IsReached reach.now.changing at.now.level s v
+        → IsShiftable at.now.from at.now.to of.now.total at.now.level s v }
+    ensures arcs { (v : ℕ) → Leads result before v ↔ Gives (Listed of.now.arcs) reach.now at.now.from at.now.to at.now.level before v }
     ensures ranged { (t : ℕ) → t < 320 → has result t ≡ true → (before ≤ t) × (t ≤ of.now.total) }
 {
-    let changed = shifted(of, level, before, from, to, &reach.changing);
-    let short = reach.short.kept(of, level, before);
-    let full = reach.full.kept(of, level, before);
+    let changed = shifted(of, before, &reach.changing, at);
+    let short = reach.short.kept(&at.short, of, at.level, before);
+    let full = reach.full.kept(&at.full, of, at.level, before);
     changed.or(&short.or(&full))
 }
 
@@ -108,8 +118,9 @@ fn give_rows(of: &Arcs, level: u8, span: Span, from: u8, to: u8, reach: &mut Rea
     ensures full { reach.new.full ≡ reach.old.full }
     ensures spans { reach.new.spans.items ≡ reach.old.spans.items }
 {
+    let at = reach.at(level, from, to);
     for before in span.first..span.end {
-        let row = given(of, level, before, from, to, reach);
+        let row = given(of, before, reach, &at);
         reach.next[before as usize] = row;
     }
 }
@@ -154,8 +165,9 @@ impl Arcs {
         ensures others { (l s v : ℕ) → (l ≡ level → ⊥) → Listed self.new.arcs l s v ↔ Listed self.old.arcs l s v }
     {
         let total = self.total();
+        let at = marks.at(level);
         for before in 0..total + 1 {
-            let row = marks.kept(self, level, before);
+            let row = marks.kept(&at, self, level, before);
             self.put(level, before, row);
         }
     }

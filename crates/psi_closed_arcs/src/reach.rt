@@ -8,14 +8,14 @@ ghost use Rattle.psi_closed_arcs.specs.Windows.{IsWithin, Allows, Enters, Enters
 ghost use Rattle.psi_closed_arcs.specs.Joining.{Only, IsChanging, IsShort, IsFull};
 ghost use Rattle.psi_closed_arcs.specs.SpansKept.{IsSpan, AreSpans, IsStretch};
 ghost use Rattle.psi_closed_arcs.specs.RowsKept.{sums_at};
-ghost use Rattle.psi_closed_arcs.specs.MarksKept.{AreMarked, IsReached, Keeps, TellsUseful};
+ghost use Rattle.psi_closed_arcs.specs.MarksKept.{AreMarked, IsReached, Keeps, TellsUseful, AreAt, AreOf};
 
 use crate::OutOfMemory;
 use crate::arcs::Arcs;
 use crate::ends::ENDS;
-use crate::marks::{Marks, Reach};
+use crate::marks::{LevelMarks, LevelReach, Marks, Reach};
 use crate::spans::{Span, Stretch, no_spans, tell_spans};
-use crate::sums::Sums;
+use crate::sums::{SUMS, Sums};
 use crate::windows::{Rule, Window};
 use std::alloc::{AllocError, Global};
 
@@ -30,6 +30,29 @@ pub(crate) fn no_sums(alloc: Global, count: u32) -> Result<Vec<Sums>, AllocError
     Ok(sums)
 }
 
+// Those of the sums from `before` on to which at least `least` customers lead.
+#[inline]
+fn with_least(sums: Sums, before: u16, least: u32) -> Sums
+    requires { (t : ℕ) → t < 320 → has sums t ≡ true → before ≤ t }
+    ensures { (t : ℕ) → t < 320 → (has result t ≡ true) ↔ ((has sums t ≡ true) × (before + least ≤ t)) }
+{
+    if least == 0 {
+        return sums;
+    }
+    sums.at_least(u32::from(before).saturating_add(least))
+}
+
+// Those of the sums to which fewer than `end` customers lead, from `before` on.
+#[inline]
+fn with_fewer(sums: Sums, before: u16, end: u32) -> Sums
+    ensures { (t : ℕ) → t < 320 → (has result t ≡ true) ↔ ((has sums t ≡ true) × (t < before + end)) }
+{
+    if end >= SUMS {
+        return sums;
+    }
+    sums.below(u32::from(before).saturating_add(end))
+}
+
 // The sums to which arcs within the window lead that leave queue `level` with `before` customers before it.
 #[inline]
 fn windowed(of: &Arcs, level: u8, before: u16, window: Window) -> Sums
@@ -40,14 +63,8 @@ fn windowed(of: &Arcs, level: u8, before: u16, window: Window) -> Sums
     ensures ranged { (t : ℕ) → t < 320 → has result t ≡ true → (before ≤ t) × (t ≤ of.now.total) }
 {
     let row = of.row(level, before);
-    if window.is_any() {
-        return row;
-    }
-    let before = u32::from(before);
-    row.between(
-        before.saturating_add(window.least),
-        before.saturating_add(window.end),
-    )
+    let least = with_least(row, before, window.least);
+    with_fewer(least, before, window.end)
 }
 
 // The sums, and those to which arcs within the window lead that leave queue `level` with `before` customers before it, if
@@ -216,20 +233,34 @@ impl Marks {
         self.rule = rule;
     }
 
-    /// The sums to which reached arcs lead that leave queue `level` with `before` customers before it.
+    /// The marks of queue `level`.
     #[inline]
-    pub(crate) fn kept(&self, of: &Arcs, level: u8, before: u16) -> Sums
+    pub(crate) fn at(&self, level: u8) -> LevelMarks
+        requires { level < 32 }
+        ensures { AreAt self.now level result }
+    {
+        LevelMarks {
+            window: self.rule.window(level),
+            before: self.before[level as usize],
+            after: self.after[level as usize + 1],
+        }
+    }
+
+    /// The sums to which reached arcs lead that leave queue `level`, whose marks are given, with `before` customers
+    /// before it.
+    #[inline]
+    pub(crate) fn kept(&self, at: &LevelMarks, of: &Arcs, level: u8, before: u16) -> Sums
+        requires at { AreAt self.now level at.now }
         requires level { level < of.now.levels }
         requires before { before ≤ of.now.total }
-        requires few { of.now.levels ≤ 32 }
         requires small { of.now.total ≤ 256 }
         ensures arcs { (v : ℕ) → Leads result before v ↔ Keeps (Listed of.now.arcs) self.now level before v }
         ensures ranged { (t : ℕ) → t < 320 → has result t ≡ true → (before ≤ t) × (t ≤ of.now.total) }
     {
-        if !self.before[level as usize].holds(before) {
+        if !at.before.holds(before) {
             return Sums::none();
         }
-        windowed(of, level, before, self.rule.window(level)).and(&self.after[level as usize + 1])
+        windowed(of, level, before, at.window).and(&at.after)
     }
 }
 
@@ -250,6 +281,25 @@ impl Marks {
 }
 
 impl Reach {
+    /// The marks of queue `level` in a step from queue `from` to queue `to`.
+    #[inline]
+    pub(crate) fn at(&self, level: u8, from: u8, to: u8) -> LevelReach
+        requires { level < 32 }
+        ensures marks { AreOf self.now result }
+        ensures level { result.level ≡ level }
+        ensures from { result.from ≡ from }
+        ensures to { result.to ≡ to }
+    {
+        LevelReach {
+            level,
+            from,
+            to,
+            changing: self.changing.at(level),
+            short: self.short.at(level),
+            full: self.full.at(level),
+        }
+    }
+
     /// Room for the marks of a step over any set of arcs.
     ///
     /// `OutOfMemory` is the answer where there is no memory for it; no clause says when that is.

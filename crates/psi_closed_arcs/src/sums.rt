@@ -11,24 +11,26 @@ pub(crate) struct Sums {
     pub(crate) words: [u64; 5],
 }
 
+/// So many numbers a set is of: 0 to 319.
+pub(crate) const SUMS: u32 = 320;
+
 // The bits of a word, 64 numbers from 64 times its place on, that stand for numbers from `first` on.
 #[inline]
 fn ones_from(word: u32, first: u32) -> u64
     requires { word < 5 }
-    ensures inside { (i : ℕ) → i < 64 → first ≤ word * 64 + i → bit_at result i ≡ 1 }
-    ensures below { (i : ℕ) → i < 64 → word * 64 + i < first → bit_at result i ≡ 0 }
+    ensures { (i : ℕ) → i < 64 → (bit_at result i ≡ 1) ↔ (first ≤ word * 64 + i) }
 {
     let low = first.saturating_sub(word * 64);
     if low < 64 { u64::MAX << low } else { 0 }
 }
 
-// Those of them that stand for numbers below `end`.
+// Those that stand for numbers below `end`.
 #[inline]
-fn stretch(word: u32, first: u32, end: u32) -> u64
+fn ones_below(word: u32, end: u32) -> u64
     requires { word < 5 }
-    ensures { (i : ℕ) → i < 64 → (bit_at result i ≡ 1) ↔ ((first ≤ word * 64 + i) × (word * 64 + i < end)) }
+    ensures { (i : ℕ) → i < 64 → (bit_at result i ≡ 1) ↔ (word * 64 + i < end) }
 {
-    ones_from(word, first) & !ones_from(word, end)
+    !ones_from(word, end)
 }
 
 impl Sums {
@@ -126,19 +128,36 @@ impl Sums {
         }
     }
 
-    /// Those of its numbers that are `first` or more and below `end`.
+    /// Those of its numbers that are `first` or more.
     #[inline]
-    pub(crate) fn between(&self, first: u32, end: u32) -> Sums
-        ensures { (t : ℕ) → t < 320 → (has result t ≡ true) ↔ ((has self.now t ≡ true) × ((first ≤ t) × (t < end))) }
+    pub(crate) fn at_least(&self, first: u32) -> Sums
+        ensures { (t : ℕ) → t < 320 → (has result t ≡ true) ↔ ((has self.now t ≡ true) × (first ≤ t)) }
     {
         let a = self.words;
         Sums {
             words: [
-                a[0] & stretch(0, first, end),
-                a[1] & stretch(1, first, end),
-                a[2] & stretch(2, first, end),
-                a[3] & stretch(3, first, end),
-                a[4] & stretch(4, first, end),
+                a[0] & ones_from(0, first),
+                a[1] & ones_from(1, first),
+                a[2] & ones_from(2, first),
+                a[3] & ones_from(3, first),
+                a[4] & ones_from(4, first),
+            ],
+        }
+    }
+
+    /// Those of its numbers that are below `end`.
+    #[inline]
+    pub(crate) fn below(&self, end: u32) -> Sums
+        ensures { (t : ℕ) → t < 320 → (has result t ≡ true) ↔ ((has self.now t ≡ true) × (t < end)) }
+    {
+        let a = self.words;
+        Sums {
+            words: [
+                a[0] & ones_below(0, end),
+                a[1] & ones_below(1, end),
+                a[2] & ones_below(2, end),
+                a[3] & ones_below(3, end),
+                a[4] & ones_below(4, end),
             ],
         }
     }

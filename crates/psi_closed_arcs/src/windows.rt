@@ -1,7 +1,7 @@
 //! Rules on the customers of queues: at most two queues have a window of numbers.
 
-ghost use Rattle.std.specs.Prelude.{◌≡◌, ◌≢◌, ℕ, ◌<◌, ◌^◌, ◌↔◌, IsTrue};
-ghost use Rattle.psi_closed_arcs.specs.Windows.{IsWithin, window_at, Allows};
+ghost use Rattle.std.specs.Prelude.{◌≡◌, ◌≢◌, ℕ, ◌<◌, ◌^◌, ◌↔◌};
+ghost use Rattle.psi_closed_arcs.specs.Windows.{window_at, Allows};
 ghost use Rattle.psi_closed_arcs.specs.Joining.{IsChanging, IsShort, IsFull};
 
 /// Numbers from `least` on that are below `end`.
@@ -25,16 +25,6 @@ const END: u32 = 65_536;
 
 // All numbers of 16 bits.
 const ANY: Window = Window { least: 0, end: END };
-
-impl Window {
-    /// Whether every number of 16 bits is in the window.
-    #[inline]
-    pub(crate) fn is_any(self) -> bool
-        ensures { IsTrue result → (v : ℕ) → v < 2 ^ 16 → IsWithin self v }
-    {
-        self.least == 0 && self.end == END
-    }
-}
 
 impl Rule {
     /// The rule that allows each number at each queue.

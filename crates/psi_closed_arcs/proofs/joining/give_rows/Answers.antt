@@ -7,7 +7,7 @@ use Rattle.psi_closed_arcs.specs.Held.{Listed}
 use Rattle.psi_closed_arcs.specs.RowsKept.{sums_at}
 use Rattle.psi_closed_arcs.specs.MarksKept.{Gives}
 use Rattle.psi_closed_arcs.proofs.RowsLemmas.{read-own, read-other}
-use Rattle.psi_closed_arcs.proofs.PuttingLemmas.{iff-trans, gives-reach}
+use Rattle.psi_closed_arcs.proofs.PuttingLemmas.{iff-trans, gives-at, gives-reach}
 use Rattle.psi_closed_arcs.proofs.joining.give_rows.Goals as goal
 
 pub loop-before-preserved : goal.loop-before-preserved
@@ -25,8 +25,10 @@ loop-before-preserved c =
         | inl same ↦ subst (λ k. Leads (sums_at (slice_set c.loop-before.reach.next.items c.loop-before.before c.given-row.result) k) k v
             ↔ Gives (Listed c.args.of.now.arcs) c.args.reach.now c.args.from c.args.to c.args.level k v) (sym same)
             (subst (λ (x : Sums). Leads x c.loop-before.before v ↔ Gives (Listed c.args.of.now.arcs) c.args.reach.now c.args.from c.args.to c.args.level c.loop-before.before v) (sym own)
-            (iff-trans (c.given-row.ensures.arcs v) (gives-reach (Listed c.args.of.now.arcs) c.loop-before.reach c.args.reach.now c.args.from c.args.to c.args.level c.loop-before.before v
-            c.loop-before.invariant.changing c.loop-before.invariant.short c.loop-before.invariant.full)))
+            (iff-trans (c.given-row.ensures.arcs v) (iff-trans
+            (gives-at (Listed c.args.of.now.arcs) c.loop-before.reach c.args.from c.args.to c.args.level c.at-at.result.from c.at-at.result.to c.at-at.result.level c.loop-before.before v c.at-at.ensures.from c.at-at.ensures.to c.at-at.ensures.level)
+            (gives-reach (Listed c.args.of.now.arcs) c.loop-before.reach c.args.reach.now c.args.from c.args.to c.args.level c.loop-before.before v
+            c.loop-before.invariant.changing c.loop-before.invariant.short c.loop-before.invariant.full))))
         | inr other ↦ subst (λ (x : Sums). Leads x s v ↔ Gives (Listed c.args.of.now.arcs) c.args.reach.now c.args.from c.args.to c.args.level s v)
             (sym (read-other c.loop-before.reach.next.items c.loop-before.before s c.given-row.result other)) (c.loop-before.invariant.arcs s v above (omega arith))
       ];

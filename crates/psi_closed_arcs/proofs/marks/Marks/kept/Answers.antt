@@ -1,34 +1,27 @@
 -- Answers in the proof of `Marks::kept`.
-use Rattle.std.proofs.Common.{◌≡◌, ◌+◌, suc, true, ap, sym, ◌∙◌, subst, arith}
+use Rattle.std.proofs.Common.{◌≡◌, ◌+◌, true, sym, ◌∙◌, subst}
 use Rattle.psi_closed_arcs.specs.declared.sums.Sums.{Sums}
 use Rattle.psi_closed_arcs.specs.declared.windows.Window.{Window}
 use Rattle.psi_closed_arcs.specs.Sums.{has}
-use Rattle.psi_closed_arcs.specs.RowsKept.{sums_at}
 use Rattle.psi_closed_arcs.specs.Windows.{IsWithin}
-use Rattle.psi_closed_arcs.proofs.RowsLemmas.{read-row}
 use Rattle.psi_closed_arcs.proofs.marks.Marks.kept.Goals as goal
 
 pub returns-clause-arcs : goal.returns-clause-arcs
 returns-clause-arcs c v =
-    let m = c.args.self.now in
     let led = c.windowed.ensures.arcs v in
-    let inside = c.requires.level in
-    let long_before = m.before_all in
-    let long_after = m.after_all in
-    let next : c.args.level + 1 ≡ suc c.args.level = omega arith in
-    let own = read-row m.before.items c.args.level c.index.result.now (omega arith) c.index.ensures in
-    let ahead = read-row m.after.items (c.args.level + 1) c.index-2.result.now (omega arith) c.index-2.ensures ∙ ap (λ k. sums_at m.after.items k) next in (
+    let own = c.requires.at.behind in
+    let ahead = c.requires.at.ahead in (
       λ leads. (let parts = (c.and.ensures (c.args.before + v) leads.small).0 leads.there in
           let arc = led.0 (record { small = leads.small; there = parts.0 }) in
           record {
             there = arc.0;
             reached = record {
-              allowed = subst (λ (w : Window). IsWithin w v) c.window.ensures arc.1;
+              allowed = subst (λ (w : Window). IsWithin w v) c.requires.at.window arc.1;
               behind = subst (λ (x : Sums). has x c.args.before ≡ true) own (sym c.holds.ensures ∙ c.if-not-holds.false);
               ahead = subst (λ (x : Sums). has x (c.args.before + v) ≡ true) ahead parts.1;
             };
           }),
-      λ keeps. (let row = led.1 (keeps.there, subst (λ (w : Window). IsWithin w v) (sym c.window.ensures) keeps.reached.allowed) in
+      λ keeps. (let row = led.1 (keeps.there, subst (λ (w : Window). IsWithin w v) (sym c.requires.at.window) keeps.reached.allowed) in
           record {
             small = row.small;
             there = (c.and.ensures (c.args.before + v) row.small).1 (row.there, subst (λ (x : Sums). has x (c.args.before + v) ≡ true) (sym ahead) keeps.reached.ahead);
