@@ -16,7 +16,7 @@ from psi_tools.plot.network_scene import Arrow, NetworkPicture, Node, QueueBox, 
 
 # The most places of a waiting line, and the most servers, that are drawn one by one.
 MOST_PLACES, MOST_SERVERS = 6, 3
-INK, LIGHT, PAPER = "#222222", "#888888", "#FFFFFF"
+INK, DARK_GREY, LIGHT, PAPER = "#222222", "#444444", "#888888", "#FFFFFF"
 COLOURS = {
     Arrow.MOVE: INK,
     Arrow.OVERFLOW: style.BLUE,
@@ -41,7 +41,9 @@ MEANINGS = {
     Arrow.GUARDED: "a guarded event changes the number",
     Arrow.READ: "a guarded event looks at the number",
 }
-EDGE, TITLE_HEIGHT, LEGEND_LINE = 0.18, 0.42, 0.17
+# The colours of texts at arrows where the arrow's own is too pale for letters.
+TEXTS = {Arrow.NEGATIVE: "#8A3B66", Arrow.GUARDED: "#00664A"}
+EDGE, TITLE_HEIGHT, LEGEND_LINE = 0.18, 0.42, 0.18
 
 
 class Canvas:
@@ -126,9 +128,9 @@ def draw_arrow(canvas: Canvas, arrow: SceneArrow, curve: Curve, gid: str) -> Non
     if arrow.blocks:
         draw_bar_across(canvas, points, f"{gid}-blocks")
     if curve.label:
-        box = {"fc": PAPER, "ec": "none", "pad": 0.6}
-        above = (curve.label[0], curve.label[1] + 0.03)
-        canvas.text(above, arrow.label, 7 if arrow.kind is not Arrow.OVERFLOW else 7.5, colour, bbox=box)
+        box = {"fc": PAPER, "ec": "none", "pad": 0}
+        above = (curve.label[0], curve.label[1] + 0.02)
+        canvas.text(above, arrow.label, 8, TEXTS.get(arrow.kind, colour), bbox=box)
 
 
 def draw_head(canvas: Canvas, before: Point, tip: Point, colour: str, gid: str) -> None:
@@ -161,10 +163,11 @@ def draw_queue(canvas: Canvas, node: SceneNode, centre: Point) -> None:
     draw_line(canvas, queue, node.key, (left, low), 1.36 - server_room)
     if queue.is_served:
         draw_servers(canvas, queue, node.key, (left + 1.36 - server_room / 2, centre[1]))
-    name, size = style.fitted(queue.name, 98, 8.5)
+    name, size = style.fitted(queue.name, 98, 9)
     canvas.text((centre[0], centre[1] + 0.28), name, size, weight="bold")
     servers = f", {queue.servers} servers" if queue.servers > 1 else ""
-    canvas.text((centre[0], centre[1] - 0.31), f"capacity {queue.capacity}{servers}", 6.5, style.GREY)
+    numbers, size = style.fitted(f"capacity {queue.capacity}{servers}", 98, 7.5)
+    canvas.text((centre[0], centre[1] - 0.31), numbers, size, DARK_GREY)
 
 
 def draw_line(canvas: Canvas, queue: QueueBox, key: str, corner: Point, width: float) -> None:
@@ -190,13 +193,13 @@ def draw_servers(canvas: Canvas, queue: QueueBox, key: str, centre: Point) -> No
     """A circle for each server while they are few, else one with their number."""
     few = queue.servers <= MOST_SERVERS
     count = queue.servers if few else 1
-    radius = {1: 0.16, 2: 0.1, 3: 0.08}[count]
+    radius = {1: 0.16, 2: 0.1, 3: 0.07}[count]
     for place in range(count):
         up = centre[1] + ((count - 1) / 2 - place) * 2.2 * radius
         circle = matplotlib.patches.Circle((centre[0], up), radius, fc=PAPER, ec=INK, lw=1.1, zorder=4)
         canvas.patch(circle, f"server-{key}-{place}")
     if not few:
-        canvas.text(centre, f"×{queue.servers}", 6.5)
+        canvas.text(centre, f"×{queue.servers}", 7 if queue.servers < 100 else 5.5)
 
 
 def draw_point(canvas: Canvas, node: SceneNode, centre: Point) -> None:
@@ -224,7 +227,7 @@ def draw_choice(canvas: Canvas, node: SceneNode, centre: Point) -> None:
     across, up = centre
     corners = [(across - 0.17, up), (across, up + 0.17), (across + 0.17, up), (across, up - 0.17)]
     canvas.patch(matplotlib.patches.Polygon(corners, fc="#FFF7DC", ec=INK, lw=1.0, zorder=4), f"choice-{node.key}")
-    canvas.text(centre, "min", 6)
+    canvas.text(centre, "min", 6.5)
 
 
 def draw_guard(canvas: Canvas, node: SceneNode, centre: Point) -> None:
@@ -244,7 +247,7 @@ def draw_guard(canvas: Canvas, node: SceneNode, centre: Point) -> None:
     canvas.patch(box, f"guard-{node.key}")
     for row, line in enumerate(node.lines):
         up = centre[1] + (len(node.lines) - 1) * 0.075 - row * 0.15
-        canvas.text((centre[0], up), line, 7, weight="bold" if row == 0 else "normal")
+        canvas.text((centre[0], up), line, 7.5, weight="bold" if row == 0 else "normal")
 
 
 DRAW = {
@@ -297,7 +300,7 @@ def draw_note(canvas: Canvas, place: Point, kind: Arrow | None, text: str) -> No
         place[0] + (0.38 if kind else 0),
         place[1],
         style.printable(text, 120),
-        fontsize=7,
+        fontsize=8,
         color=INK,
         va="center",
         parse_math=False,
