@@ -16,11 +16,16 @@ from selenium.webdriver.chrome.service import Service
 TOP = pathlib.Path(__file__).resolve().parent.parent
 WORDS = "--headless=new", "--no-sandbox", "--disable-gpu", "--disable-dev-shm-usage", "--hide-scrollbars"
 PRESS = "document.body.dispatchEvent(new KeyboardEvent('keydown', {key: arguments[0], bubbles: true}))"
-# Each picture: its size in dots, and the keys that are pressed before it is taken.
-PICTURES = {
-    "page.png": ((1180, 1040), ["ArrowRight"] * 8),
-    "page-hidden.png": ((1180, 1040), ["ArrowRight"] * 35 + ["h", "ArrowRight"]),
-}
+# How wide a picture is, in dots; it is as high as the page.
+WIDTH = 1180
+# The keys that are pressed before each picture is taken.
+PICTURES = {"page.png": ["ArrowRight"] * 8, "page-hidden.png": ["ArrowRight"] * 35 + ["h", "ArrowRight"]}
+
+
+def resize(driver: webdriver.Chrome, height: int) -> None:
+    """Makes the part of the page that is seen so high."""
+    size = {"width": WIDTH, "height": height, "deviceScaleFactor": 1, "mobile": False}
+    driver.execute_cdp_cmd("Emulation.setDeviceMetricsOverride", size)
 
 
 def main() -> int:
@@ -36,11 +41,12 @@ def main() -> int:
         subprocess.run([*map(str, call), "--psi", str(program.resolve())], check=True)
         driver = webdriver.Chrome(service=Service("/usr/bin/chromedriver"), options=options)
         try:
-            for name, (size, keys) in PICTURES.items():
-                driver.set_window_size(*size)
+            for name, keys in PICTURES.items():
+                resize(driver, 800)
                 driver.get(page.as_uri())
                 for key in keys:
                     driver.execute_script(PRESS, key)
+                resize(driver, driver.execute_script("return document.documentElement.scrollHeight"))
                 driver.save_screenshot(str(folder / name))
         finally:
             driver.quit()

@@ -1,6 +1,7 @@
 """psi-plot network: the picture has what the file has, nothing is cut off, and names are only names."""
 
 import itertools
+import math
 import os
 import pathlib
 import re
@@ -17,7 +18,7 @@ from psi_tools.plot import style
 from psi_tools.plot.draw_network import MOST_SERVERS, draw_network
 from psi_tools.plot.network_folding import folded
 from psi_tools.plot.network_layout import laid_out, size_of
-from psi_tools.plot.network_scene import NetworkPicture, Node, scene_of
+from psi_tools.plot.network_scene import Arrow, NetworkPicture, Node, scene_of
 
 GALLERY = sorted((TOP / "examples").glob("*.toml"))
 SVG = "{http://www.w3.org/2000/svg}"
@@ -105,6 +106,38 @@ def test_no_text_is_cut_off(net):
         box = text.get_window_extent()
         assert whole.x0 <= box.x0 and box.x1 <= whole.x1, text.get_text()
         assert whole.y0 <= box.y0 and box.y1 <= whole.y1, text.get_text()
+
+
+@pytest.mark.parametrize("net", [line_of(32), *map(Network.read, GALLERY)], ids=["line", *[it.stem for it in GALLERY]])
+def test_texts_can_be_read_on_a_slide(net):
+    """On a slide of 13.33 by 7.5 inches no text is smaller than 5.5 points."""
+    figure, _, _ = drawn(net, with_legend=True)
+    width, height = figure.get_size_inches()
+    scale = min(13.33 / width, 7.5 / height)
+    assert min(text.get_fontsize() for text in figure.axes[0].texts) * scale >= 5.5
+
+
+@pytest.mark.parametrize("net", [line_of(32), *map(Network.read, GALLERY)], ids=["line", *[it.stem for it in GALLERY]])
+def test_no_text_covers_another(net):
+    """Each text stands apart from all others."""
+    figure, _, _ = drawn(net, with_legend=True, with_tables=True)
+    figure.canvas.draw()
+    boxes = [(text.get_text(), text.get_window_extent()) for text in figure.axes[0].texts]
+    for (one, first), (two, second) in itertools.combinations(boxes, 2):
+        across = min(first.x1, second.x1) - max(first.x0, second.x0)
+        up = min(first.y1, second.y1) - max(first.y0, second.y0)
+        assert across <= 1 or up <= 1, (one, two)
+
+
+@pytest.mark.parametrize("path", GALLERY, ids=lambda path: path.stem)
+def test_losses_are_small_arrows(path):
+    """Each arrow of customers who are lost is short: its cross stands beside its source."""
+    scene = scene_of(Network.read(path))
+    layout = laid_out(scene)
+    for arrow, curve in zip(scene.arrows, layout.curves):
+        if arrow.kind is Arrow.LOSS:
+            (across, up), tip = curve.points[0], curve.tip
+            assert math.hypot(across - tip[0], up - tip[1]) < 0.6
 
 
 def test_a_long_line_is_folded():

@@ -11,6 +11,7 @@ import shutil
 import subprocess
 import tomllib
 
+import numpy
 import pytest
 from conftest import TOP
 from oracle.plain_network import Network as Plain
@@ -56,6 +57,28 @@ for (;;) {
   at("next").click();
   if (at("time").value === before) return rows;
 }
+"""
+
+
+PRESS = "document.body.dispatchEvent(new KeyboardEvent('keydown', {key: arguments[0], bubbles: true}))"
+# The least contrast of a text with what is behind it, by the luminances that WCAG defines.
+CONTRAST = """
+const light = (colour) => {
+  const parts = colour.match(/[\\d.]+/g).slice(0, 3).map((part) => part / 255)
+    .map((part) => (part <= 0.04045 ? part / 12.92 : ((part + 0.055) / 1.055) ** 2.4));
+  return 0.2126 * parts[0] + 0.7152 * parts[1] + 0.0722 * parts[2];
+};
+const behind = (element) => {
+  const colour = getComputedStyle(element).backgroundColor;
+  return colour.endsWith(", 0)") && element.parentElement ? behind(element.parentElement) : colour;
+};
+const found = [...document.querySelectorAll("h1, h2, p, li, th, td, kbd, label, summary, button, #chart text")].map(
+  (element) => {
+    const style = getComputedStyle(element), text = element.matches("text") ? style.fill : style.color;
+    const [one, two] = [light(text), light(behind(element))];
+    return (Math.max(one, two) + 0.05) / (Math.min(one, two) + 0.05);
+  });
+return Math.min(...found);
 """
 
 
@@ -205,8 +228,7 @@ def test_answers_are_hidden_until_a_key_is_pressed(browser, pages, tmp_path):
     text, log = pages("tandem-blocking")
     opened(browser, tmp_path, text)
     regions = [*regions_of_text(log)]
-    press = "document.dispatchEvent(new KeyboardEvent('keydown', {key: arguments[0], bubbles: true}))"
-    press = press.replace("document.dispatch", "document.body.dispatch")
+    press = PRESS
     shown = "return [...document.querySelectorAll('.gauge text')].map((text) => text.textContent)"
     browser.execute_script(press, "h")
     for place in range(1, 6):
@@ -220,6 +242,130 @@ def test_answers_are_hidden_until_a_key_is_pressed(browser, pages, tmp_path):
     for key, time in (("End", len(regions) - 1), ("Home", 0), ("PageDown", 10), ("PageUp", 0)):
         browser.execute_script(press, key)
         assert browser.execute_script("return Number(document.getElementById('time').value)") == time
+
+
+def test_all_can_be_done_by_keys(browser, pages, tmp_path):
+    """Tab leads to each control in its order, and keys that are typed step, choose the run and turn modes on."""
+    from selenium.webdriver import ActionChains, Keys
+
+    opened(browser, tmp_path, pages("tandem-blocking")[0])
+    reached = []
+    for _ in range(11):
+        ActionChains(browser).send_keys(Keys.TAB).perform()
+        reached.append(browser.switch_to.active_element.get_attribute("id"))
+    assert reached[:10] == ["run", "first", "back", "play", "next", "last", "speed", "hide", "large", "time"]
+    opened(browser, tmp_path, pages("tandem-blocking")[0])
+    now = "return [Number(document.getElementById('run').value), Number(document.getElementById('time').value)]"
+    last = browser.execute_script(now)[0]
+    for keys, expected in (
+        (Keys.ARROW_RIGHT * 3, [last, 3]),
+        (Keys.ARROW_LEFT, [last, 2]),
+        ("[", [last - 1, 0]),
+        (Keys.END, [last - 1, 1 << last - 1]),
+        ("]", [last, 0]),
+    ):
+        ActionChains(browser).send_keys(keys).perform()
+        assert browser.execute_script(now) == expected
+    for key, button in (("h", "hide"), ("l", "large")):
+        for is_on in ("true", "false"):
+            ActionChains(browser).send_keys(key).perform()
+            assert browser.find_element("id", button).get_attribute("aria-pressed") == is_on
+    ActionChains(browser).send_keys(" ").perform()
+    assert browser.find_element("id", "play").text == "Pause"
+    ActionChains(browser).send_keys(" ").perform()
+    assert browser.find_element("id", "play").text == "Play"
+
+
+@pytest.fixture
+def emulated(browser):
+    """Makes the browser show a page as on a phone, in the dark or on paper; in the end it is as it was."""
+
+    def emulate(width=None, **media):
+        if width:
+            size = {"width": width, "height": 800, "deviceScaleFactor": 1, "mobile": True}
+            browser.execute_cdp_cmd("Emulation.setDeviceMetricsOverride", size)
+        colours = [{"name": "prefers-color-scheme", "value": media.get("scheme", "light")}]
+        browser.execute_cdp_cmd("Emulation.setEmulatedMedia", {"media": media.get("medium", ""), "features": colours})
+
+    yield emulate
+    browser.execute_cdp_cmd("Emulation.clearDeviceMetricsOverride", {})
+    browser.execute_cdp_cmd("Emulation.setEmulatedMedia", {"media": "", "features": []})
+
+
+@pytest.mark.parametrize("scheme, medium", [("light", ""), ("dark", ""), ("dark", "print")])
+def test_texts_stand_out(browser, pages, tmp_path, emulated, scheme, medium):
+    """Each text has a contrast of 4.5 at least with what is behind it, in light and in dark colours and on paper, where
+    the background is white; what is certain and what is possible differ by more than their colours."""
+    opened(browser, tmp_path, pages("tandem-blocking")[0])
+    emulated(scheme=scheme, medium=medium)
+    for key in ("ArrowRight", "h", "ArrowRight"):
+        browser.execute_script(PRESS, key)
+    assert browser.execute_script(CONTRAST) >= 4.5
+    is_dark = scheme == "dark" and medium == ""
+    paper = browser.execute_script("return getComputedStyle(document.body).backgroundColor")
+    assert (paper == "rgb(255, 255, 255)") == (not is_dark)
+    fills = browser.execute_script(
+        "return [...document.querySelectorAll('.gauge')].map((one) => [...one.querySelectorAll('rect')]"
+        ".map((part) => part.getAttribute('fill')))"
+    )
+    assert fills and all(certain.startswith("#") and possible == "url(#hatch)" for certain, possible in fills)
+
+
+@pytest.mark.parametrize("name", ["tandem-blocking", "hyperexponential-service"])
+def test_a_phone_shows_all(browser, pages, tmp_path, emulated, name):
+    """On a screen of 390 dots the page is no wider than the screen, the numbers in the queues are not smaller than nine
+    dots, and the arrow that fires is brought to sight."""
+    emulated(width=390)
+    opened(browser, tmp_path, pages(name)[0])
+    for _ in range(24):
+        browser.execute_script(PRESS, "ArrowRight")
+        assert browser.execute_script("return document.documentElement.scrollWidth") <= 390
+        heights = (
+            "return [...document.querySelectorAll('.gauge text')].map((one) => one.getBoundingClientRect().height)"
+        )
+        assert min(browser.execute_script(heights)) >= 9
+        middles = browser.execute_script(
+            "return [...document.querySelectorAll('.fires')].slice(0, 1).map((one) => one.getBoundingClientRect())"
+            ".map((box) => (box.left + box.right) / 2)"
+        )
+        assert all(0 <= middle <= 390 for middle in middles)
+
+
+@pytest.mark.parametrize("name", ["first", "tandem-blocking", "longest-queue-split", "hyperexponential-service"])
+def test_the_page_prints(browser, pages, tmp_path, emulated, name):
+    """On paper the network, the time line, the step and the states that are left stand on one white page, within its
+    margins; the controls and the keys do not."""
+    for program in ("pdftotext", "pdftoppm"):
+        if not shutil.which(program):
+            pytest.skip("without poppler-utils nobody reads what was printed")
+    opened(browser, tmp_path, pages(name)[0])
+    emulated(scheme="dark")
+    for _ in range(4):
+        browser.execute_script(PRESS, "ArrowRight")
+    shown = [browser.find_element("id", each).text for each in ("about", "now", "event", "word", "size")]
+    shown += [each.text for each in browser.find_elements("css selector", "h1, #checks li, #queues td")]
+    shown += [browser.execute_script("return document.getElementById('states').textContent")]
+    (tmp_path / "page.pdf").write_bytes(base64.b64decode(browser.print_page()))
+    read = subprocess.run(["pdftotext", tmp_path / "page.pdf", "-"], capture_output=True, text=True, check=True).stdout
+    printed = "".join(read.split())
+    assert read.count("\f") == 1
+    assert [each for each in shown if "".join(each.split()) not in printed] == []
+    length = browser.execute_script("return document.getElementById('time').max")
+    assert f"Therunof{length}steps:allstateshavecoalesced." in printed
+    assert "Hide answers" not in read and "Page Down" not in read and "Steps a second" not in read
+    ink = drawn_on(tmp_path / "page.pdf") < 250
+    border = numpy.ones_like(ink)
+    border[20:-20, 20:-20] = False
+    assert not ink[border].any() and 0.005 < ink.mean() < 0.2
+
+
+def drawn_on(pdf):
+    """How light each dot of a printed page is, at 50 dots an inch."""
+    data = subprocess.run(["pdftoppm", "-gray", "-r", "50", "-singlefile", pdf], capture_output=True, check=True).stdout
+    kind, size, _, dots = data.split(b"\n", 3)
+    width, height = map(int, size.split())
+    assert kind == b"P5" and len(dots) == width * height
+    return numpy.frombuffer(dots, dtype=numpy.uint8).reshape(height, width)
 
 
 def test_a_long_log_opens_soon(browser, pages, program, tmp_path):

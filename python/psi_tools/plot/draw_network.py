@@ -5,6 +5,7 @@ from __future__ import annotations
 import math
 from typing import Any
 
+import matplotlib.font_manager
 import matplotlib.lines
 import matplotlib.patches
 import matplotlib.path
@@ -16,7 +17,7 @@ from psi_tools.plot.network_scene import Arrow, NetworkPicture, Node, QueueBox, 
 
 # The most places of a waiting line, and the most servers, that are drawn one by one.
 MOST_PLACES, MOST_SERVERS = 6, 3
-INK, LIGHT, PAPER = "#222222", "#888888", "#FFFFFF"
+INK, DARK_GREY, LIGHT, PAPER = "#222222", "#444444", "#888888", "#FFFFFF"
 COLOURS = {
     Arrow.MOVE: INK,
     Arrow.OVERFLOW: style.BLUE,
@@ -34,14 +35,18 @@ DASHES = {
     Arrow.READ: (0, (1, 2)),
 }
 MEANINGS = {
-    Arrow.MOVE: "customers move; first choice",
-    Arrow.OVERFLOW: "overflow: where all before are full, by number",
-    Arrow.LOSS: "lost where there is no room",
+    Arrow.MOVE: "where customers go, or go first",
+    Arrow.OVERFLOW: "overflow, by its number, where all earlier choices are full",
+    Arrow.LOSS: "lost: customers who find no free place",
     Arrow.NEGATIVE: "a signal removes customers",
     Arrow.GUARDED: "a guarded event changes the number",
-    Arrow.READ: "a guarded event looks at the number",
+    Arrow.READ: "a guarded event reads the number",
 }
-EDGE, TITLE_HEIGHT, LEGEND_LINE = 0.18, 0.42, 0.17
+# The colours of texts at arrows where the arrow's own is too pale for letters.
+TEXTS = {Arrow.NEGATIVE: "#8A3B66", Arrow.GUARDED: "#00664A"}
+EDGE, TITLE_HEIGHT, LEGEND_LINE = 0.18, 0.42, 0.18
+# The size and the most letters of a line of the legend, and where its text begins after a piece of an arrow.
+NOTE_SIZE, MOST_LETTERS, AFTER_SAMPLE = 8, 120, 0.38
 
 
 class Canvas:
@@ -84,7 +89,7 @@ def draw_network(picture: NetworkPicture, title: str = "") -> Any:
     scene = scene_of(net)
     layout = folded(laid_out(scene), scene)
     notes = notes_of(picture, scene)
-    width = max(layout.size[0] + 2 * EDGE, 3.2)
+    width = max(layout.size[0] + 2 * EDGE, 3.2, *map(width_of, notes))
     low = -EDGE - LEGEND_LINE * len(notes)
     top = layout.size[1] + EDGE + TITLE_HEIGHT * bool(title)
     figure = style.new_figure(top - low, "")
@@ -99,8 +104,8 @@ def draw_network(picture: NetworkPicture, title: str = "") -> Any:
     if title:
         canvas.text((left + width / 2, top - TITLE_HEIGHT / 2), title, 10, weight="bold")
     draw_scene(canvas, scene, layout)
-    for row, (kind, text) in enumerate(notes):
-        draw_note(canvas, (left + EDGE, -EDGE - LEGEND_LINE * (row + 0.2)), kind, text)
+    for row, note in enumerate(notes):
+        draw_note(canvas, (left + EDGE, -EDGE - LEGEND_LINE * (row + 0.2)), note)
     return figure
 
 
@@ -126,9 +131,9 @@ def draw_arrow(canvas: Canvas, arrow: SceneArrow, curve: Curve, gid: str) -> Non
     if arrow.blocks:
         draw_bar_across(canvas, points, f"{gid}-blocks")
     if curve.label:
-        box = {"fc": PAPER, "ec": "none", "pad": 0.6}
-        above = (curve.label[0], curve.label[1] + 0.03)
-        canvas.text(above, arrow.label, 7 if arrow.kind is not Arrow.OVERFLOW else 7.5, colour, bbox=box)
+        box = {"fc": PAPER, "ec": "none", "pad": 0}
+        above = (curve.label[0], curve.label[1] + 0.02)
+        canvas.text(above, arrow.label, 8, TEXTS.get(arrow.kind, colour), bbox=box)
 
 
 def draw_head(canvas: Canvas, before: Point, tip: Point, colour: str, gid: str) -> None:
@@ -141,7 +146,7 @@ def draw_head(canvas: Canvas, before: Point, tip: Point, colour: str, gid: str) 
 
 
 def draw_bar_across(canvas: Canvas, points: list[Point], gid: str) -> None:
-    """A short double bar across the begin of an arrow: its source is blocked where the target is full."""
+    """A short double bar across the start of an arrow: its source is blocked where the target is full."""
     (left, low), (right, high) = points[0], points[1]
     length = math.hypot(right - left, high - low) or 1.0
     along = ((right - left) / length, (high - low) / length)
@@ -161,10 +166,11 @@ def draw_queue(canvas: Canvas, node: SceneNode, centre: Point) -> None:
     draw_line(canvas, queue, node.key, (left, low), 1.36 - server_room)
     if queue.is_served:
         draw_servers(canvas, queue, node.key, (left + 1.36 - server_room / 2, centre[1]))
-    name, size = style.fitted(queue.name, 98, 8.5)
+    name, size = style.fitted(queue.name, 98, 9)
     canvas.text((centre[0], centre[1] + 0.28), name, size, weight="bold")
     servers = f", {queue.servers} servers" if queue.servers > 1 else ""
-    canvas.text((centre[0], centre[1] - 0.31), f"capacity {queue.capacity}{servers}", 6.5, style.GREY)
+    numbers, size = style.fitted(f"capacity {queue.capacity}{servers}", 98, 7.5)
+    canvas.text((centre[0], centre[1] - 0.31), numbers, size, DARK_GREY)
 
 
 def draw_line(canvas: Canvas, queue: QueueBox, key: str, corner: Point, width: float) -> None:
@@ -190,13 +196,13 @@ def draw_servers(canvas: Canvas, queue: QueueBox, key: str, centre: Point) -> No
     """A circle for each server while they are few, else one with their number."""
     few = queue.servers <= MOST_SERVERS
     count = queue.servers if few else 1
-    radius = {1: 0.16, 2: 0.1, 3: 0.08}[count]
+    radius = {1: 0.16, 2: 0.1, 3: 0.07}[count]
     for place in range(count):
         up = centre[1] + ((count - 1) / 2 - place) * 2.2 * radius
         circle = matplotlib.patches.Circle((centre[0], up), radius, fc=PAPER, ec=INK, lw=1.1, zorder=4)
         canvas.patch(circle, f"server-{key}-{place}")
     if not few:
-        canvas.text(centre, f"×{queue.servers}", 6.5)
+        canvas.text(centre, f"×{queue.servers}", 7 if queue.servers < 100 else 5.5)
 
 
 def draw_point(canvas: Canvas, node: SceneNode, centre: Point) -> None:
@@ -224,7 +230,7 @@ def draw_choice(canvas: Canvas, node: SceneNode, centre: Point) -> None:
     across, up = centre
     corners = [(across - 0.17, up), (across, up + 0.17), (across + 0.17, up), (across, up - 0.17)]
     canvas.patch(matplotlib.patches.Polygon(corners, fc="#FFF7DC", ec=INK, lw=1.0, zorder=4), f"choice-{node.key}")
-    canvas.text(centre, "min", 6)
+    canvas.text(centre, "min", 6.5)
 
 
 def draw_guard(canvas: Canvas, node: SceneNode, centre: Point) -> None:
@@ -244,7 +250,7 @@ def draw_guard(canvas: Canvas, node: SceneNode, centre: Point) -> None:
     canvas.patch(box, f"guard-{node.key}")
     for row, line in enumerate(node.lines):
         up = centre[1] + (len(node.lines) - 1) * 0.075 - row * 0.15
-        canvas.text((centre[0], up), line, 7, weight="bold" if row == 0 else "normal")
+        canvas.text((centre[0], up), line, 7.5, weight="bold" if row == 0 else "normal")
 
 
 DRAW = {
@@ -266,8 +272,8 @@ def notes_of(picture: NetworkPicture, scene: Scene) -> list[Note]:
         kinds = {arrow.kind for arrow in scene.arrows}
         notes += [(kind, text) for kind, text in MEANINGS.items() if kind in kinds]
         if any(arrow.blocks for arrow in scene.arrows):
-            notes.append((None, "‖ at an arrow's begin: the server is blocked while the target is full"))
-        notes.append((None, "numbers at names are rates, of one server where there are more"))
+            notes.append((None, "‖ at the start of an arrow: its server is blocked while the target is full"))
+        notes.append((None, "the number after a name is its rate, of one server where there are several"))
     if picture.with_tables:
         for event in picture.net.table["event"]:
             if event["kind"] == "index":
@@ -282,8 +288,17 @@ def shortened(row: list[int]) -> str:
     return ", ".join(numbers if len(numbers) <= 14 else [*numbers[:10], "…", *numbers[-3:]])
 
 
-def draw_note(canvas: Canvas, place: Point, kind: Arrow | None, text: str) -> None:
+def width_of(note: Note) -> float:
+    """How wide a picture is that has room for a line below it, in inches."""
+    kind, text = note
+    font = matplotlib.font_manager.FontProperties(size=NOTE_SIZE)
+    points, _, _ = style.MEASURE.get_text_width_height_descent(style.printable(text, MOST_LETTERS), font, False)
+    return float(points) / 72 + 2 * EDGE + AFTER_SAMPLE * (kind is not None)
+
+
+def draw_note(canvas: Canvas, place: Point, note: Note) -> None:
     """A line below the picture, with a piece of the arrow that it explains."""
+    kind, text = note
     if kind is not None:
         sample = matplotlib.lines.Line2D(
             [place[0], place[0] + 0.3],
@@ -294,10 +309,10 @@ def draw_note(canvas: Canvas, place: Point, kind: Arrow | None, text: str) -> No
         )
         canvas.axes.add_line(sample)
     canvas.axes.text(
-        place[0] + (0.38 if kind else 0),
+        place[0] + AFTER_SAMPLE * (kind is not None),
         place[1],
-        style.printable(text, 120),
-        fontsize=7,
+        style.printable(text, MOST_LETTERS),
+        fontsize=NOTE_SIZE,
         color=INK,
         va="center",
         parse_math=False,

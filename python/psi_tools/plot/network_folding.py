@@ -12,6 +12,8 @@ from psi_tools.plot.network_scene import Scene, SceneArrow
 WIDEST, SHAPE = 11.0, 3.0
 # The shape that rows together should have, the room between them, and how far an arrow to another row reaches out.
 WANTED_SHAPE, GAP, REACH = 1.9, 0.4, 0.4
+# How far above such an arrow its label stands.
+ABOVE = 0.06
 
 
 def folded(layout: Layout, scene: Scene) -> Layout:
@@ -93,5 +95,5 @@ class Folding:
             (end[0] - REACH, end[1]),
             end,
         )
-        label = ((begin[0] + end[0]) / 2, middle) if curve.label else None
+        label = ((begin[0] + end[0]) / 2, middle + ABOVE) if curve.label else None
         return Curve(points, tip, label)

@@ -21,7 +21,11 @@ SIZES = {
     Node.CHOICE: (0.34, 0.34),
 }
 LINE_HEIGHT, LETTER_WIDTH, MARGIN, FONT_SIZE = 0.15, 0.072, 0.16, 8
+# Where a queue's servers stand, to the right of its centre, and how far below it they end, in inches.
+TO_SERVERS, BELOW_SERVER = 0.5, 0.19
 POINTS_AN_INCH, MOST_SECONDS = 72.0, 60
+# How far a straight line may be from upright, in inches.
+STRAIGHT = 0.01
 LIGHT = Arrow.NEGATIVE, Arrow.READ
 
 
@@ -63,8 +67,8 @@ def node_line(node: SceneNode) -> str:
 
 
 def arrow_line(number: int, arrow: SceneArrow) -> str:
-    """An arrow in dot's language: what is lost stays beside its source, and signals bend before routes do."""
-    weight, least = (0, 0) if arrow.kind is Arrow.LOSS else (1, 1) if arrow.kind in LIGHT else (4, 1)
+    """An arrow in dot's language: what is lost stays below its source, and signals bend before routes do."""
+    weight, least = (1, 0) if arrow.kind is Arrow.LOSS else (1, 1) if arrow.kind in LIGHT else (4, 1)
     words = [f"id={number}", f"label={quoted(arrow.label)}", f"weight={weight}", f"minlen={least}"]
     return f"{arrow.tail} -> {arrow.head} [{', '.join(words)}];"
 
@@ -103,7 +107,23 @@ def layout_of(found: dict[str, Any], scene: Scene) -> Layout:
     centres = {each["name"]: point_of(each["pos"]) for each in found["objects"] if each["name"] in keys}
     curves = {int(each["id"]): curve_of(each) for each in found.get("edges", [])}
     ordered = [curves[number] for number in range(len(scene.arrows))]
+    queues = {node.key: node.queue for node in scene.nodes if node.queue}
+    for number, arrow in enumerate(scene.arrows):
+        if arrow.kind is Arrow.LOSS and arrow.tail in queues:
+            has_one = queues[arrow.tail].servers == 1
+            begin = (centres[arrow.tail][0] + TO_SERVERS, centres[arrow.tail][1] - BELOW_SERVER) if has_one else None
+            centres[arrow.head], ordered[number] = below_servers(centres[arrow.head], ordered[number], begin)
     return Layout((width / POINTS_AN_INCH, height / POINTS_AN_INCH), centres, ordered)
+
+
+def below_servers(cross: Point, curve: Curve, begin: Point | None) -> tuple[Point, Curve]:
+    """Where a customer is lost after service: below the servers, if the way there runs straight down. It may have a
+    begin nearer to them."""
+    if any(abs(across - cross[0]) > STRAIGHT for across, _ in (*curve.points, curve.tip)):
+        return cross, curve
+    moved = [(across + TO_SERVERS, up) for across, up in (*curve.points, curve.tip, cross)]
+    *points, tip, there = moved
+    return there, Curve((begin or points[0], *points[1:]), tip, curve.label)
 
 
 def point_of(text: str) -> Point:

@@ -19,8 +19,6 @@ from psi_tools.errors import printable
 from psi_tools.model.networks import Network
 from psi_tools.plot.past import Follower, Region, names_of_events
 
-# How much larger than on paper a picture may be in the page.
-LARGER = 1.3
 TEMPLATES = pathlib.Path(__file__).resolve().parent / "page_files"
 SVG = "{http://www.w3.org/2000/svg}"
 PLACE = re.compile(r"\{\{(\w+)\}\}")
@@ -121,8 +119,8 @@ def drawing_of(net: Network) -> str:
     root = xml.etree.ElementTree.fromstring(style.saved(draw_network(NetworkPicture(net, "")), "svg"))
     for child in root.findall(f"{SVG}metadata"):
         root.remove(child)
-    width = float(root.get("width", "").removesuffix("pt")) * LARGER
-    root.attrib |= {"id": "picture", "role": "img", "aria-labelledby": "drawn", "style": f"max-width: {width:.0f}pt"}
+    width = float(root.get("width", "").removesuffix("pt"))
+    root.attrib |= {"id": "picture", "role": "img", "aria-labelledby": "drawn", "style": f"--paper: {width:.0f}pt"}
     del root.attrib["width"], root.attrib["height"]
     return xml.etree.ElementTree.tostring(root, encoding="unicode")
 

@@ -2,7 +2,7 @@
 // Steps through the runs of a sample. Every text is set as text, never as markup.
 (() => {
 const SVG = "http://www.w3.org/2000/svg";
-const LISTED = 64, WIDE = 1000, HIGH = 150, LEFT = 40, TOP = 14, POINTS = 900;
+const LISTED = 64, WIDE = 1000, HIGH = 150, LEFT = 40, TOP = 32, POINTS = 900;
 const data = JSON.parse(document.getElementById("data").textContent);
 const at = (id) => document.getElementById(id);
 const state = { run: 0, place: 0, regions: [], sizes: [], hides: false, isShown: true, timer: null };
@@ -46,7 +46,7 @@ function changed(region, change) {
   return { low, high, set: null };
 }
 
-// All regions of a run, from its begin to time zero.
+// All regions of a run, from its start to time zero.
 function regionsOf(run) {
   const found = [regionOf(run.begin)];
   for (const change of run.steps) found.push(changed(found[found.length - 1], change));
@@ -65,14 +65,17 @@ function sizeOf(region) {
   return region.low.reduce((sum, low, queue) => sum + Math.log10(region.high[queue] - low + 1), 0);
 }
 
+// The name of an event within a sentence.
+const called = (event) => (event.place === null ? event.name : `“${event.name}”`);
+
 const interval = (low, high) => (low === high ? whole(low) : `${whole(low)} to ${whole(high)}`);
 
 // How a run ends, in words.
 function endOf(run) {
   const length = run.steps.length;
   const left = countOf(regionsOf(run)[length]);
-  const end = left === 1n ? "all states have coalesced" : `fails: ${plural(left, "state")} left`;
-  return `${plural(length, "step")}, ${end}`;
+  const end = left === 1n ? "all states have coalesced" : `${plural(left, "state")} left, so it fails`;
+  return `${plural(length, "step")}: ${end}`;
 }
 
 // The bar and the text that each queue of the picture gets.
@@ -133,7 +136,7 @@ function showEvent() {
   const time = timeOf(state.place);
   const number = data.numbers[time - 1], event = data.events[number];
   document.querySelectorAll(".fires").forEach((arrow) => arrow.classList.remove("fires"));
-  at("now").textContent = isBegin ? `Time −${whole(steps())}: the begin of the run`
+  at("now").textContent = isBegin ? `Time −${whole(steps())}: the start of the run`
     : `Step ${whole(state.place)} of ${whole(steps())}, to time ${time === 1 ? "zero" : `−${whole(time - 1)}`}`;
   if (isBegin) {
     at("event").textContent = "The run begins in every state at once.";
@@ -143,13 +146,25 @@ function showEvent() {
   const name = event.place === null ? "idle: nothing happens" : `${event.name}, rate ${whole(event.rate)}`;
   at("event").textContent = `Event: ${name}`;
   const word = data.words[time - 1];
-  const picks = event.end - event.from === 1 ? `${event.from} is` : `${whole(event.from)} to ${whole(event.end - 1)} are`;
+  const isOne = event.end - event.from === 1, isIdle = event.place === null;
+  const verb = isIdle ? (isOne ? "is" : "are") : (isOne ? "picks" : "pick");
+  const numbers = isOne ? whole(event.from) : `${whole(event.from)} to ${whole(event.end - 1)}`;
   at("word").textContent = `Random word ${whole(word)}; modulo ${whole(data.modulus)} it is `
-    + `${whole(word % data.modulus)}, and ${picks} ${event.name}.`;
+    + `${whole(word % data.modulus)}, and ${numbers} ${verb} ${called(event)}.`;
   data.arrows.forEach((place, arrow) => {
     if (place !== event.place) return;
-    document.querySelectorAll(`[id^="arrow-${arrow}-"]`).forEach((one) => one.classList.add("fires"));
+    const parts = document.querySelectorAll(`[id^="arrow-${arrow}-"]:not([id$="-blocks"])`);
+    parts.forEach((one) => one.classList.add("fires"));
   });
+  scrollToArrow();
+}
+
+// Where the picture is wider than the screen, brings the arrow that fires to its middle.
+function scrollToArrow() {
+  const arrow = document.querySelector(".fires"), drawing = at("picture").parentElement;
+  if (arrow === null || drawing.scrollWidth <= drawing.clientWidth) return;
+  const part = arrow.getBoundingClientRect(), whole = drawing.getBoundingClientRect();
+  drawing.scrollLeft += part.left + part.width / 2 - whole.left - whole.width / 2;
 }
 
 // What replay checks of the line of the log that has this step, in words.
@@ -158,7 +173,7 @@ function checksOf() {
   const place = state.place, region = state.regions[place], before = state.regions[place - 1];
   const line = `Line ${whole(6 + place)} of the log`;
   if (place === 0) return [`${line} has every state of the network: ${plural(countOf(region), "state")}.`];
-  const time = timeOf(place), event = data.events[data.numbers[time - 1]].name;
+  const time = timeOf(place), event = called(data.events[data.numbers[time - 1]]);
   const found = [
     `${line} is step ${whole(time)} before time zero, one less than the line above it.`,
     `The random word of seed ${data.seed}, stream ${data.stream} and step ${whole(time)} picks ${event}.`,
@@ -192,15 +207,14 @@ function drawChart(until) {
     points.push(`${across(place).toFixed(1)},${height(Math.max(...some)).toFixed(1)}`);
   }
   const here = across(state.place).toFixed(1), low = HIGH + TOP;
-  const label = { "font-size": 15, fill: "#222" };
   at("chart").replaceChildren(
-    made("path", { d: `M${LEFT} ${TOP}V${low}H${WIDE - 20}`, fill: "none", stroke: "#888" }),
-    made("polyline", { points: points.join(" "), fill: "none", stroke: "#0072b2", "stroke-width": 3 }),
-    made("path", { d: `M${here} ${TOP}V${low}`, stroke: "#d55e00", "stroke-width": 2, "stroke-dasharray": "6 4" }),
-    made("text", { ...label, x: LEFT + 4, y: TOP - 1 }, plural(countOf(state.regions[0]), "state")),
-    made("text", { ...label, x: LEFT - 12, y: low, "text-anchor": "end" }, "1"),
-    made("text", { ...label, x: LEFT, y: low + 20 }, `−${whole(steps())}`),
-    made("text", { ...label, x: WIDE - 20, y: low + 20, "text-anchor": "end" }, "time zero"),
+    made("path", { "class": "axis", d: `M${LEFT} ${TOP}V${low}H${WIDE - 20}` }),
+    made("polyline", { "class": "curve", points: points.join(" ") }),
+    made("path", { "class": "here", d: `M${here} ${TOP}V${low}` }),
+    made("text", { x: LEFT, y: TOP - 8 }, plural(countOf(state.regions[0]), "state")),
+    made("text", { x: LEFT - 12, y: low, "text-anchor": "end" }, "1"),
+    made("text", { x: LEFT, y: low + 8, "dominant-baseline": "hanging" }, `−${whole(steps())}`),
+    made("text", { x: WIDE - 20, y: low + 8, "text-anchor": "end", "dominant-baseline": "hanging" }, "time zero"),
   );
 }
 
@@ -243,6 +257,7 @@ function choose(run) {
   state.sizes = state.regions.map(sizeOf);
   at("run").value = run;
   at("time").max = steps();
+  at("chosen").textContent = `The run of ${endOf(data.runs[run])}.`;
   state.place = 0;
   state.isShown = true;
   show();
@@ -309,6 +324,8 @@ function begin() {
     go(Math.round(place * steps()));
   });
   document.addEventListener("keydown", pressed);
+  addEventListener("beforeprint", () => { at("listed").open = true; });
+  addEventListener("afterprint", () => { at("listed").open = false; });
   choose(data.runs.length - 1);
 }
 
