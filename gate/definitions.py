@@ -182,7 +182,7 @@ class Source(File):
                 end += 1
         return self.lines[start : end + 1]
 
-    def read_type(self, start: int, sort: str, name: str) -> None:
+    def read_type(self, start: int, kind: str, name: str) -> None:
         begin = start
         while self.lines[begin - 1].startswith(("///", "#[")):
             begin -= 1
@@ -190,9 +190,9 @@ class Source(File):
         item = self.items[name] = Item(self, name, 0, comment, [])
         item.text = self.until_closed(start)
         model = [s for s in self.lines if re.match(rf"impl(<.*>)? Model for {name}\b", s)]
-        if sort == "enum":
+        if kind == "enum":
             item.makers = set(re.findall(r"^    (\w+)[ ,{(]", "\n".join(item.text), re.M))
-        if sort == "trait":
+        if kind == "trait":
             kept = [s for s in item.text if s.startswith(("    ghost ", "    // "))]
             item.text = item.text[:1] + kept + ["    ..", "}"]
             item.rust = self.ghost_names(item, kept)
@@ -286,10 +286,10 @@ class Sources:
             return self.declared(file.crate() if path[0] == "crate" else path[0], name)
         return False
 
-    def sign(self, file: File, sign: str) -> list[str]:
-        """The names of a file's operators that a sign is part of."""
+    def operators(self, file: File, symbol: str) -> list[str]:
+        """The names of a file's operators that a symbol is part of."""
         known = list(file.names) + list(file.items)
-        return [n for n in known if n == sign or "◌" in n and sign in n.split("◌")]
+        return [n for n in known if n == symbol or "◌" in n and symbol in n.split("◌")]
 
 
 def bound_names(item: Item, code: str) -> set[str]:
@@ -351,7 +351,7 @@ def uses(sources: Sources, item: Item) -> list[Item]:
                 raise item.missing(token)
             found.append(means)
             continue
-        names = sources.sign(item.file, {"do": ">>="}.get(token, token))
+        names = sources.operators(item.file, {"do": ">>="}.get(token, token))
         if not names and token not in SIGNS:
             raise item.missing(token)
         found += [sources.named(item.file, name) for name in names]

@@ -58,8 +58,8 @@ def row(name: str, line: list[str]) -> str:
         "clauses alone": [other for other in line if other not in code and other in clauses],
         "proofs alone": [other for other in line if other not in code and other not in clauses],
     }
-    said = "; ".join(f"{title}: {' '.join(names)}" for title, names in parts.items() if names)
-    return f"{name}:{''.join(f' {other}' for other in line)}" + (f"  # {said}" if said else "")
+    note = "; ".join(f"{title}: {' '.join(names)}" for title, names in parts.items() if names)
+    return f"{name}:{''.join(f' {other}' for other in line)}" + (f"  # {note}" if note else "")
 
 
 def commented(text: str) -> str:

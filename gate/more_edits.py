@@ -119,14 +119,14 @@ def proved_of(clone: pathlib.Path, jobs: int) -> set[str]:
     return set(PROVED_CRATE.findall(summary))
 
 
-def kind_of(said: str) -> str:
+def kind_of(message: str) -> str:
     """What a try came to, by what rt said of it."""
-    return next((kind for kind in (PROVED, BAD, UNTRIED) if said.startswith(kind)), REFUSED)
+    return next((kind for kind in (PROVED, BAD, UNTRIED) if message.startswith(kind)), REFUSED)
 
 
-def tell(crate: str, file: str, said: str) -> None:
+def report(crate: str, file: str, message: str) -> None:
     """Tells of an edit that isn't refused."""
-    print(f"crates/{crate}/more-edits/{file}: {said}", flush=True)
+    print(f"crates/{crate}/more-edits/{file}: {message}", flush=True)
 
 
 def try_edits(clone: pathlib.Path, crate: str, files: list[str]) -> list[str]:
@@ -143,22 +143,22 @@ def try_edits(clone: pathlib.Path, crate: str, files: list[str]) -> list[str]:
         text=True,
         errors="replace",
     )
-    said = {}
+    messages = {}
     for line in done.stdout.splitlines():
         found = SAID.fullmatch(line) or MISNAMED.fullmatch(line)
         if found and found[1] == crate:
-            said[found[2]] = found[3]
+            messages[found[2]] = found[3]
     for file in files:
         if not file.endswith(".md"):
-            said.setdefault(file, f"{UNTRIED}: rt says nothing of it (status {done.returncode})")
-    if not said or done.returncode not in (0, 1):
+            messages.setdefault(file, f"{UNTRIED}: rt says nothing of it (status {done.returncode})")
+    if not messages or done.returncode not in (0, 1):
         print(done.stdout[-2000:], file=sys.stderr)
-    for file, text in said.items():
+    for file, text in messages.items():
         if kind_of(text) != REFUSED:
-            tell(crate, file, text)
+            report(crate, file, text)
     seconds = round(time.monotonic() - begun)
-    print(f"{crate}: {len(said)} edits in {seconds} s", file=sys.stderr, flush=True)
-    return [kind_of(text) for text in said.values()]
+    print(f"{crate}: {len(messages)} edits in {seconds} s", file=sys.stderr, flush=True)
+    return [kind_of(text) for text in messages.values()]
 
 
 def try_all(clone: pathlib.Path, names: Iterable[str], jobs: int) -> list[str]:
@@ -171,7 +171,7 @@ def try_all(clone: pathlib.Path, names: Iterable[str], jobs: int) -> list[str]:
     tried = []
     for crate in [it for it in edits if it not in proved]:
         for file in edits[crate]:
-            tell(crate, file, f"{UNTRIED}: the crate isn't proved without it")
+            report(crate, file, f"{UNTRIED}: the crate isn't proved without it")
             tried.append(UNTRIED)
     with ThreadPoolExecutor(jobs) as pool:
         runs = [pool.submit(try_edits, clone, it, edits[it]) for it in edits if it in proved]

@@ -33,7 +33,7 @@ def text_of(name: str) -> str:
     return (TOP / name).read_text()
 
 
-def said(*command: str) -> str:
+def printed_by(*command: str) -> str:
     """What a command prints, at the top."""
     return subprocess.check_output(command, cwd=TOP, text=True).strip()
 
@@ -44,15 +44,15 @@ def places(version: str, date: str) -> Iterator[tuple[str, str, str]]:
     assert release, "CHANGELOG.md has no release"
     yield "CHANGELOG.md", release[1], version
     yield "CHANGELOG.md, the date,", release[2], date
-    yield "./psi", said("./psi", "--version"), f"psi {version}"
+    yield "./psi", printed_by("./psi", "--version"), f"psi {version}"
     yield "python/psi_tools/__init__.py", psi_tools.__version__, version
     module = "import sys; sys.path.insert(0, 'python'); import psi; print(psi.__version__)"
-    yield "the module psi", said("/usr/bin/python3", "-c", module), version
+    yield "the module psi", printed_by("/usr/bin/python3", "-c", module), version
     dynamic = tomllib.loads(text_of("python/pyproject.toml"))["tool"]["setuptools"]["dynamic"]
     yield "python/pyproject.toml", dynamic["version"]["attr"], "psi_tools.__version__"
     yield "the package", make_package.version_of()[0].partition("+git")[0], version
-    yield "tools/psi-means", said("tools/psi-means", "--version"), f"psi-means {version}"
-    for tag in said("git", "tag", "--points-at", "HEAD").split():
+    yield "tools/psi-means", printed_by("tools/psi-means", "--version"), f"psi-means {version}"
+    for tag in printed_by("git", "tag", "--points-at", "HEAD").split():
         if re.match(r"v\d", tag):
             yield "the tag of this commit", tag, f"v{version}"
 

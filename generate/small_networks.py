@@ -171,11 +171,11 @@ def asked(command: str, number: int) -> tuple[str, list[int]]:
     return network(number), [number % 7] if command == "exact" else []
 
 
-def is_kept(command: str, number: int, said: str) -> bool:
+def is_kept(command: str, number: int, answer: str) -> bool:
     """Whether the case of a number is written, of which this is wanted."""
     if command != "exact" or number % 10 == 0:
         return True
-    *_, meeting, region = said.splitlines()
+    *_, meeting, region = answer.splitlines()
     return meeting.startswith("constant") and meeting.split()[1] != region.split()[1]
 
 
@@ -184,12 +184,12 @@ def cases(count: int, command: str) -> Iterator[bytes]:
     for number in range(count):
         text, last = asked(command, number)
         numbers, net = [number, number * number, *last], Network(tomllib.loads(text))
-        status, said = getattr(plain, command)(net, *numbers)
-        if not is_kept(command, number, said):
+        status, answer = getattr(plain, command)(net, *numbers)
+        if not is_kept(command, number, answer):
             continue
         files = {"net.toml": text.encode()}
         name = f"small-{number:04}" if command == "sample" else f"small-{command}-{number:04}"
-        out, err = (said.encode(), b"") if status <= 1 else (b"", said.encode())
+        out, err = (answer.encode(), b"") if status <= 1 else (b"", answer.encode())
         words = [command, "net.toml", *map(str, numbers)]
         yield case(name, words, files, status, out, err)
 

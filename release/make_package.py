@@ -116,7 +116,7 @@ License: Expat
 """
 
 
-def said(*words: str) -> str:
+def printed_by(*words: str) -> str:
     """What a command prints, at the top."""
     return subprocess.check_output(words, cwd=TOP, text=True).strip()
 
@@ -125,10 +125,10 @@ def version_of() -> tuple[str, int]:
     """The version, and the second at which it was committed."""
     found = re.search(r'^version: "([^"]*)"', (TOP / "CITATION.cff").read_text(), re.M)
     assert found, "CITATION.cff has no version"
-    version, second = found[1], int(said("git", "log", "-1", "--format=%ct"))
-    if f"v{version}" not in said("git", "tag", "--points-at", "HEAD").split():
+    version, second = found[1], int(printed_by("git", "log", "-1", "--format=%ct"))
+    if f"v{version}" not in printed_by("git", "tag", "--points-at", "HEAD").split():
         day = time.strftime("%Y%m%d", time.gmtime(second))
-        version += f"+git{day}.{said('git', 'rev-parse', '--short=7', 'HEAD')}"
+        version += f"+git{day}.{printed_by('git', 'rev-parse', '--short=7', 'HEAD')}"
     return version, second
 
 
@@ -136,7 +136,7 @@ def maintainer() -> str:
     """Who answers for the package: what DEBFULLNAME and DEBEMAIL say, as for Debian's own tools, or
     else whoever made the commit."""
     name = os.environ.get("DEBFULLNAME", "The PSI authors")
-    return f"{name} <{os.environ.get('DEBEMAIL') or said('git', 'log', '-1', '--format=%ce')}>"
+    return f"{name} <{os.environ.get('DEBEMAIL') or printed_by('git', 'log', '-1', '--format=%ce')}>"
 
 
 def copy(source: pathlib.Path, target: pathlib.Path, mode: int = 0o644) -> None:
@@ -163,7 +163,7 @@ def link(target: pathlib.Path, path: pathlib.Path) -> None:
 
 def tracked(name: str) -> list[str]:
     """The files of the repository below a name."""
-    return said("git", "ls-files", name).splitlines()
+    return printed_by("git", "ls-files", name).splitlines()
 
 
 def beside(program: pathlib.Path, crate: str) -> pathlib.Path | None:

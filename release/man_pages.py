@@ -82,7 +82,7 @@ def escaped(text: str) -> str:
     """A text in which no sign has a meaning for groff."""
     text = text.replace("\\", "\\e").replace("-", "\\-").replace("'", "\\(aq").replace("`", "\\(ga")
     text = text.replace("~", "\\(ti").replace("^", "\\(ha")
-    return "".join(sign if ord(sign) < 128 else f"\\[u{ord(sign):04X}]" for sign in text)
+    return "".join(char if ord(char) < 128 else f"\\[u{ord(char):04X}]" for char in text)
 
 
 def plain(text: str) -> str:
@@ -202,21 +202,21 @@ def table(rows: list[str]) -> Iterator[str]:
 def rendered(lines: list[str]) -> Iterator[str]:
     """Lines of Markdown as lines of groff."""
     before = None
-    for sort, found in blocks_of(lines):
-        if sort == "heading":
+    for kind, found in blocks_of(lines):
+        if kind == "heading":
             level = len(found) - len(found.lstrip("#"))
             yield f"{'.SH' if level <= 2 else '.SS'} {inline(found.lstrip('# '))}"
-        elif sort == "text":
+        elif kind == "text":
             if before not in (None, "heading"):
                 yield ".PP"
             yield line_of(inline(found))
-        elif sort == "code":
+        elif kind == "code":
             yield from (".RS 4", ".EX") if before == "heading" else (".PP", ".RS 4", ".EX")
             yield from (line_of(escaped(of_package(line))) for line in found)
             yield from (".EE", ".RE")
-        elif sort == "table":
+        elif kind == "table":
             yield from table(found)
-        elif sort == "quote":
+        elif kind == "quote":
             yield ".RS 4"
             yield from rendered(found)
             yield ".RE"
@@ -226,7 +226,7 @@ def rendered(lines: list[str]) -> Iterator[str]:
             yield from (f".IP {BULLET if mark == '-' else mark} 4", first)
             if rest:
                 yield from (".RS 4", *rest, ".RE")
-        before = sort
+        before = kind
 
 
 def one_paragraph(text: str) -> str:
@@ -237,22 +237,22 @@ def options_text(command: str) -> str:
     """The options of a command, as a list."""
     reader = importlib.import_module(f"psi_tools.cli.{command}").parser()
     lines = ["| Option | Says |", "|---|---|"]
-    for names, metavar, choices, said in options_of(reader):
+    for names, metavar, choices, text in options_of(reader):
         value = "" if metavar is None else f" {'|'.join(choices) if choices else metavar}"
-        said = said.replace(
+        text = text.replace(
             "the built program; crates/psi/out/psi, or psi on the PATH,", "the program psi; that on the PATH"
         )
-        said = said.replace("merge_reports.py", "a tool of Python").replace(
+        text = text.replace("merge_reports.py", "a tool of Python").replace(
             "psi_merge where it is " "built", "psi-merge where it is there"
         )
-        lines.append(f"| `{', '.join(names)}{value}` | {one_paragraph(said)} |".replace("||", "|"))
+        lines.append(f"| `{', '.join(names)}{value}` | {one_paragraph(text)} |".replace("||", "|"))
     return "\n".join(line.replace("text|csv|json", "FORMAT").replace("text|json", "FORMAT") for line in lines)
 
 
 def kinds_text(command: str) -> str:
     """The kinds of a command's first word, as a list."""
     reader = importlib.import_module(f"psi_tools.cli.{command}").parser()
-    rows = [f"| `{kind}` | {one_paragraph(said)} |" for kind, (_, said) in kinds_of(reader).items()]
+    rows = [f"| `{kind}` | {one_paragraph(text)} |" for kind, (_, text) in kinds_of(reader).items()]
     return "\n".join(["| Kind | Models |", "|---|---|", *rows])
 
 
@@ -271,15 +271,15 @@ def synopsis_text() -> str:
 def commands_text() -> str:
     """The help on each command of psi, as a list."""
     sections = re.split(r"^== (\w+)\n", HELP.read_text(), flags=re.M)
-    said = dict(zip(sections[1::2], sections[2::2]))
+    texts = dict(zip(sections[1::2], sections[2::2]))
     names = dict.fromkeys(usage.split()[0] for usage, _ in help_block("Commands"))
-    rows = [f"| `{name}` | {one_paragraph(said[name])} |" for name in names]
+    rows = [f"| `{name}` | {one_paragraph(texts[name])} |" for name in names]
     return "\n".join(["| Command | What it does |", "|---|---|", *rows])
 
 
 def statuses_text() -> str:
     """The statuses of psi, as a list."""
-    rows = [f"| {status} | {said} |" for status, said in help_block("Exit status")]
+    rows = [f"| {status} | {text} |" for status, text in help_block("Exit status")]
     return "\n".join(["| Status | Meaning |", "|---|---|", *rows])
 
 
@@ -316,11 +316,11 @@ def page(name: str, section: str, about: str, date: str, body: str) -> str:
 
 def guide_of(text: str) -> str:
     """The guide without its title and what it says of the sources."""
-    for said in OF_SOURCES:
-        form = r"\s+".join(map(re.escape, said.split()))
+    for phrase in OF_SOURCES:
+        form = r"\s+".join(map(re.escape, phrase.split()))
         text, count = re.subn(r"\s+" + form, "", text)
         if count != 1:
-            sys.exit(f"man_pages: docs/FORMATS.md doesn't say once:{said}")
+            sys.exit(f"man_pages: docs/FORMATS.md doesn't say once:{phrase}")
     return text.partition("\n")[2]
 
 

@@ -51,10 +51,10 @@ def commands_of(text: str) -> Iterator[str]:
     lines: list[str] = []
     for line in text.splitlines():
         lines.append(line)
-        said = "\n".join(lines)
-        done = subprocess.run(["sh", "-n", "-c", said], capture_output=True)
+        command = "\n".join(lines)
+        done = subprocess.run(["sh", "-n", "-c", command], capture_output=True)
         if done.returncode == 0 and not line.endswith("\\"):
-            yield said
+            yield command
             lines = []
     if lines:
         yield "\n".join(lines)
@@ -232,7 +232,7 @@ def try_pictures(document: Document, clone: Clone) -> None:
 
 def anchor_of(heading: str) -> str:
     """The name of a heading in a link."""
-    kept = "".join(sign for sign in heading.lower() if sign.isalnum() or sign in " -_")
+    kept = "".join(char for char in heading.lower() if char.isalnum() or char in " -_")
     return kept.replace(" ", "-")
 
 
@@ -265,7 +265,7 @@ def changes_of(document: Document) -> Iterator[tuple[int, str, str]]:
     for block in BLOCK.finditer(document.text):
         begin = block.start(2)
         for line in block[2].splitlines(keepends=True):
-            places = [place for place, sign in enumerate(line) if sign.isalnum()]
+            places = [place for place, char in enumerate(line) if char.isalnum()]
             if places and line.strip() not in ("...", *ALIKE):
                 yield begin + places[-1], line.strip(), block[2]
             begin += len(line)
@@ -275,8 +275,8 @@ def changes_of(document: Document) -> Iterator[tuple[int, str, str]]:
 
 def changed(text: str, place: int) -> str:
     """A text with another digit or letter at a place."""
-    sign = text[place]
-    other = str((int(sign) + 1) % 10) if sign.isdigit() else "q" if sign != "q" else "k"
+    char = text[place]
+    other = str((int(char) + 1) % 10) if char.isdigit() else "q" if char != "q" else "k"
     return text[:place] + other + text[place + 1 :]
 
 

@@ -116,5 +116,5 @@ def faults_of_texts(program: str) -> Iterator[str | None]:
             write(room, shown)
             status, out, err = answer([program, *words], room)
             what = f"{file.relative_to(TOP)}: psi {shlex.join(words)} (status {status})"
-            said = (out + err).decode("utf-8", "replace")
-            yield None if status == 0 else f"{what}\n{[*shown.values()][-1].decode()}{said}"
+            printed = (out + err).decode("utf-8", "replace")
+            yield None if status == 0 else f"{what}\n{[*shown.values()][-1].decode()}{printed}"

@@ -1,4 +1,4 @@
-"""Hosts behind ssh and nodes of Slurm, all on this machine, for try_many.py; and processes by their
+"""Hosts behind ssh and nodes of Slurm, all on this machine, for test_many.py; and processes by their
 numbers. Only what was started here is ever ended.
 """
 
@@ -141,10 +141,10 @@ class Host:
 
     def inside(self) -> list[int]:
         """The processes of the namespace."""
-        said = subprocess.run(
+        done = subprocess.run(
             ["ip", "netns", "pids", self.name], env={**os.environ, "PATH": PATH}, capture_output=True, text=True
         )
-        return [int(word) for word in said.stdout.split()]
+        return [int(word) for word in done.stdout.split()]
 
     def cut(self) -> None:
         run("ip", "link", "set", self.link, "down")
@@ -259,5 +259,5 @@ def slurm(count: int) -> Iterator[tuple[dict[str, str], list[Node]]]:
 
 def idle_nodes(environment: Mapping[str, str]) -> int:
     words = ["sinfo", "--noheader", "--Node", "--states=idle", "--format=%N"]
-    said = subprocess.run(words, env=environment, capture_output=True, text=True)
-    return len(said.stdout.split())
+    done = subprocess.run(words, env=environment, capture_output=True, text=True)
+    return len(done.stdout.split())

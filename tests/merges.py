@@ -181,11 +181,11 @@ TOO_LARGE = "too many samples", (LARGE, LARGE, "too large line 2")
 def all_cases() -> dict[str, tuple[tuple[str, ...], str | None]]:
     """Each case by its name: the texts of its files, and what is said of the last, if anything."""
     cases: dict[str, tuple[tuple[str, ...], str | None]] = {}
-    cases |= {name: ((text,), said) for name, (text, said) in FILES.items()}
+    cases |= {name: ((text,), message) for name, (text, message) in FILES.items()}
     for name, (first, second, line) in PAIRS.items():
         cases[name] = (first, second), f"other network line {line}" if line else None
-    for name, (first, second, said) in (SECOND_REFUSED, TOO_LARGE):
-        cases[name] = (first, second), said
+    for name, (first, second, message) in (SECOND_REFUSED, TOO_LARGE):
+        cases[name] = (first, second), message
     return cases
 
 
@@ -225,12 +225,12 @@ def wanted_of_texts(texts: Sequence[str]) -> Answer:
         files = [pathlib.Path(folder, f"{place}.csv") for place in range(len(texts))]
         for file, text in zip(files, texts):
             file.write_bytes(text.encode())
-        status, out, said = said_in_python(files)
-        line = f"psi_merge: {said}\n".replace(f"{folder}/", "") if said else ""
+        status, out, message = ending_in_python(files)
+        line = f"psi_merge: {message}\n".replace(f"{folder}/", "") if message else ""
         return status, out, line.encode()
 
 
-def said_in_python(files: Sequence[pathlib.Path]) -> tuple[int, bytes, str]:
+def ending_in_python(files: Sequence[pathlib.Path]) -> tuple[int, bytes, str]:
     """The status of a merge by the tool, what it prints, and what it says, without a process."""
     try:
         return 0, merge_reports.merged(map(str, files)).text(), ""

@@ -107,10 +107,10 @@ def batches_from(net, columns, lost=None):
     streams aren't coupled, `lost` says which."""
     known = numpy.ones(columns[0][2].shape, bool) if lost is None else ~lost
     rows = []
-    for sort, name, values in columns:
+    for kind, name, values in columns:
         sums = [int(x) for x in (values * known).sum(axis=1)]
         seen = values[known]
-        rows.append(Row(sort, name, sums, int(seen.min()), int(seen.max())))
+        rows.append(Row(kind, name, sums, int(seen.min()), int(seen.max())))
     met = [int(x) for x in known.sum(axis=1)]
     found = Batches([known.shape[1]] * known.shape[0], met, [{}] * known.shape[0], rows)
     return found.of_network(net) if HAS_SPANS else found

@@ -77,9 +77,9 @@ class Trial:
             text=True,
             env=environment,
         )
-        said = [line[:SHOWN] for line in done.stderr.splitlines()]
+        lines = [line[:SHOWN] for line in done.stderr.splitlines()]
         calls = [line.split() for line in self.calls.read_text().splitlines()]
-        return done.returncode, done.stdout, said, calls
+        return done.returncode, done.stdout, lines, calls
 
 
 def begun(calls: list[list[str]]) -> list[str]:
@@ -105,8 +105,8 @@ def test_rows() -> None:
 
 def try_first(hold: Held, trial: Trial) -> None:
     """A build from nothing."""
-    status, out, said, calls = trial.build()
-    hold((status, out) == (0, ""), f"a build ends with {status} {out} {said}")
+    status, out, lines, calls = trial.build()
+    hold((status, out) == (0, ""), f"a build ends with {status} {out} {lines}")
     wanted = [name for name in crates_below(trial.top) if "psi" in crates_above(trial.top, [name])]
     hold(sorted(begun(calls)) == sorted(wanted), f"it proves {begun(calls)}")
     ended: set[str] = set()
@@ -116,23 +116,23 @@ def try_first(hold: Held, trial: Trial) -> None:
             hold(not early, f"{name} is begun before {early} are proved")
         else:
             ended.add(name)
-    counts = [int(found[1]) for line in said if (found := re.match(r"psi: (\d+) of \d+ ", line))]
+    counts = [int(found[1]) for line in lines if (found := re.match(r"psi: (\d+) of \d+ ", line))]
     hold(counts == sorted(counts) and len(counts) >= len(wanted) // 2, f"progress is {counts}")
-    hold(f"proving {len(wanted)} crates" in " ".join(said), f"it says {said[:3]}")
-    hold(not any("logic" in line for line in said), "it says that the toolchain is another")
+    hold(f"proving {len(wanted)} crates" in " ".join(lines), f"it says {lines[:3]}")
+    hold(not any("logic" in line for line in lines), "it says that the toolchain is another")
     hold(not (trial.top / "crates/psi/out/lanes").exists(), "it leaves its lanes")
 
 
 def try_later(hold: Held, trial: Trial) -> None:
     """Builds after the first one."""
-    status, _, said, calls = trial.build()
-    hold((status, said, calls) == (0, [], []), f"a second build does {said} {calls}")
+    status, _, lines, calls = trial.build()
+    hold((status, lines, calls) == (0, [], []), f"a second build does {lines} {calls}")
     source = trial.top / "crates/psi_log_words/src/lib.rt"
     source.touch()
     hold(trial.build()[3] == [], "a source that is newer and the same is proved")
     source.write_text(source.read_text() + "// A change.\n")
     wanted = crates_above(trial.top, ["psi_log_words"]) & {*trial.crates.names}
-    status, _, said, calls = trial.build()
+    status, _, lines, calls = trial.build()
     hold({*begun(calls)} == wanted, f"after a change it proves {begun(calls)}, not {wanted}")
 
 
@@ -140,18 +140,18 @@ def try_failures(hold: Held, trial: Trial) -> None:
     """Proofs that fail, and that something ends."""
     source = trial.top / "crates/psi_state/src/lib.rt"
     source.write_text(source.read_text() + "// A change.\n")
-    status, _, said, calls = trial.build(RT_FAILS="psi_event")
+    status, _, lines, calls = trial.build(RT_FAILS="psi_event")
     late = crates_above(trial.top, ["psi_event"]) - {"psi_event"}
-    hold(status == 126 and "the build failed" in said[-1], f"a failure ends with {status} {said}")
+    hold(status == 126 and "the build failed" in lines[-1], f"a failure ends with {status} {lines}")
     hold(not late & {*begun(calls)}, f"above a crate that fails it proves {begun(calls)}")
-    status, _, said, calls = trial.build(RT_KILLED="psi_event")
+    status, _, lines, calls = trial.build(RT_KILLED="psi_event")
     again = begun(calls).count("psi_event")
     hold((status, again) == (0, 2), f"a proof that is killed: {status}, begun {again} times")
     source.write_text(source.read_text() + "// Another change.\n")
-    status, _, said, calls = trial.build("a-kit logic 0123456789abcdef")
+    status, _, lines, calls = trial.build("a-kit logic 0123456789abcdef")
     hold({*begun(calls)} == {*trial.crates.names}, f"with another toolchain: {begun(calls)}")
-    noted = [line for line in said if "PSI was tried with" in line]
-    hold((status, len(noted)) == (0, 1), f"with another logic it says {said[:3]}")
+    noted = [line for line in lines if "PSI was tried with" in line]
+    hold((status, len(noted)) == (0, 1), f"with another logic it says {lines[:3]}")
 
 
 def played(schedule: Schedule, true_seconds: Callable[[str, int], float]) -> tuple[float, list[tuple[float, float]]]:

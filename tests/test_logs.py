@@ -41,9 +41,9 @@ def both_answers(program: str, net: str, text: str) -> tuple[Answer, Answer]:
         return answer([program, "replay", *files], room), answer([*CHECKER, *files], room)
 
 
-def cause_of(said: Answer) -> str:
+def cause_of(found: Answer) -> str:
     """What is said of a log, without its line, or its horizon."""
-    words = (said[1] + said[2]).decode().split()
+    words = (found[1] + found[2]).decode().split()
     return " ".join(words[2:5] if words[:1] == ["psi:"] else words[:1])
 
 
@@ -54,7 +54,7 @@ def test_changed_logs(program: str, hold: Held) -> None:
         changed = [*changed_logs([log for log in found if log])]
         answers = [*pool.map(lambda log: both_answers(program, *log[1:]), changed)]
     absent = {*CAUSES.strip().split("\n")}
-    for (name, net, text), (said, wanted) in zip(changed, answers):
-        absent.discard(cause_of(said))
-        hold(said == wanted, f"{name}: psi says {said}, the checker {wanted}\n{net}\n{text}")
+    for (name, net, text), (found, wanted) in zip(changed, answers):
+        absent.discard(cause_of(found))
+        hold(found == wanted, f"{name}: psi says {found}, the checker {wanted}\n{net}\n{text}")
     hold(not absent, f"no log is {absent}")

@@ -41,13 +41,13 @@ class Checks:
     def __init__(self, hold: Held) -> None:
         self.hold = hold
 
-    def __call__(self, name: str, fact: object, said: object = "") -> None:
-        self.hold(fact, f"{name}: {said!s}")
+    def __call__(self, name: str, fact: object, message: object = "") -> None:
+        self.hold(fact, f"{name}: {message!s}")
 
     def same(self, name: str, ended: Ended, wanted: bytes) -> None:
         """A call has printed the report."""
-        status, out, said = ended
-        self(name, status == 0 and out == wanted, f"status {status}\n{out.decode()}\n{said}")
+        status, out, message = ended
+        self(name, status == 0 and out == wanted, f"status {status}\n{out.decode()}\n{message}")
 
 
 @pytest.fixture
@@ -121,11 +121,11 @@ class Place:
 def ended(run: "subprocess.Popen[bytes]") -> Ended:
     """How a call ends, which is killed where it takes too long."""
     try:
-        out, said = run.communicate(timeout=SECONDS)
+        out, message = run.communicate(timeout=SECONDS)
     except subprocess.TimeoutExpired:
         places.kill([run.pid, *places.descendants(run.pid)])
-        out, said = run.communicate()
-    return run.returncode, out, said.decode(errors="replace")
+        out, message = run.communicate()
+    return run.returncode, out, message.decode(errors="replace")
 
 
 @contextlib.contextmanager
@@ -213,9 +213,9 @@ def test_texts_cut_short(program: str, check: Checks) -> None:
             check.same(f"each block first {name}", here.run(*call, psi=cut), wanted)
     with place(program) as here:
         failing = '[ "$1" = check ] || { echo psi: none >&2; exit 8; }; exec "$PSI" "$@"\n'
-        status, out, said = here.run(*call, psi=here.program("psi", failing))
+        status, out, message = here.run(*call, psi=here.program("psi", failing))
         told = "psi-many: 40 blocks failed, first the streams 0 to 99: psi: none\n"
-        check("blocks that fail each time", (status, out) == (1, b"") and said.endswith(told), said)
+        check("blocks that fail each time", (status, out) == (1, b"") and message.endswith(told), message)
         check.same("the same call by a program that works", here.run(*call), wanted)
 
 
@@ -298,8 +298,8 @@ def test_what_is_refused(program: str, check: Checks) -> None:
 
     def refused(name: str, words: Sequence[object], status: int = 2, **options: Any) -> None:
         answer = here.run(*words, **options)
-        said = answer[2].startswith(("psi-many: ", "usage: psi-many"))
-        check(name, answer[:2] == (status, b"") and said, answer)
+        is_told = answer[2].startswith(("psi-many: ", "usage: psi-many"))
+        check(name, answer[:2] == (status, b"") and is_told, answer)
 
     with place(program) as here:
         here.run(*call, "--folder", "f")
@@ -371,8 +371,8 @@ def test_hosts(program: str, check: Checks) -> None:
         here.wait_for(5)
         for host in hosts:
             host.kill()
-        status, out, said = ended(run)
-        check("all hosts killed", (status, out) == (1, b"") and "blocks failed" in said, said)
+        status, out, message = ended(run)
+        check("all hosts killed", (status, out) == (1, b"") and "blocks failed" in message, message)
         for host in hosts:
             host.begin()
         before = len(here.blocks())

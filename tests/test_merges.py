@@ -16,7 +16,7 @@ from tests.support import TOOLS, Held, beside
 
 CHANGED = 400
 # The status, what is printed, and what is said without the program's name.
-Said = tuple[int, bytes, str]
+Ending = tuple[int, bytes, str]
 STATUSES = {"refused": 3, "other": 4, "too": 5, "cannot": 6}
 CASES = merges.all_cases()
 
@@ -37,16 +37,16 @@ def merge_program(program: str) -> str:
     return str(found)
 
 
-def said_by(program: Sequence[str], files: Sequence[object]) -> Said:
+def ending_of(program: Sequence[str], files: Sequence[object]) -> Ending:
     """The status of a merge, what it prints, and what it says without its name."""
     done = subprocess.run([*program, *map(str, files)], capture_output=True)
-    said = done.stderr.decode(errors="replace")
-    return done.returncode, done.stdout, said.partition(": ")[2].removesuffix("\n")
+    message = done.stderr.decode(errors="replace")
+    return done.returncode, done.stdout, message.partition(": ")[2].removesuffix("\n")
 
 
-def refusal(said: str, file: pathlib.Path) -> Said:
+def refusal(message: str, file: pathlib.Path) -> Ending:
     """How a merge ends that is refused so."""
-    return STATUSES[said.split()[0]], b"", f"{said} {file}"
+    return STATUSES[message.split()[0]], b"", f"{message} {file}"
 
 
 def written(folder: pathlib.Path, texts: Mapping[str, str]) -> list[pathlib.Path]:
@@ -60,11 +60,11 @@ def written(folder: pathlib.Path, texts: Mapping[str, str]) -> list[pathlib.Path
 @pytest.mark.parametrize("name", CASES)
 def test_a_merge(merger: list[str], tmp_path: pathlib.Path, name: str) -> None:
     """The refusal of the last file, or the report of all, which of one file is its text."""
-    texts, said = CASES[name]
+    texts, message = CASES[name]
     files = written(tmp_path, {str(place): text for place, text in enumerate(texts)})
-    status, out, err = said_by(merger, files)
-    if said:
-        assert (status, out, err) == refusal(said, files[-1])
+    status, out, err = ending_of(merger, files)
+    if message:
+        assert (status, out, err) == refusal(message, files[-1])
     else:
         assert (status, err) == (0, "")
         assert len(texts) > 1 or out == texts[0].encode()
@@ -81,17 +81,19 @@ ORDERS = (
 )
 
 
-@pytest.mark.parametrize("names, said, told", ORDERS)
-def test_files_are_read_in_order(merger: list[str], tmp_path: pathlib.Path, names: str, said: str, told: str) -> None:
+@pytest.mark.parametrize("names, message, named", ORDERS)
+def test_files_are_read_in_order(
+    merger: list[str], tmp_path: pathlib.Path, names: str, message: str, named: str
+) -> None:
     """A file is read only where those before it are accepted and merged."""
     written(tmp_path, {"base": BASE, "wrong": WRONG, "other": OTHER})
     files = {name: tmp_path / f"{name}.csv" for name in names.split()}
-    assert said_by(merger, [*files.values()]) == refusal(said, files[told])
+    assert ending_of(merger, [*files.values()]) == refusal(message, files[named])
 
 
 @pytest.mark.parametrize("words", ([], ["-x"]))
 def test_no_files(merger: list[str], words: list[str]) -> None:
-    assert said_by(merger, words)[:2] == (2, b"")
+    assert ending_of(merger, words)[:2] == (2, b"")
 
 
 def test_changed_reports(program: str, hold: Held, tmp_path: pathlib.Path) -> None:
@@ -100,7 +102,7 @@ def test_changed_reports(program: str, hold: Held, tmp_path: pathlib.Path) -> No
     for _ in range(CHANGED):
         texts = merges.some_texts(chance)
         files = written(tmp_path, {str(place): text for place, text in enumerate(texts)})
-        found, wanted = said_by([psi_merge], files), merges.said_in_python(files)
+        found, wanted = ending_of([psi_merge], files), merges.ending_in_python(files)
         kinds.add(found[0])
         hold(found == wanted, f"{texts}: {found} {wanted}")
     hold(kinds >= {0, 3, 4, 5}, f"the statuses are {kinds} alone")

@@ -19,6 +19,6 @@ def test_no_call_takes_memory() -> None:
     data = [word for name in FILES for word in ("--data", f"{name}.toml=data/{name}.toml")]
     words = ["rt", "try", *data, "--fail-alloc", "1000", "--cases", "words"]
     _, out, err = answer(words, CRATE, seconds=SECONDS)
-    said = (out + err).decode(errors="replace")
-    given = re.findall(r"^\d+ are given$", said, re.M)
-    assert len(given) == 2 and len({*given}) == 1, said
+    printed = (out + err).decode(errors="replace")
+    given = re.findall(r"^\d+ are given$", printed, re.M)
+    assert len(given) == 2 and len({*given}) == 1, printed

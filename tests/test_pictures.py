@@ -361,9 +361,9 @@ def test_refusals(hold: Held, tmp_path: pathlib.Path) -> None:
         calls.append([what, f"{place}.txt", "-o", "drawn.svg"])
     with concurrent.futures.ThreadPoolExecutor(os.cpu_count()) as pool:
         answers = [*pool.map(lambda words: answer(words, tmp_path), calls)]
-    for words, (status, said, told) in zip(calls, answers):
-        is_refused = (status, said) == (2, "") and re.fullmatch("psi-plot: [^\n]+\n", told)
-        hold(is_refused, f"{words}: {status} {told}")
+    for words, (status, out, err) in zip(calls, answers):
+        is_refused = (status, out) == (2, "") and re.fullmatch("psi-plot: [^\n]+\n", err)
+        hold(is_refused, f"{words}: {status} {err}")
     hold(not (tmp_path / "drawn.svg").exists(), "what is refused is drawn")
     hold(place >= 49, f"only {place + 1} inputs are broken")
 
@@ -382,10 +382,10 @@ def test_words(hold: Held, tmp_path: pathlib.Path) -> None:
     names = re.findall(rb'<clipPath id="([^"]*)"', first)
     numbered = [b"clip%d" % number for number in range(len(names))]
     hold(names and sorted(names) == sorted(numbered), f"clip paths are called {names}")
-    status, _, told = answer(["report", "small.csv", "-o", "absent/drawn.svg"], tmp_path)
-    hold(status == 7 and told.count("\n") == 1, f"an absent folder: {status} {told}")
-    status, said, told = answer(["-h"], tmp_path)
-    hold(status == 0 and "psi-plot coupling" in said and not told, "the words aren't told")
+    status, _, err = answer(["report", "small.csv", "-o", "absent/drawn.svg"], tmp_path)
+    hold(status == 7 and err.count("\n") == 1, f"an absent folder: {status} {err}")
+    status, out, err = answer(["-h"], tmp_path)
+    hold(status == 0 and "psi-plot coupling" in out and not err, "the words aren't told")
 
 
 def test_pictures_of_the_tour(hold: Held, program: str) -> None:
@@ -404,5 +404,5 @@ def test_pictures_of_the_tour(hold: Held, program: str) -> None:
     for shown_words, wanted in re.findall(form, text, re.M | re.S):
         words = [sys.executable, *shown_words.split()]
         done = subprocess.run(words, cwd=TOP, capture_output=True, text=True, env=environment)
-        said = done.stdout
-        hold(said == wanted, f"{words} print {said}")
+        out = done.stdout
+        hold(out == wanted, f"{words} print {out}")

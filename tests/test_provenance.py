@@ -24,8 +24,8 @@ ROWS = [
     for line in (DATA / "PROVENANCE").read_text().splitlines()
     if line and not line.startswith("#")
 ]
-SOURCE = {name: (kind, said) for name, kind, said in ROWS}
-MADE = {name: said for name, (kind, said) in SOURCE.items() if kind == "made"}
+SOURCE = {name: (kind, note) for name, kind, note in ROWS}
+MADE = {name: note for name, (kind, note) in SOURCE.items() if kind == "made"}
 # Files that take more than some seconds to make.
 SLOW = {"small.cases": [pytest.mark.slow], "small-exact.cases": [pytest.mark.slow]}
 SLOW["sweeps.cases"] = [pytest.mark.slow, pytest.mark.release]

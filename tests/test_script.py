@@ -191,15 +191,15 @@ def on_terminal(words: Sequence[object], folder: pathlib.Path) -> tuple[int, byt
         [str(word) for word in words], cwd=folder, stdin=subprocess.PIPE, stdout=subprocess.PIPE, stderr=other
     )
     os.close(other)
-    out, said = run.communicate(b"version = 3\n")[0], b""
+    out, shown = run.communicate(b"version = 3\n")[0], b""
     try:
         while piece := os.read(own, 4096):
-            said += piece
+            shown += piece
     except OSError:
         # So a terminal ends.
         pass
     os.close(own)
-    return run.returncode, out, said.decode().replace("\r\n", "\n").splitlines()
+    return run.returncode, out, shown.decode().replace("\r\n", "\n").splitlines()
 
 
 def test_terminal(hold: Held, script: pathlib.Path, program: str, built: pathlib.Path) -> None:
@@ -213,11 +213,11 @@ def test_terminal(hold: Held, script: pathlib.Path, program: str, built: pathlib
     for words, (place, sentence) in calls.items():
         status, out, line = ended([program, *words], built)[0]
         found = on_terminal([script, *words], built)
-        said = found[2]
-        same = (status, out, line.decode().splitlines()) == (*found[:2], said[:1])
+        shown = found[2]
+        same = (status, out, line.decode().splitlines()) == (*found[:2], shown[:1])
         hold(same, f"{script} {words} on a terminal: {found}, not {status} {line!r}")
-        hold(len(said) > 2 and said[1] == place, f"{words} has no line {place}: {said}")
-        hold(sentence in " ".join(said[2:]), f"{words} doesn't say {sentence}: {said}")
+        hold(len(shown) > 2 and shown[1] == place, f"{words} has no line {place}: {shown}")
+        hold(sentence in " ".join(shown[2:]), f"{words} doesn't say {sentence}: {shown}")
     # What comes through a pipe can't be read a second time.
     for others in (["nonsense"], ["check", NET], ["check", "absent.toml"], ["check", "/dev/stdin"]):
         status, out, line = ended([program, *others], built)[0]

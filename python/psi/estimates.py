@@ -147,7 +147,7 @@ def means(
     -------
     pandas.DataFrame
         A row for each queue, in customers, and each reward, in its unit. The index has two levels,
-        sort, which is 'queue' or 'reward', and name. The columns are mean; half, low and high of
+        kind, which is 'queue' or 'reward', and name. The columns are mean; half, low and high of
         the interval; least and greatest of the samples. Where low and high are not symmetric they
         say more than half.
 
@@ -189,7 +189,7 @@ def means(
     warn_uncoupled(batches.uncoupled, count, "the means are of the others, and biased; intervals are wider")
     columns = ["mean", "half", "low", "high", "least", "greatest"]
     names = [("reward" if row.kind == REWARD else "queue", row.name) for row in batches.rows]
-    index = pandas.MultiIndex.from_tuples(names, names=["sort", "name"])
+    index = pandas.MultiIndex.from_tuples(names, names=["kind", "name"])
     if guaranteed:
         claims, records = guaranteed_means(batches, level)
         table = pandas.DataFrame(records, index=index, columns=columns)

@@ -128,12 +128,12 @@ def test_a_bar_is_shown_for_long_work_alone(monkeypatch, capsys):
     tqdm = pytest.importorskip("tqdm.auto")
     made = []
 
-    class Told(tqdm.tqdm):
+    class Counted(tqdm.tqdm):
         def __init__(self, *args, **named):
             made.append(self)
             super().__init__(*args, **{**named, "disable": False})
 
-    monkeypatch.setattr(tqdm, "tqdm", Told)
+    monkeypatch.setattr(tqdm, "tqdm", Counted)
     from psi.calls import ProgressBar
 
     bar = ProgressBar(10, "blocks")

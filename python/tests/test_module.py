@@ -119,8 +119,8 @@ def test_means_of_streams_that_are_not_coupled_are_wider(psi, program):
     assert lost > 200
     net = psi.Network.read(file)
     capacity = dict(zip(net.queues, net.capacities))
-    for (sort, name), row in found.iterrows():
-        if sort == "queue":
+    for (kind, name), row in found.iterrows():
+        if kind == "queue":
             total = rows["sum", name]
             assert row["low"] <= total / 1_000
             assert row["high"] >= min(capacity[name], (total + lost * capacity[name]) / 1_000)

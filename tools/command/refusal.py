@@ -60,13 +60,13 @@ def of_network(line, path):
 
 def of_log(line, path):
     """Returns what there is to say of a log."""
-    said = LOG.fullmatch(line)
-    number, place = int(said[3]), printable(path)
+    found = LOG.fullmatch(line)
+    number, place = int(found[3]), printable(path)
     if number:
         with open(path, "rb") as file:
             text = text_of_line(file.read(MOST_BYTES), number)
         place += f":{number}: {text}"
-    return f"{place}\n{CAUSES[said[1]][said[2]]}\n"
+    return f"{place}\n{CAUSES[found[1]][found[2]]}\n"
 
 
 def main(line, *words):

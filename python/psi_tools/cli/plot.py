@@ -5,7 +5,7 @@ import importlib
 import os
 import pathlib
 from collections.abc import Callable
-from typing import Any, TypeVar
+from typing import TYPE_CHECKING, Any, TypeVar
 
 from psi_tools.arguments import GREATEST, NUMBER
 from psi_tools.cli.command import run
@@ -16,13 +16,16 @@ from psi_tools.errors import InputError, PsiError, reason, require
 from psi_tools.io.exact import Shrinking, read_exact
 from psi_tools.io.output import check_writable, write
 from psi_tools.model.networks import checked
-from psi_tools.plot.forward import Forward
 from psi_tools.plot.network_scene import NetworkPicture
 from psi_tools.plot.past import Past
 from psi_tools.plot.read_log import Coupling, names_of, read_log
 from psi_tools.plot.read_report import Report, Spread, read_report
 from psi_tools.stats.batches import interval_or_none
 from psi_tools.stats.intervals import LEAST_BATCHES
+
+if TYPE_CHECKING:
+    # It imports numpy, which only a picture of forward runs needs.
+    from psi_tools.plot.forward import Forward
 
 Value = TypeVar("Value")
 
@@ -144,7 +147,7 @@ def exact(args: argparse.Namespace, path: str, *others: str) -> Shrinking:
     return read(read_exact, path)
 
 
-def forward(args: argparse.Namespace, path: str, *steps: str) -> Forward:
+def forward(args: argparse.Namespace, path: str, *steps: str) -> "Forward":
     """The forward runs of a network."""
     from psi_tools.plot.forward import forward_of
 

@@ -28,8 +28,8 @@ def sum_of(net: Network, weights: list[int]) -> str:
     for weight, name in zip(weights, net.queues):
         if not weight:
             continue
-        sign = "- " if weight < 0 else "+ "
-        parts.append(sign + (f"{abs(weight)} " if abs(weight) != 1 else "") + name)
+        operator = "- " if weight < 0 else "+ "
+        parts.append(operator + (f"{abs(weight)} " if abs(weight) != 1 else "") + name)
     return " ".join(parts).removeprefix("+ ")
 
 

@@ -41,7 +41,7 @@ def refusal(cause: str, line: int) -> ReportError:
 
 
 class Figure:
-    """A sum or an extreme of a queue or a reward: its sort, which of them it is, name and value."""
+    """A sum or an extreme of a queue or a reward: its kind, which of them it is, name and value."""
 
     def __init__(self, kind: bytes, word: bytes, name: bytes, value: int) -> None:
         self.kind, self.word, self.name, self.value = kind, word, name, value

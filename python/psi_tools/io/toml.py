@@ -117,7 +117,7 @@ class Reader:
         text = self.text[self.at : end].removesuffix("\r")
         wrong = CONTROLS.search(text)
         if wrong:
-            self.fail("a comment has a sign that can't stand in one")
+            self.fail("a comment has a character that can't stand in one")
         self.at += len(text)
 
     def document(self) -> Table:
@@ -313,7 +313,7 @@ class Reader:
                 self.fail("the text in quotes doesn't end on its line")
             is_end = char == "\r" and self.peek(2) == "\r\n"
             if CONTROLS.match(char) and not is_end:
-                self.fail("the text in quotes has a sign that can't stand in one")
+                self.fail("the text in quotes has a character that can't stand in one")
             parts.append(char)
             self.at += 1
 

@@ -118,7 +118,7 @@ class Spans:
 
 
 def spans_of(net: Network, rows: list[Row]) -> dict[tuple[str, str], Span]:
-    """The span of each row of reports of a network, by its sort and its name."""
+    """The span of each row of reports of a network, by its kind and its name."""
     spans = Spans(net, {row.name: row.ends for row in rows if not row.kind and row.ends is not None})
     return {(row.kind, row.name): spans.of(row) for row in rows}
 
