@@ -19,6 +19,15 @@ use psi_region::{Corners, Course, Follower, Regions};
 use psi_route::RouteLaw;
 use std::alloc::Global;
 
+// Returns the follower on states of this many words, where one was made.
+macro_rules! return_found {
+    ($words:ident, $made:expr) => {
+        if let Some(follower) = $made? {
+            return Ok(Some(ByWords::$words(follower)));
+        }
+    };
+}
+
 /// Returns the plan to sample the network from this past. It allocates room for the numbers of the events of the 2 to
 /// the power `limit` steps of the greatest horizon, of 2 bytes each, for a region of `split` states, and for the events
 /// on packed states; where some event isn't monotone, also for `split` packed states. In a network whose customers join
@@ -85,26 +94,10 @@ fn packed_corners<'n, E: PiecewiseLaw>(
     ensures { IfOk result (λ found. IfSome found (λ corners. ⟦<CornersByWords<'n, E> as Follower>⟧.stands_for corners ≡ followed E.function course.now)) }
 {
     match words_needed(course.caps()) {
-        1 => {
-            if let Some(corners) = PackedCorners::new(alloc, course)? {
-                return Ok(Some(ByWords::One(corners)));
-            }
-        }
-        2 => {
-            if let Some(corners) = PackedCorners::new(alloc, course)? {
-                return Ok(Some(ByWords::Two(corners)));
-            }
-        }
-        3 => {
-            if let Some(corners) = PackedCorners::new(alloc, course)? {
-                return Ok(Some(ByWords::Three(corners)));
-            }
-        }
-        4 => {
-            if let Some(corners) = PackedCorners::new(alloc, course)? {
-                return Ok(Some(ByWords::Four(corners)));
-            }
-        }
+        1 => return_found!(One, PackedCorners::new(alloc, course)),
+        2 => return_found!(Two, PackedCorners::new(alloc, course)),
+        3 => return_found!(Three, PackedCorners::new(alloc, course)),
+        4 => return_found!(Four, PackedCorners::new(alloc, course)),
         _ => {}
     }
     Ok(None)
@@ -131,26 +124,10 @@ fn packed_sets<'n, E: PiecewiseLaw>(
     ensures { IfOk result (λ found. IfSome found (λ sets. ⟦<SetsByWords<'n, E> as Follower>⟧.stands_for sets ≡ followed E.function course.now)) }
 {
     match words_needed(course.caps()) {
-        1 => {
-            if let Some(sets) = PackedSets::new(alloc, course)? {
-                return Ok(Some(ByWords::One(sets)));
-            }
-        }
-        2 => {
-            if let Some(sets) = PackedSets::new(alloc, course)? {
-                return Ok(Some(ByWords::Two(sets)));
-            }
-        }
-        3 => {
-            if let Some(sets) = PackedSets::new(alloc, course)? {
-                return Ok(Some(ByWords::Three(sets)));
-            }
-        }
-        4 => {
-            if let Some(sets) = PackedSets::new(alloc, course)? {
-                return Ok(Some(ByWords::Four(sets)));
-            }
-        }
+        1 => return_found!(One, PackedSets::new(alloc, course)),
+        2 => return_found!(Two, PackedSets::new(alloc, course)),
+        3 => return_found!(Three, PackedSets::new(alloc, course)),
+        4 => return_found!(Four, PackedSets::new(alloc, course)),
         _ => {}
     }
     Ok(None)
