@@ -145,7 +145,7 @@ fn keep_places<P: Past>(
     ensures words { P.words past.new ≡ P.words past.old }
 {
     let mut place = reached;
-    // Made once for all windows of these places: to make them writes all of both arrays.
+    // Made once for all windows of a call, which are of at most 1,024 places: to make both arrays writes 1.5 KiB.
     let mut words = [0; WINDOW as usize];
     let mut numbers = [0; WINDOW as usize];
     while place < end {
