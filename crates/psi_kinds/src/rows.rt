@@ -48,7 +48,7 @@ impl Row {
         }
     }
 
-    // Shares the table.
+    // Shares an index table, and copies plain values.
     pub(crate) fn share(&self, alloc: Global) -> Result<Row, OutOfMemory>
         ensures { IfOk result (λ row. row_of row ≡ row_of self.now) }
     {

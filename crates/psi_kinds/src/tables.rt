@@ -92,8 +92,8 @@ impl Tables {
         Ok(())
     }
 
-    /// Returns a copy of the tables. Those whose least and greatest values are kept are shared, so only the list of the
-    /// tables is allocated for them.
+    /// Returns a copy of the tables. Those whose least and greatest values are at hand are shared; the values of the
+    /// others are copied.
     ///
     /// # Errors
     ///

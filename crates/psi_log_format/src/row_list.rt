@@ -330,8 +330,8 @@ impl<'l> Rows<'l> {
         x.is_row(self.row(place))
     }
 
-    /// As [`is_at`](Rows::is_at), of a state that is known to have as many queues: short rows are compared number by
-    /// number.
+    /// As [`is_at`](Rows::is_at), of a state that is known to have as many queues: where these are four to eight, the
+    /// first four numbers are compared at once.
     #[inline]
     pub fn is_there(&self, place: usize, x: &State) -> bool
         requires place { place < length self.now.states }
