@@ -44,7 +44,7 @@ fn same_of_eight(bytes: &[u8], others: &[u8]) -> usize
     ((own ^ other).trailing_zeros() / 8) as usize
 }
 
-// With how many equal bytes two texts of fewer than eight bytes begin.
+// With how many equal bytes two texts begin, one of which has fewer than eight bytes.
 fn few_alike(text: &[u8], other: &[u8]) -> usize
     ensures within { result ≤ length text.now }
     ensures other { result ≤ length other.now }
