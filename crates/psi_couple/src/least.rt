@@ -3,6 +3,7 @@
 ghost use Rattle.std.specs.Prelude.{◌≡◌, ◌/◌, ◌^◌, ◌≤◌, suc, Some};
 ghost use Rattle.psi_rate.specs.Composition.{system_functions};
 ghost use Rattle.psi_rate.specs.Least.{HasNoneBelow, IsLeast};
+ghost use Rattle.psi_rate.specs.System.{IsSystem};
 ghost use Rattle.psi_horizon.specs.Runs.{ending_at};
 ghost use Rattle.psi_horizon.specs.Planned.{IsOver};
 ghost use Rattle.psi_couple.specs.Coupling.{coupled_within, IsCoupled, ReachesCoupled, DecidesCoupled, CouplesWithin};
@@ -59,6 +60,7 @@ fn least_up_to<E: EventLaw, P: Past + Drop, F: Follower + Drop>(
     met: u32,
     state: State,
 ) -> u32
+    requires fit { IsSystem E.capacities plan.old.system }
     requires some { 1 ≤ met }
     requires most { met ≤ 2 ^ plan.old.system.limit }
     requires met { let f = system_functions E.function plan.old.system (P.words plan.old.past) in
@@ -72,8 +74,6 @@ fn least_up_to<E: EventLaw, P: Past + Drop, F: Follower + Drop>(
     ensures words { P.words plan.new.past ≡ P.words plan.old.past }
     ensures over { IsOver plan.new.run }
 {
-    // Called for its clause: the system's parts fit each other.
-    let _limit = plan.limit();
     let mut low = met / 2;
     let mut high = met;
     while high - low > 1 {

@@ -2,6 +2,7 @@
 use Rattle.std.proofs.Common.{ℕ, suc, ◌/◌, ◌^◌, ◌≤◌, sym, subst}
 use Rattle.psi_rate.specs.Composition.{Parts, system_functions}
 use Rattle.psi_rate.specs.Least.{HasNoneBelow, IsLeast}
+use Rattle.psi_rate.specs.System.{IsSystem}
 use Rattle.psi_rate.proofs.FunctionsLemmas.{functions-closed}
 use Rattle.psi_horizon.specs.Runs.{ending_at}
 use Rattle.psi_horizon.proofs.RunsLemmas.{ending-reached}
@@ -9,6 +10,9 @@ use Rattle.psi_couple.specs.declared.answers.Coupled.TheVariants.{At, NotAt}
 use Rattle.psi_couple.proofs.PlansLemmas.{same-both}
 use Rattle.psi_couple.proofs.CouplingLemmas.{first-within, none_below-half, none_below-not_met, coupled_within-at, coupled_within-only, coupled-decides}
 use Rattle.psi_couple.proofs.least.least_horizon.Goals as goal
+
+pub least_up_to-requires-clause-fit : goal.least_up_to-requires-clause-fit
+least_up_to-requires-clause-fit g c = subst (λ (s : Parts g.row.E.Denot). IsSystem g.E.EventLaw.capacities s) (sym c.sample.ensures.system) c.limit-limit.ensures.fit
 
 pub least_up_to-requires-clause-most : goal.least_up_to-requires-clause-most
 least_up_to-requires-clause-most g c =

@@ -14,7 +14,7 @@ loop-high-preserved-then-is_some g c =
     let middle = c.loop-high.low + (c.loop-high.high - c.loop-high.low) / 2 in
     let kept = c.loop-high.invariant in
     let test = c.loop-high-test.true in
-    let closed = functions-closed g.E.EventLaw.capacities g.E.EventLaw.function system words g.met.E.EventLaw.closed c.limit-limit.ensures.fit.same_caps in
+    let closed = functions-closed g.E.EventLaw.capacities g.E.EventLaw.function system words g.met.E.EventLaw.closed c.requires.fit.same_caps in
     let run_of = λ (s : Parts g.row.E.Denot) (w : ℕ → ℕ). ending_at s.split (system_functions g.E.EventLaw.function s w) s.caps middle in
     let is = c.ending.ensures.ending ∙ (ap (λ s. run_of s (g.P.Past.words c.loop-high.plan.past)) kept.system ∙ ap (λ w. run_of system w) kept.words) in
     record {
@@ -34,7 +34,7 @@ loop-high-preserved g c =
     let middle = c.loop-high.low + (c.loop-high.high - c.loop-high.low) / 2 in
     let system = c.args.plan.now.system in
     let words = g.P.Past.words c.args.plan.now.past in
-    let closed = functions-closed g.E.EventLaw.capacities g.E.EventLaw.function system words g.met.E.EventLaw.closed c.limit-limit.ensures.fit.same_caps in
+    let closed = functions-closed g.E.EventLaw.capacities g.E.EventLaw.function system words g.met.E.EventLaw.closed c.requires.fit.same_caps in
     let run_of = λ (s : Parts g.row.E.Denot) (w : ℕ → ℕ). ending_at s.split (system_functions g.E.EventLaw.function s w) s.caps middle in
     let is = c.ending.ensures.ending ∙ (ap (λ s. run_of s (g.P.Past.words c.loop-high.plan.past)) kept.system ∙ ap (λ w. run_of system w) kept.words) in
     record {
