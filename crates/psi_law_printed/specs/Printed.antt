@@ -73,7 +73,7 @@ pub record IsCounted (bytes : List ℕ) (net : Network) : Type 0 where
 abbrev pub SamplesAreCounted : Type 0
 SamplesAreCounted = (bytes : List ℕ) (net : Network) → network_of bytes ≡ Ok net → IsCounted bytes net
 
--- the pasts of a seed and so many streams, from the first on: each has the words of the seed and its stream
+-- the pasts of a seed and of `count` streams, from the first on: each has the words of the seed and its stream
 abbrev pub pasts_of : (seed first count : ℕ) → List Words
 pasts_of seed first count = map (λ stream. seed_word seed stream) (numbers_from first count)
 
