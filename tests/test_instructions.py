@@ -1,4 +1,5 @@
-"""Six runs take the instructions that they took when their bounds were written, within 3 %."""
+"""Six runs take the instructions that they took when their bounds were written, within 3 %, where the
+toolchain's kit has bounds."""
 
 import sys
 
@@ -12,3 +13,5 @@ from tests.support import TOP, answer
 def test_instructions(program: str) -> None:
     status, out, err = answer([sys.executable, "bench/instructions.py", program], TOP, seconds=600)
     assert status == 0, (out + err).decode()
+    last = out.decode().splitlines()[-1]
+    assert last == "6 runs within their bounds, 0 above" or last.endswith(": nothing is compared")
