@@ -6,9 +6,9 @@ import types
 import pytest
 import test_course
 import test_course_questions
-from course import FOLDER, Course, answers_of, changes_of
+from course import Course, answers_of, changes_of
 
-PAGES = sorted(path.name for path in FOLDER.glob("*.md"))
+PAGES = [*Course.read().pages]
 CHECKS = [
     check
     for module in (test_course, test_course_questions)
