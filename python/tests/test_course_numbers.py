@@ -31,7 +31,6 @@ def fails(check, given):
     return False
 
 
-@pytest.mark.slow
 @pytest.mark.parametrize("name", PAGES)
 def test_each_number_is_compared(answer, tmp_path, name):
     """No number of a page can be another one unnoticed, while the page as it is passes all tests."""
