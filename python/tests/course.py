@@ -3,13 +3,14 @@
 from __future__ import annotations
 
 import functools
+import json
 import re
 import subprocess
 from collections.abc import Callable, Iterator
 
 from conftest import SECONDS, TOP
 
-FOLDER = TOP / "docs/course"
+FOLDER, NOTEBOOK = TOP / "docs/course", TOP / "docs/psi-in-python.ipynb"
 WORDS = "no one two three four five six seven eight nine ten eleven twelve".split()
 SECTION = re.compile(r"^## (\d+)\. (.*)\n", re.M)
 # What another number is written as, where it is a word.
@@ -21,7 +22,7 @@ OTHERS = dict(zip(WORDS[1:], [*WORDS[2:], "eleven"])) | {
 }
 # A number in figures or as a word; `one` is a number only before what is counted.
 LISTED = "|".join(word for word in OTHERS if word != "one")
-NUMBER = re.compile(rf"\d+|[₀-₉]|\b(?:{LISTED})\b|\bone(?= (?:job|queue|state|step)\b)", re.I)
+NUMBER = re.compile(rf"(?<![A-Za-z])\d+|[₀-₉]|\b(?:{LISTED})\b|\bone(?= (?:job|queue|state|step)\b)", re.I)
 Answer = Callable[..., str]
 
 
@@ -43,8 +44,14 @@ def hold(text: str, sentences: tuple[str, ...]) -> None:
         assert text.count(sentence) == 1, sentence
 
 
+def cells_of_notebook(kind: str) -> str:
+    """The cells of the notebook of this kind, one after the other."""
+    cells = json.loads(NOTEBOOK.read_text())["cells"]
+    return "\n\n".join("".join(cell["source"]) for cell in cells if cell["cell_type"] == kind)
+
+
 class Course:
-    """The pages of the course, by their names."""
+    """The pages of the course, by their names, and the prose of the notebook."""
 
     def __init__(self, pages: dict[str, str]) -> None:
         self.pages = pages
@@ -53,7 +60,8 @@ class Course:
     @classmethod
     def read(cls) -> Course:
         """The course as it is stored."""
-        return cls({path.name: path.read_text() for path in sorted(FOLDER.glob("*.md"))})
+        pages = {path.name: path.read_text() for path in sorted(FOLDER.glob("*.md"))}
+        return cls({**pages, NOTEBOOK.name: cells_of_notebook("markdown")})
 
     def changed(self, name: str, page: str) -> Course:
         """The course with another page of this name."""

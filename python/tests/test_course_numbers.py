@@ -6,9 +6,9 @@ import types
 import pytest
 import test_course
 import test_course_questions
-from course import FOLDER, Course, answers_of, changes_of
+from course import Course, answers_of, changes_of
 
-PAGES = sorted(path.name for path in FOLDER.glob("*.md"))
+PAGES = [*Course.read().pages]
 CHECKS = [
     check
     for module in (test_course, test_course_questions)
@@ -31,7 +31,6 @@ def fails(check, given):
     return False
 
 
-@pytest.mark.slow
 @pytest.mark.parametrize("name", PAGES)
 def test_each_number_is_compared(answer, tmp_path, name):
     """No number of a page can be another one unnoticed, while the page as it is passes all tests."""

@@ -8,7 +8,7 @@ from math import factorial
 
 import pytest
 from conftest import TOP
-from course import FOLDER, WORDS, Course, answers_of
+from course import FOLDER, NOTEBOOK, WORDS, Course, answers_of, cells_of_notebook
 from oracle.plain_network import Network
 
 
@@ -196,6 +196,36 @@ def test_the_sheet(course: Course):
     )
     course.page_has("sheet.md", "One step applies one event", "Two designs with the", "At the end one state is left.")
     assert re.findall(r"^(\d)\. ", course.pages["sheet.md"], re.M) == ["1", "2", "3", "4"]
+
+
+def test_the_notebook(course: Course):
+    """The numbers in the prose of the notebook are those of its code, and of the files that it reads."""
+    code = cells_of_notebook("code")
+    places, arrival, service, limit, total = (
+        int(re.search(pattern, code)[1])
+        for pattern in (
+            r'queue\("desk", capacity=(\d+)\)',
+            r'"arrival", rate=(\d+)',
+            r'"service", rate=(\d+)',
+            r'heads\["limit"\] = (\d+)',
+            r"total=(\d+)",
+        )
+    )
+    machines = len(table("examples/tandem-blocking.toml")["queue"])
+    assert "ten, eleven = (psi.samples(desk(places), count=2_000)[:, 0] for places in (10, 11))" in code
+    course.page_has(
+        NOTEBOOK.name,
+        f"A desk with {WORDS[places]} places, M/M/1/K: customers arrive at rate {arrival} and are served at rate "
+        f"{service}.",
+        "computes means from it, with 95 % confidence intervals by batches. The last column has the values of the "
+        "formula for M/M/1/K.",
+        "as some 95 of 100 such intervals do.",
+        f"a production line of {WORDS[machines]} machines",
+        "## Two designs under",
+        "The difference of the two means",
+        f"with a past of at most {2**limit} steps:",
+        f"{WORDS[total].capitalize()} programs circulate in a computer",
+    )
 
 
 def test_files_are_there(course: Course):

@@ -181,6 +181,19 @@ def test_the_gallery_shows_the_picture(path):
     assert drawn == shown
 
 
+@pytest.mark.parametrize("path", GALLERY, ids=lambda path: path.stem)
+def test_the_gallery_has_a_line_and_means(path):
+    """The gallery's page has each network below a topic, with a line on what it shows, and the measured mean of each
+    of its queues."""
+    page = (TOP / "examples/README.md").read_text()
+    found = re.search(rf"^### {path.stem}\n\n(.*?)\n\n!\[", page, re.M | re.S)
+    topics = re.findall(r"^## (.*)$", page[: found.start()], re.M)
+    assert len(topics) > 1 and topics[-1] != "Pictures"
+    assert re.match(r"[A-Z][^.]{20,}\. ", found[1])
+    for queue in tomllib.loads(path.read_text())["queue"]:
+        assert re.search(rf"`{re.escape(queue['name'])}`\s+[\d.]+<!--=", found[1]), queue["name"]
+
+
 def test_a_notebook_shows_the_picture():
     """A notebook shows a network as its picture, and one that cannot be drawn yet as Python does."""
     root = xml.etree.ElementTree.fromstring(Network.read(TOP / "examples/overflow.toml")._repr_svg_())

@@ -369,7 +369,8 @@ def drawn_on(pdf):
 
 
 def test_a_long_log_opens_soon(browser, pages, program, tmp_path):
-    """A page of 4,096 steps opens within a second; on a busy machine a slower one is not held against it."""
+    """A page of 4,096 steps opens within a second, and takes half a second of one processor at most. On a
+    busy machine only the processor's time is held against it."""
     stream = next(
         stream
         for stream in range(200)
@@ -378,12 +379,14 @@ def test_a_long_log_opens_soon(browser, pages, program, tmp_path):
         ).stdout.startswith("met 4096\n")
     )
     text, log = pages("longest-queue", stream)
+    browser.execute_cdp_cmd("Performance.enable", {"timeDomain": "threadTicks"})
     opened(browser, tmp_path, text)
-    loaded = browser.execute_script("return performance.getEntriesByType('navigation')[0].domComplete")
+    found = browser.execute_cdp_cmd("Performance.getMetrics", {})["metrics"]
+    browser.execute_cdp_cmd("Performance.disable", {})
     assert len(text) < 200_000 + 3 * len(log)
-    if loaded >= 1_000 and os.getloadavg()[0] > len(os.sched_getaffinity(0)):
-        pytest.skip(f"the machine is busy; the page opened within {loaded:.0f} ms")
-    assert loaded < 1_000
+    assert 0 < next(one["value"] for one in found if one["name"] == "TaskDuration") < 0.5
+    loaded = browser.execute_script("return performance.getEntriesByType('navigation')[0].domComplete")
+    assert loaded < 1_000 or os.getloadavg()[0] > len(os.sched_getaffinity(0))
 
 
 @pytest.mark.parametrize("name", ["first", "tandem-blocking", "longest-queue-split"])

@@ -89,7 +89,24 @@ def test_each_run_has_a_row(program):
     ids = [each.get("id", "") for each in root.iter(f"{SVG}g")]
     assert all(ids.count(kind) == len(past.runs) for kind in ("band", "end", "paths"))
     texts = [text.get_text() for axes in figure.axes for text in axes.texts]
-    assert "64 steps:\ncoalesced in\n3,2,1" in texts and "32 steps:\n2 states left" in texts
+    assert "64 steps:\ncoalesced in\nstate 3,2,1" in texts and "32 steps:\n2 states left" in texts
+
+
+def test_no_text_is_cut_off(program, tmp_path):
+    """Each text is within the picture, with many queues and long names too."""
+    net = Network()
+    for place in range(12):
+        net.queue(f"a-queue-with-a-long-name-{place}", 40)
+        net.event(f"come-{place}", "arrival", 1, to=[f"a-queue-with-a-long-name-{place}"])
+        net.event(f"serve-{place}", "service", 5, f"a-queue-with-a-long-name-{place}")
+    (tmp_path / "wide.toml").write_text(net.toml())
+    for path, queue in ((str(tmp_path / "wide.toml"), 11), (path_of("first"), None), (path_of("tandem-blocking"), 0)):
+        figure = draw_past((past_of(program, path, 0, 0), queue), "A title that is long enough for two lines " * 2)
+        figure.draw_without_rendering()
+        whole = figure.bbox
+        for text in [*figure.texts, *(text for axes in figure.axes for text in axes.texts)]:
+            box = text.get_window_extent()
+            assert whole.x0 <= box.x0 and box.x1 <= whole.x1 and whole.y0 <= box.y0, text.get_text()
 
 
 def test_the_command_draws_and_refuses(tool, tmp_path):

@@ -17,6 +17,8 @@ MOST_DRAWN, MOST_NAMED = 600, 32
 ROW_HEIGHT, HEAD_HEIGHT, FOOT_HEIGHT = 0.78, 0.75, 0.55
 NAMES_HEIGHT = 0.6
 MARGINS = {"left": 0.09, "right": 0.83}
+# The most letters of a line beside a run.
+MOST_LETTERS = 17
 
 
 @style.styled
@@ -108,7 +110,8 @@ def verdict(run: Run) -> str:
     """How a run ends, in words."""
     steps = f"{run.horizon:,} step{'s' * (run.horizon > 1)}"
     if run.has_coalesced:
-        return f"{steps}:\ncoalesced in\n{','.join(map(str, run.low[-1]))[:24]}"
+        state = style.printable(f"state {','.join(map(str, run.low[-1]))}", MOST_LETTERS)
+        return f"{steps}:\ncoalesced in\n{state}"
     if run.paths is None:
         return f"{steps}:\nat most {style.whole(run.counts[-1])}\nstates left"
     left = len({path[-1] for path in run.paths})
