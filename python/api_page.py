@@ -25,9 +25,9 @@ turns it off.
 GROUPS = {
     "Networks and the program": ("Network", "Program", "check"),
     "Samples": ("states", "samples", "closed", "couple", "reward", "exact"),
-    "Estimates": ("report", "means", "law"),
+    "Estimates": ("report", "means", "law", "probability"),
     "Certificates": ("log", "replay", "draw_log"),
-    "Results": ("Coalescence", "RewardValue", "Shrinking"),
+    "Results": ("Coalescence", "RewardValue", "Probability", "Shrinking"),
     "Exceptions and warnings": (
         *("PsiError", "Refused", "NotCoupled", "ArgumentError", "InputError"),
         *("Uncoupled", "FewSamples"),

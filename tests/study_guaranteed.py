@@ -36,10 +36,10 @@ import scipy.special
 from solving import law_of
 
 from psi_tools import check_interval
-from psi_tools.stats.batches import batches_of
-from psi_tools.draw.reports import blocks_of, reports_of
+from psi_tools.draw.reports import blocks_of
+from psi_tools.draw.states import any_drawing
 from psi_tools.stats.guaranteed import Guarantee, Pilot, by_count, file_of, one_in, parts_of
-from psi_tools.draw.law import Counters
+from psi_tools.draw.law import tally_of
 from psi_tools.model.networks import Network, value_of
 from psi_tools.draw.program import Program
 from psi_tools.stats.spans import Spans
@@ -79,29 +79,25 @@ class Case:
             value = self.value(state[place])
             self.law[value] = self.law.get(value, 0.0) + float(chance)
         self.mean = sum(value * chance for value, chance in self.law.items())
-        self.counters = Counters(self.net, queue, WORDS.count)
-        assert len(self.counters.whole) <= self.counters.width
+        self.place = place
         self.draw(psi)
 
     def draw(self, psi):
         """Draws the streams of all repetitions, a block for each, and then pilot streams."""
         streams = WORDS.repetitions * WORDS.count
-        net = self.counters.network(self.counters.whole)
-        blocks = blocks_of(0, streams, WORDS.count)
-        reports = reports_of(psi, net.data, self.seed, blocks)
-        self.counts = [self.counted(report) for report in reports]
-        [report] = reports_of(psi, net.data, self.seed, [(streams, WORDS.count)])
-        self.pilot = Pilot(*self.counted(report), streams, WORDS.count)
+        blocks = [*blocks_of(0, streams, WORDS.count), (streams, WORDS.count)]
+        draw = any_drawing(psi, self.net, self.seed)
+        *self.counts, pilot = psi.all([functools.partial(self.counted, draw, block) for block in blocks])
+        self.pilot = Pilot(*pilot, streams, WORDS.count)
 
-    def counted(self, report):
-        """How many samples of a report have each value, and how many streams aren't coupled."""
-        batches = batches_of([report])
-        rows = batches.rows[len(self.net.queues) :]
-        found, counts = self.counters.counts(self.counters.whole, rows, report.met), {}
-        for number, count in found.items():
+    def counted(self, draw, block):
+        """How many samples of a block have each value, and how many streams aren't coupled."""
+        # The queues stand behind the horizon.
+        tally, counts = tally_of(draw(block), [1 + self.place], {}), {}
+        for (number,), count in tally.counts.items():
             value = self.value(number)
             counts[value] = counts.get(value, 0) + count
-        return sorted((v, c) for v, c in counts.items() if c), report.samples - report.met
+        return sorted(counts.items()), tally.unknown
 
     def median(self):
         """The least value that at least half of all states' weight doesn't pass."""

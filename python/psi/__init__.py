@@ -18,8 +18,8 @@ import os
 import warnings
 
 from psi.calls import set_default
-from psi.estimates import check, law, means, report
-from psi.results import Coalescence, FewSamples, NotCoupled, RewardValue, Uncoupled
+from psi.estimates import check, law, means, probability, report
+from psi.results import Coalescence, FewSamples, NotCoupled, Probability, RewardValue, Uncoupled
 from psi.sampling import couple, draw_log, exact, log, replay, reward
 from psi.tables import closed, samples, states
 from psi_tools import __version__
@@ -36,6 +36,7 @@ __all__ = [
     "InputError",
     "Network",
     "NotCoupled",
+    "Probability",
     "Program",
     "PsiError",
     "Refused",
@@ -51,6 +52,7 @@ __all__ = [
     "law",
     "log",
     "means",
+    "probability",
     "replay",
     "report",
     "reward",

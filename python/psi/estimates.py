@@ -7,17 +7,18 @@ from typing import Any
 import pandas
 
 from psi.calls import ProgressBar, drawn, resolved, streams_of, warn_uncoupled
-from psi.results import FewSamples
+from psi.results import FewSamples, Probability
 from psi_tools.arguments import level_argument
 from psi_tools.draw.blocks import digest_of
-from psi_tools.draw.law import guaranteed_law_of, law_of
+from psi_tools.draw.law import guaranteed_law_of, joint_law_of, law_of, share_where
 from psi_tools.draw.program import Program
+from psi_tools.errors import ArgumentError, PsiError
 from psi_tools.io.reports import together
-from psi_tools.model.networks import Source, data_of, network_of
+from psi_tools.model.networks import Network, Source, data_of, network_of
 from psi_tools.stats.batches import REWARD, Batches, batches_of
 from psi_tools.stats.guaranteed import ASSUMED, Guarantee, Pilot, file_of
 from psi_tools.stats.guaranteed_rows import GuaranteedLaw, guaranteed_means
-from psi_tools.stats.law import RECORD
+from psi_tools.stats.law import RECORD, SHARED, Law
 
 
 def check(net: Source, *, program: Program | None = None) -> str:
@@ -224,7 +225,7 @@ def _certified(
 
 def law(
     net: Source,
-    name: str,
+    name: str | Sequence[str],
     seed: int = 0,
     first: int = 0,
     count: int = 10_000,
@@ -233,14 +234,15 @@ def law(
     *,
     program: Program | None = None,
 ) -> pandas.DataFrame:
-    """Estimate the stationary distribution of a queue's customers, or of a reward.
+    """Estimate the stationary distribution of a queue's customers or of a reward, or a joint one.
 
     Parameters
     ----------
     net : Network or path
         A network, or the path of its file.
-    name : str
-        The name of a queue or of a reward.
+    name : str, or several of them
+        The name of a queue or of a reward. With several, as a list, the joint distribution is
+        estimated. `queue.NAME` and `reward.NAME` are understood, too.
     seed : int
         The seed, 0 to 2^64 - 1.
     first : int
@@ -248,10 +250,10 @@ def law(
     count : int
         The number of streams, at least 1.
     reward : bool
-        Whether the name is that of a reward; without it a queue is meant where both have it.
+        Whether the names are those of rewards; without it a queue is meant where both have it.
     guaranteed : bool
         Whether the coverage of each interval is a theorem. `attrs` of the DataFrame then has the
-        certificates, those of the mean and of quantiles too, and what is assumed.
+        certificates, those of the mean and of quantiles too, and what is assumed. Of one name alone.
     program : Program, optional
         The program that is run; the one that is built, or on the PATH, by default.
 
@@ -261,6 +263,8 @@ def law(
         A row for each value that came, by the value. The columns are count, in samples;
         probability, low and high; at_most, the probability of no greater value, at_most_low and
         at_most_high. Each interval holds its probability in 95 % of all repetitions, or more often.
+        With several names a row is for values that came together; the index has a level for each,
+        queue.NAME or reward.NAME, and the columns are count, probability, low and high.
 
     Raises
     ------
@@ -279,22 +283,120 @@ def law(
     Examples
     --------
     >>> import psi
-    >>> net = psi.Network().queue("desk", capacity=10)
+    >>> net = psi.Network().queue("desk", capacity=10).queue("till", capacity=2)
     >>> net = net.event("come", "arrival", rate=4, to=["desk"])
-    >>> net = net.event("serve", "service", rate=5, source="desk")
+    >>> net = net.event("serve", "service", rate=5, source="desk", to=["till"], full="stay")
+    >>> net = net.event("pay", "service", rate=6, source="till")
     >>> found = psi.law(net, "desk", count=1_000)
     >>> int(found["count"].sum())
     1000
     >>> float(found["at_most"].iloc[-1])
     1.0
+    >>> both = psi.law(net, ["desk", "till"], count=1_000)
+    >>> both.index.names
+    FrozenList(['queue.desk', 'queue.till'])
+    >>> bool((both["count"].groupby("queue.desk").sum() == found["count"]).all())
+    True
     """
     seed, first, count = streams_of(seed, first, count)
     program, net = resolved(program), network_of(net)
     program.ask("check", net.data)
-    make = guaranteed_law_of if guaranteed else law_of
-    found = make(program, net, name, seed, first, count, reward, ProgressBar)
+    if not isinstance(name, str):
+        return _joint_law(program, net, name, seed, first, count, reward, guaranteed)
+    asked = program, net, name, seed, first, count, reward, ProgressBar
+    found: Law = guaranteed_law_of(*asked) if guaranteed else law_of(*asked)
     warn_uncoupled(found.unknown, found.many)
     table = pandas.DataFrame(found.records(), columns=RECORD).set_index("value")
     if not isinstance(found, GuaranteedLaw):
         return table
     return _certified(table, [found.row], net.data, seed, first, count, found.pilot)
+
+
+def _joint_law(
+    program: Program,
+    net: Network,
+    names: Sequence[str],
+    seed: int,
+    first: int,
+    count: int,
+    reward: bool,
+    guaranteed: bool,
+) -> pandas.DataFrame:
+    """The joint distribution of some queues and rewards."""
+    if guaranteed or not names:
+        raise ArgumentError("guaranteed goes with one name" if guaranteed else "name is an empty list")
+    found = joint_law_of(program, net, [*names], seed, first, count, reward, ProgressBar)
+    warn_uncoupled(found.unknown, found.many)
+    return pandas.DataFrame(found.records(), columns=[*found.columns, *SHARED]).set_index(found.columns)
+
+
+def probability(
+    net: Source,
+    where: str,
+    seed: int = 0,
+    first: int = 0,
+    count: int = 10_000,
+    level: float = 0.95,
+    *,
+    program: Program | None = None,
+) -> Probability:
+    """Estimate the stationary probability of a condition on queues and rewards.
+
+    Parameters
+    ----------
+    net : Network or path
+        A network, or the path of its file.
+    where : str
+        The condition: comparisons (== != < <= > >=) of sums, differences and products of queues,
+        rewards and whole numbers, joined by `and`, `or` and `not`. A queue is meant where a reward
+        has its name; names that have a hyphen, and 'reward.NAME', stand in quotes.
+    seed : int
+        The seed, 0 to 2^64 - 1.
+    first : int
+        The first stream, 0 to 2^64 - 1.
+    count : int
+        The number of streams, at least 1.
+    level : float
+        The confidence level, 0.5 to 0.9999.
+    program : Program, optional
+        The program that is run; the one that is built, or on the PATH, by default.
+
+    Returns
+    -------
+    Probability
+        How many samples meet the condition; the share that they are of all that are coupled; and
+        the ends of the interval of Clopper and Pearson, which allows for those that aren't.
+
+    Raises
+    ------
+    PsiError
+        The text is no condition, names what the network hasn't, or no stream is coupled.
+    ArgumentError
+        An argument is out of its range.
+    Refused
+        The network is refused.
+
+    Warns
+    -----
+    Uncoupled
+        Streams aren't coupled, so the others are biased.
+
+    Examples
+    --------
+    >>> import psi
+    >>> net = psi.Network().queue("desk", capacity=10).queue("till", capacity=2)
+    >>> net = net.event("come", "arrival", rate=4, to=["desk"])
+    >>> net = net.event("serve", "service", rate=5, source="desk", to=["till"], full="stay")
+    >>> net = net.event("pay", "service", rate=6, source="till")
+    >>> found = psi.probability(net, "desk == 0 and till <= 1", count=1_000)
+    >>> found.low < found.count / 1_000 == found.probability < found.high
+    True
+    """
+    seed, first, count = streams_of(seed, first, count)
+    level, program, net = level_argument(level), resolved(program), network_of(net)
+    program.ask("check", net.data)
+    found = share_where(program, net, where, seed, first, count, ProgressBar)
+    warn_uncoupled(found.unknown, found.many)
+    if not found.known:
+        raise PsiError(f"none of {found.many:,} streams is coupled", 1)
+    return Probability(**found.record(level))

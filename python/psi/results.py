@@ -60,3 +60,28 @@ class RewardValue(NamedTuple):
 
     def _repr_html_(self) -> str:
         return as_html("Reward", {"horizon, in steps": self.horizon, "value": self.value})
+
+
+class Probability(NamedTuple):
+    """The probability of a condition, over samples.
+
+    Attributes
+    ----------
+    count : int
+        How many samples meet it.
+    probability : float
+        The share that they are of all samples that are coupled.
+    low : float
+        The lower end of its confidence interval (Clopper and Pearson 1934).
+    high : float
+        The upper end.
+    """
+
+    # It hides a tuple's own method.
+    count: int  # type: ignore[assignment]
+    probability: float
+    low: float
+    high: float
+
+    def _repr_html_(self) -> str:
+        return as_html("Probability", {**self._asdict()})

@@ -1,6 +1,5 @@
 """Samples of many streams, as arrays and as tables."""
 
-from collections.abc import Callable
 from typing import Any
 
 import numpy
@@ -12,8 +11,8 @@ from psi_tools.arguments import whole_argument
 from psi_tools.draw.closed import MOST_TOTAL
 from psi_tools.draw.program import Program
 from psi_tools.draw.reports import blocks_of, size_of
-from psi_tools.draw.states import header_of, printed_states, states_of
-from psi_tools.model.networks import Network, Source, network_of
+from psi_tools.draw.states import Draw, any_drawing, drawing, states_of
+from psi_tools.model.networks import Network, Source, header_of, network_of
 
 
 def samples(
@@ -47,7 +46,8 @@ def samples(
     -------
     numpy.ndarray of int, shape (count, queues)
         A row for each stream, and a column for each queue in the order of the file: its number of
-        customers, those in service included.
+        customers, those in service included. The type is the narrowest signed one that holds all
+        capacities, as int8, so use `astype(int)` before you add or multiply columns.
 
     Raises
     ------
@@ -106,7 +106,7 @@ def closed(
     -------
     numpy.ndarray of int, shape (count, queues)
         A row for each stream, and a column for each queue in the order of the file, in customers.
-        Each row adds up to `total`.
+        Each row adds up to `total`. The type is as that of `samples`.
 
     Raises
     ------
@@ -197,11 +197,11 @@ def states(
     if total is not None:
         total = whole_argument("total", total, 0, MOST_TOTAL)
     net, program = network_of(net), resolved(program)
-    is_met, numbers = _drawn(states_of, program, net, seed, first, count, total)
+    seed, first, count = streams_of(seed, first, count)
+    is_met, numbers = _drawn(drawing(program, net, seed, total), program, net, first, count)
     warn_uncoupled(len(is_met) - len(numbers), len(is_met), "means of the others are biased")
     whole = numpy.dtype(numpy.int64)
-    queues = [numpy.min_scalar_type(-capacity - 1) for capacity in net.capacities]
-    types = [whole, *queues, *(whole for _ in net.rewards)]
+    types = [whole, *map(_narrow, net.capacities), *(whole for _ in net.rewards)]
     names = header_of(net)
     columns: dict[str, Any] = {names[0]: numpy.arange(len(is_met), dtype=numpy.uint64) + numpy.uint64(first)}
     for name, kind, column in zip(names[1:], types, numbers.T):
@@ -211,44 +211,37 @@ def states(
     return pandas.DataFrame(columns)
 
 
+def _narrow(capacity: int) -> "numpy.dtype[Any]":
+    """The narrowest type of signed integers for -1 and the customers of a queue."""
+    return numpy.min_scalar_type(-capacity - 1)
+
+
 def _array(
     net: Source, seed: int, first: int, count: int, keep: bool, total: int | None, program: Program
 ) -> numpy.ndarray[Any, Any]:
     """The states of some streams, as rows."""
     net = network_of(net)
-    # Without psi_states a process of psi draws each state, which takes longer.
-    draw = states_of if program.has_states() else printed_states
-    is_met, numbers = _drawn(draw, program, net, seed, first, count, total)
+    seed, first, count = streams_of(seed, first, count)
+    is_met, numbers = _drawn(any_drawing(program, net, seed, total), program, net, first, count)
     lost = numpy.flatnonzero(~is_met)
     if len(lost) and not keep:
         which = f"{len(lost):,} of {count:,} streams, first {first + int(lost[0])}"
         raise NotCoupled(f"not coupled: {which}; the others alone are biased", 1)
-    rows = numpy.full((len(is_met), len(net.queues)), -1)
+    rows = numpy.full((len(is_met), len(net.queues)), -1, _narrow(max(net.capacities)))
     rows[is_met] = numbers[:, 1 : 1 + len(net.queues)]
     return rows
 
 
 def _drawn(
-    draw: Callable[..., list[str | None]],
-    program: Program,
-    net: Network,
-    seed: int,
-    first: int,
-    count: int,
-    total: int | None,
+    draw: Draw, program: Program, net: Network, first: int, count: int
 ) -> tuple[numpy.ndarray[Any, Any], numpy.ndarray[Any, Any]]:
-    """Which of some streams are coupled; and of these the horizons, queues and, where they are drawn,
-    rewards, as rows."""
-    seed, first, count = streams_of(seed, first, count)
+    """Which of some streams are coupled; and of these the horizons, queues and rewards, as rows."""
     size = size_of(count)
     bar = ProgressBar(count)
     try:
-        blocks = blocks_of(first, count, size)
-        found = draw(program, net, seed, blocks, total, lambda done: bar.show(min(done * size, count)))
+        found = states_of(program, draw, blocks_of(first, count, size), lambda done: bar.show(min(done * size, count)))
     finally:
         bar.end()
     met = [row for row in found if row is not None]
     numbers = numpy.fromstring(",".join(met), numpy.int64, sep=",") if met else numpy.zeros(0, numpy.int64)
-    return numpy.array([row is not None for row in found]), numbers.reshape(
-        len(met), -1 if met else len(header_of(net)) - 1
-    )
+    return numpy.array([row is not None for row in found]), numbers.reshape(len(met), len(header_of(net)) - 1)

@@ -27,7 +27,7 @@ RUNS = [*shown("TOOLS.md")]
 
 
 def test_there_are_runs():
-    assert len([text for *_, text in RUNS if text is not None]) == 6
+    assert len([text for *_, text in RUNS if text is not None]) == 8
     assert all(text != "" for *_, text in RUNS)
 
 

@@ -90,7 +90,7 @@ def test_no_temporary_file_can_be_read_by_others(tmp_path, monkeypatch):
     monkeypatch.setattr(files.os, "fsync", lambda number: seen.append(os.fstat(number).st_mode))
     (tmp_path / "secret").write_text("old")
     (tmp_path / "secret").chmod(0o600)
-    files.write_file(str(tmp_path / "secret"), b"new")
+    files.write_file(str(tmp_path / "secret"), [b"new"])
     assert [mode & 0o777 for mode in seen] == [0o600]
     assert (tmp_path / "secret").read_bytes() == b"new"
 
@@ -284,11 +284,14 @@ def test_psi_merge_is_looked_for_beside_psi_alone(environment, program, tmp_path
 
 
 def slow_psi(room, program):
-    """A program in place of psi that takes a long time to report, and says which process it is."""
-    path = room / "slow"
-    path.write_text(f'#!/bin/sh\n[ "$1" = report ] || exec {program} "$@"\n' f"echo $$ >>{room}/pids\nexec sleep 100\n")
-    path.chmod(0o755)
-    return path
+    """A program in place of psi that takes a long time to report, and one beside it in place of psi_states that
+    takes as long; each says which process it is."""
+    slow = f"echo $$ >>{room}/pids\nexec sleep 100\n"
+    others = {"slow": f'[ "$1" = report ] || exec {program} "$@"\n{slow}', "psi_states": slow}
+    for name, lines in others.items():
+        (room / name).write_text(f"#!/bin/sh\n{lines}")
+        (room / name).chmod(0o755)
+    return room / "slow"
 
 
 def is_running(number):

@@ -2,9 +2,16 @@
 
 import collections
 import json
+import shutil
 
+import numpy
+import pandas
 import pytest
+from scipy.stats import binom
 from solving import law_of
+
+import psi as module
+from psi_tools.model.conditions import FORM
 
 NET = """version = 2
 [[queue]]
@@ -144,55 +151,152 @@ def test_streams_that_are_not_coupled_widen_the_mean(tool, tmp_path, net):
         assert found["mean"]["high"] >= (total + lost * greatest) / 200
 
 
-def test_numbers_are_counted_by_tables_and_by_levels(psi, program, monkeypatch):
-    """The counts of a wide queue, each way, are those of the states."""
-    import psi_tools.draw.law
-    from psi_tools.draw.law import Counters, counts_of_queue
-    from psi_tools.io.terminal import Bar
-    from psi_tools.draw.program import Program
-
-    net = psi.Network().queue("near", 3).queue("wide", 200, servers=60)
-    net.event("come", "arrival", 50, to=["wide"]).event("go", "service", 1, source="wide")
-    net.event("in", "arrival", 1, to=["near"]).event("out", "service", 1, source="near")
-    states = psi.samples(net, count=300)[:, 1]
-    wanted = dict(sorted(collections.Counter(states.tolist()).items()))
-    assert len(wanted) > 20
-    calls = []
-    for signs in (psi_tools.draw.law.MOST_CHARACTERS, 0):
-        monkeypatch.setattr(psi_tools.draw.law, "MOST_CHARACTERS", signs)
-        counters = Counters(net, "wide", 7)
-        assert counters.has_tables == (signs > 0)
-        assert len(counters.near((min(wanted), max(wanted)))) < 150
-        drawn = psi_tools.draw.law.drawn
-        monkeypatch.setattr(psi_tools.draw.law, "drawn", lambda *words: calls.append(signs) or drawn(*words))
-        found, unknown = counts_of_queue(Program(program), net, "wide", 0, 0, 300, Bar)
-        monkeypatch.setattr(psi_tools.draw.law, "drawn", drawn)
-        assert (found, unknown) == (wanted, 0)
-    # A first look, and then few reports have all numbers, the fewer where tables count them.
-    assert 2 <= len(calls) - calls.count(0) <= calls.count(0) <= 5
+def joined(rows):
+    """How many rows have which values, ascending."""
+    return dict(sorted(collections.Counter(map(tuple, rows)).items()))
 
 
-def test_numbers_beyond_those_of_the_first_look_are_counted(psi, program, monkeypatch):
-    """The first look is made to see one number alone, so both sides are counted afterwards."""
-    from psi_tools.draw.law import Counters, counts_of_queue
-    from psi_tools.io.terminal import Bar
-    from psi_tools.draw.program import Program
+def test_a_joint_law_is_that_of_the_states(psi, tmp_path, net):
+    net = psi.Network.read(tmp_path / net)
+    states = psi.samples(net, seed=3, first=10, count=300).astype(int)
+    near, far = states.T
+    cost, longest = [[5, 0, 0, 7][number] for number in near], states.max(axis=1).tolist()
+    for names, columns, rows in (
+        (["near", "far"], ["queue.near", "queue.far"], states.tolist()),
+        (["longest", "near"], ["reward.longest", "queue.near"], zip(longest, near.tolist())),
+        (["reward.cost", "queue.near", "longest"], None, zip(cost, near.tolist(), longest)),
+        (["cost"], ["reward.cost"], zip(cost)),
+    ):
+        found, wanted = psi.law(net, names, 3, 10, 300), joined(rows)
+        if columns:
+            assert [*found.index.names] == columns
+        index = found.index if len(names) > 1 else [(value,) for value in found.index]
+        assert dict(zip(index, found["count"])) == wanted
+        assert (found["probability"] == found["count"] / 300).all()
+        assert [*found.columns] == ["count", "probability", "low", "high"]
+    for value, row in found.iterrows():
+        alone = psi.law(net, "cost", 3, 10, 300).loc[value]
+        assert (row["low"], row["high"]) == (alone["low"], alone["high"])
 
-    net = psi.Network().queue("wide", 300)
-    net.event("come", "arrival", 19, to=["wide"]).event("go", "service", 20, source="wide")
-    states = psi.samples(net, count=200)[:, 0]
-    wanted = dict(sorted(collections.Counter(states.tolist()).items()))
-    monkeypatch.setattr(Counters, "near", lambda self, ends: range(9, 12))
-    for width in (256, 40, 7):
-        init = Counters.__init__
 
-        def narrow(self, *words, width=width, init=init):
-            init(self, *words)
-            self.width = width
+def test_a_condition_is_counted_over_the_states(psi, tool, tmp_path, net):
+    network = psi.Network.read(tmp_path / net)
+    states = psi.samples(network, seed=3, first=10, count=300).astype(int)
+    near, far = states.T
+    cost = numpy.array([5, 0, 0, 7])[near]
+    for where, met in (
+        ("near == 0 and far >= 3", (near == 0) & (far >= 3)),
+        ("cost - 2 * near < far or not longest <= 4", (cost - 2 * near < far) | (states.max(axis=1) > 4)),
+        ("1 <= near < 3", (near >= 1) & (near < 3)),
+        ("far > 70", near < 0),
+        ("'queue.near' >= 0", near >= 0),
+    ):
+        count = int(met.sum())
+        found = psi.probability(network, where, 3, 10, 300)
+        assert (found.count, found.probability) == (count, count / 300)
+        # The interval of Clopper and Pearson by its own definition: each tail is a fortieth at its end.
+        if count:
+            assert binom.sf(count - 1, 300, found.low) == pytest.approx(0.025)
+        if count < 300:
+            assert binom.cdf(count, 300, found.high) == pytest.approx(0.025)
+        assert (found.low > 0, found.high < 1) == (count > 0, count < 300)
+        streams = ("--seed", 3, "--first", 10, "--count", 300)
+        told = json.loads(tool("psi-law", net, "--where", where, *streams, "--format", "json")[1])
+        assert told == {
+            **{"where": where, "samples": 300, "unknown": 0, "notes": []},
+            **{"count": count, "probability": count / 300, "low": found.low, "high": found.high},
+        }
+    wide = psi.probability(network, where, 3, 10, 300, level=0.999)
+    assert wide.low < found.low
 
-        monkeypatch.setattr(Counters, "__init__", narrow)
-        assert counts_of_queue(Program(program), net, "wide", 0, 0, 200, Bar) == (wanted, 0)
-        monkeypatch.setattr(Counters, "__init__", init)
+
+def test_several_names_and_conditions_as_texts(psi, tool, tmp_path, net):
+    status, out, error = tool("psi-law", net, "near", "cost", "--count", 200)
+    assert (status, error) == (0, "")
+    head, columns, *rows = out.splitlines()
+    assert head == "queue.near, reward.cost: 200 samples, streams 0 to 199 of seed 0; intervals of 95 %"
+    assert columns.split() == ["queue.near", "reward.cost", "samples", "probability", "from", "to"]
+    network = psi.Network.read(tmp_path / net)
+    near = psi.samples(network, count=200)[:, 0].tolist()
+    wanted = joined((number, [5, 0, 0, 7][number]) for number in near)
+    assert {(int(row.split()[0]), int(row.split()[1])): int(row.split()[2]) for row in rows} == wanted
+    status, out, _ = tool("psi-law", net, "near", "cost", "--count", 200, "--format", "csv")
+    lines = [line.split(",") for line in out.splitlines()]
+    assert lines[0] == ["queue.near", "reward.cost", "count", "probability", "low", "high"]
+    assert {(int(line[0]), int(line[1])): int(line[2]) for line in lines[1:]} == wanted
+    told = json.loads(tool("psi-law", net, "near", "cost", "--count", 200, "--format", "json")[1])
+    assert (told["names"], told["samples"], told["unknown"]) == (["queue.near", "reward.cost"], 200, 0)
+    assert {(each["queue.near"], each["reward.cost"]): each["count"] for each in told["values"]} == wanted
+    where = "near == 0"
+    status, out, _ = tool("psi-law", net, "--where", where, "--count", 200)
+    head, columns, row = out.splitlines()
+    assert head == "near == 0: 200 samples, streams 0 to 199 of seed 0; intervals of 95 %"
+    assert (columns.split()[0], int(row.split()[0])) == ("samples", near.count(0))
+
+
+def test_streams_that_are_not_coupled_widen_probabilities(psi, tool, tmp_path, net):
+    (tmp_path / net).write_text("limit = 10\n" + NET)
+    network = psi.Network.read(tmp_path / net)
+    states = psi.samples(network, count=200, keep=True)
+    lost, met = int((states[:, 0] < 0).sum()), int(((states[:, 0] == 0) & (states[:, 1] >= 0)).sum())
+    assert lost > 5
+    with pytest.warns(psi.Uncoupled):
+        found = psi.probability(network, "near == 0", count=200)
+    assert (found.count, found.probability) == (met, met / (200 - lost))
+    assert binom.sf(met - 1, 200, found.low) == pytest.approx(0.025)
+    assert binom.cdf(met + lost, 200, found.high) == pytest.approx(0.025)
+    with pytest.warns(psi.Uncoupled):
+        both = psi.law(network, ["near", "far"], count=200)
+    assert int(both["count"].sum()) == 200 - lost
+    for words in (("near", "far"), ("--where", "near == 0")):
+        status, out, error = tool("psi-law", net, *words, "--count", "200")
+        assert (status, error) == (0, "")
+        assert out.startswith(f"NOT COUPLED: {lost} of 200 streams; ")
+        status, out, error = tool("psi-law", net, *words, "--count", "200", "--format", "csv")
+        assert (status, error.startswith(f"psi-law: NOT COUPLED: {lost} of 200 streams; ")) == (0, True)
+
+
+def test_words_that_do_not_fit_together(psi, tool, tmp_path, net):
+    for words, message in (
+        ((), "a queue or a reward is wanted, or --where with a condition"),
+        (("near", "--where", "near == 0"), "--where goes without a queue or a reward"),
+        (("near", "far", "near"), "near is given twice"),
+        (("near", "queue.near"), "near is given twice"),
+        (("near", "far", "--guaranteed"), "--guaranteed goes with one queue or reward"),
+        (("--where", "near == 0", "--guaranteed"), "--guaranteed goes with one queue or reward"),
+        (("near", "far", "--picture", "law.svg"), "--picture goes with one queue or reward"),
+        (("near", "middle"), "the network has no queue and no reward middle"),
+        (("--where", "middle == 0"), "the network has no queue and no reward middle"),
+        (("--where", "near"), f"the condition has `near` where it can't stand: {FORM}"),
+        (("--where", ""), f"the condition can't be read: invalid syntax; {FORM}"),
+        (("--reward", "near", "cost"), "the network has no reward near"),
+    ):
+        assert tool("psi-law", net, *words) == (2, "", f"psi-law: {message}\n"), words
+    network = psi.Network.read(tmp_path / net)
+    for more in ({"name": []}, {"name": ["near", "far"], "guaranteed": True}):
+        with pytest.raises(psi.ArgumentError):
+            psi.law(network, **more)
+    with pytest.raises(psi.PsiError, match="^none of 5 streams is coupled"):
+        network.heads["limit"] = 0
+        with pytest.warns(psi.Uncoupled):
+            psi.probability(network, "near == 0", count=5)
+
+
+def test_laws_without_psi_states(program, tmp_path, net, monkeypatch):
+    """Where psi_states is not built, distributions are the same, by the states that psi prints."""
+    alone = tmp_path / "psi"
+    shutil.copy(program, alone)
+    network = module.Network.read(tmp_path / net)
+    draws = [
+        lambda one: module.law(network, "longest", count=40, program=one),
+        lambda one: module.law(network, ["cost", "far"], count=40, program=one),
+    ]
+    wanted = [draw(module.Program(program)) for draw in draws]
+    monkeypatch.setattr("psi_tools.draw.program.TOP", tmp_path)
+    lone = module.Program(alone, jobs=2)
+    assert not lone.has_states()
+    for draw, one in zip(draws, wanted):
+        pandas.testing.assert_frame_equal(draw(lone), one)
 
 
 def test_the_cumulative_line_reaches_its_last_point(tool, tmp_path, net):

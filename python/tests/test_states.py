@@ -11,9 +11,10 @@ from conftest import TOP
 
 import psi as module
 from psi_tools.draw.program import companion_of
-from psi_tools.draw.states import rows_of, states_of
+from psi_tools.draw.states import drawing, states_of
 from psi_tools.errors import PsiError
-from psi_tools.model.networks import Network, values_of
+from psi_tools.io.samples import rows_of
+from psi_tools.model.networks import Network, header_of, values_of
 
 EXAMPLES = TOP / "examples"
 LAST = 2**64 - 1
@@ -118,6 +119,8 @@ def test_types_are_as_narrow_as_capacities(psi):
             warnings.simplefilter("ignore", psi.Uncoupled)
             table = psi.states(net, count=2)
         assert [str(kind) for kind in table.dtypes] == ["uint64", "Int64", "Int8", "Int16", "Int16", "Int32"]
+        assert psi.samples(net, count=2, keep=True).dtype == "int32"
+    assert psi.samples(EXAMPLES / "tandem-blocking.toml", count=2).dtype == "int8"
 
 
 def test_what_is_refused(psi, tmp_path):
@@ -163,7 +166,8 @@ def test_the_program_is_looked_for_beside_psi_first(program, tmp_path, monkeypat
 def test_a_text_that_is_no_such_table():
     net = Network.read(EXAMPLES / "short-past.toml")
     head = "stream,horizon,queue.desk,reward.full\n"
-    assert rows_of(net, head + "7,64,2,0\n8,,,\n", (7, 2)) == ["64,2,0", None]
+    assert head == ",".join(header_of(net)) + "\n"
+    assert rows_of(header_of(net), head + "7,64,2,0\n8,,,\n", 7, 2) == ["64,2,0", None]
     for text in (
         "",
         "7,64,2,0\n8,,,\n",
@@ -175,12 +179,13 @@ def test_a_text_that_is_no_such_table():
         head + "7,64,2,0\n8,,,\n9,,,\n",
     ):
         with pytest.raises(PsiError, match="^psi_states printed no "):
-            rows_of(net, text, (7, 2))
+            rows_of(header_of(net), text, 7, 2)
 
 
 def test_a_bar_is_told_of_each_block(program):
     net, told = Network.read(EXAMPLES / "first.toml"), []
-    rows = states_of(module.Program(program, 2), net, 0, [(0, 3), (3, 2)], done=told.append)
+    psi = module.Program(program, 2)
+    rows = states_of(psi, drawing(psi, net, 0), [(0, 3), (3, 2)], told.append)
     assert told == [1, 2]
     assert len(rows) == 5
 

@@ -1,7 +1,8 @@
-"""psi-law: the law of a number of customers, or of a reward, over samples."""
+"""psi-law: the distribution of queues and rewards over samples, or how often a condition holds."""
 
 import argparse
 import functools
+from collections.abc import Callable, Sequence
 
 from psi_tools.cli.command import run
 from psi_tools.cli.options import (
@@ -16,35 +17,56 @@ from psi_tools.cli.options import (
     number,
 )
 from psi_tools.draw.blocks import digest_of
-from psi_tools.draw.law import COUNT, guaranteed_law_of, law_of
+from psi_tools.draw.law import COUNT, guaranteed_law_of, joint_law_of, law_of, share_where
 from psi_tools.draw.program import Program
 from psi_tools.errors import PsiError
 from psi_tools.io import tables
 from psi_tools.io.output import check_writable, write, write_answer
+from psi_tools.io.tables import Record
 from psi_tools.io.terminal import Progress, print_note
 from psi_tools.model.networks import Network, checked
-from psi_tools.stats.law import RECORD, Law
+from psi_tools.stats.law import RECORD, SHARED, Joint, Law, Share
 
-COMMAND = "psi-law"
-ABOUT = """Prints the law of a number at time zero: how many customers a queue holds, or the value
+COMMAND, BUILT_BY = "psi-law", "`rt run` in crates/psi_states builds it"
+# So many samples are drawn one by one without a word.
+FEW = 1_000
+# What is found of samples.
+Found = Law | Joint | Share
+ABOUT = """Prints the distribution of a number at time zero: how many customers a queue holds, or the value
 of a reward. Each value that came has its probability and the ends of an interval that holds it in
 95 % of all repetitions, or more often; then come the mean and some quantiles, with their intervals.
 
     psi-law desk.toml desk --count 100000 --picture desk.svg
 
-The samples of a queue, or of a reward of one queue, are drawn by psi report, with rewards that
-count the numbers of customers; those of a reward of several queues one by one, by psi reward. Where
-streams weren't coupled this is said first, and each interval is as wide as what they might hold
-makes it. With --guaranteed the coverage of each interval is a theorem."""
+Of several names it is the joint distribution, a row for the values that came together; with --where
+the probability of a condition.
+
+    psi-law shop.toml desk till
+    psi-law shop.toml --where 'desk == 0 and till >= 3'
+
+The samples are drawn by psi_states; where that isn't built, one by one by psi sample, which takes
+longer. Where streams weren't coupled this is said first, and each interval is as wide as what they
+might hold makes it. With --guaranteed the coverage of each interval is a theorem."""
 
 
 def parser() -> Parser:
     """The parser of the arguments."""
     parser = Parser(COMMAND, ABOUT)
     parser.add_argument("net", metavar="NET", help="a network file")
-    parser.add_argument("name", metavar="QUEUE|REWARD", help="a queue or a reward of the network")
     parser.add_argument(
-        "--reward", action="store_true", help="the name is that of a reward; a queue is meant where both have it"
+        "names", metavar="QUEUE|REWARD", nargs="*", help="queues and rewards of the network; one, or several jointly"
+    )
+    parser.add_argument(
+        "--reward",
+        action="store_true",
+        help="the names are those of rewards; a queue is meant where both have it. queue.NAME and reward.NAME "
+        "are understood, too",
+    )
+    parser.add_argument(
+        "--where",
+        metavar="CONDITION",
+        help="print the probability of a condition: comparisons of queues, rewards and whole numbers, with and, "
+        "or, not, +, - and *; names with a hyphen stand in quotes",
     )
     add_streams(parser, COUNT)
     add_program(parser)
@@ -62,23 +84,32 @@ def parser() -> Parser:
     return parser
 
 
-def notes_of(law: Law) -> list[str]:
+def notes_of(found: Found) -> list[str]:
     """What has to be known before a probability is read."""
-    if not law.unknown:
+    if not found.unknown:
         return []
     return [
-        f"NOT COUPLED: {law.unknown:,} of {law.many:,} streams; the probabilities are of the "
+        f"NOT COUPLED: {found.unknown:,} of {found.many:,} streams; the probabilities are of the "
         "others, and biased; the intervals hold what they may change"
     ]
 
 
+def head_of(found: Found, what: str, args: argparse.Namespace) -> list[str]:
+    """The first lines of an answer for people."""
+    last = args.first + args.count - 1
+    head = f"{what}: {found.known:,} samples, streams {args.first} to {last}"
+    kind = "guaranteed intervals" if args.guaranteed else "intervals"
+    return [*notes_of(found), f"{head} of seed {args.seed}; {kind} of 95 %"]
+
+
+def ended(lines: list[str]) -> str:
+    """Lines as a text."""
+    return "".join(f"{line}\n" for line in lines)
+
+
 def text_of(law: Law, args: argparse.Namespace) -> str:
     """The answer for people."""
-    lines = notes_of(law)
-    last = args.first + args.count - 1
-    head = f"{law.name}: {law.known:,} samples, streams {args.first} to {last}"
-    kind = "guaranteed intervals" if args.guaranteed else "intervals"
-    lines.append(f"{head} of seed {args.seed}; {kind} of 95 %")
+    lines = head_of(law, law.name, args)
     rows: list[tuple[object, ...]] = [(law.what, "samples", "probability", "from", "to", "at most", "from", "to")]
     for each in law.records():
         shown = [law.shown(key, each[key]) for key in RECORD[2:]]
@@ -91,7 +122,27 @@ def text_of(law: Law, args: argparse.Namespace) -> str:
         rows.append((f"{share * 100:g} %", *("-" if end is None else end for end in ends)))
     lines.append(tables.aligned(rows, right=range(4)).rstrip("\n"))
     lines += law.remarks() if args.guaranteed else []
-    return "".join(f"{line}\n" for line in lines)
+    return ended(lines)
+
+
+def table_of(records: list[Record], columns: Sequence[str]) -> str:
+    """Probabilities for people, behind the values of some columns."""
+    rows: list[tuple[object, ...]] = [(*columns, "samples", "probability", "from", "to")]
+    for each in records:
+        shown = [f"{each[key]:.5f}" for key in SHARED[1:]]
+        rows.append((*(each[column] for column in columns), each["count"], *shown))
+    return tables.aligned(rows, right=range(len(rows[0]))).rstrip("\n")
+
+
+def joint_text_of(joint: Joint, args: argparse.Namespace) -> str:
+    """The answer on several numbers, for people."""
+    head = head_of(joint, ", ".join(joint.columns), args)
+    return ended([*head, table_of(joint.records(), joint.columns)])
+
+
+def share_text_of(share: Share, args: argparse.Namespace) -> str:
+    """The answer on a condition, for people."""
+    return ended([*head_of(share, share.condition, args), table_of([share.record()], ())])
 
 
 def answer_of(law: Law, args: argparse.Namespace) -> str:
@@ -118,6 +169,26 @@ def answer_of(law: Law, args: argparse.Namespace) -> str:
     )
 
 
+def joint_answer_of(joint: Joint, args: argparse.Namespace) -> str:
+    """The answer on several numbers in the form that is asked."""
+    if args.format == "text":
+        return joint_text_of(joint, args)
+    if args.format == "csv":
+        return tables.as_csv(joint.records())
+    drawn: Record = {"samples": joint.many, "unknown": joint.unknown, "notes": notes_of(joint)}
+    return tables.as_json({"names": joint.columns, **drawn, "values": joint.records()})
+
+
+def share_answer_of(share: Share, args: argparse.Namespace) -> str:
+    """The answer on a condition in the form that is asked."""
+    if args.format == "text":
+        return share_text_of(share, args)
+    if args.format == "csv":
+        return tables.as_csv([share.record()])
+    drawn: Record = {"samples": share.many, "unknown": share.unknown, "notes": notes_of(share)}
+    return tables.as_json({"where": share.condition, **drawn, **share.record()})
+
+
 def certificates_of(net: Network, args: argparse.Namespace, law: Law) -> str:
     """The certificates of a guaranteed distribution, as JSON."""
     from psi_tools.stats.guaranteed import file_of
@@ -132,27 +203,32 @@ def certificates_of(net: Network, args: argparse.Namespace, law: Law) -> str:
 def check_args(args: argparse.Namespace) -> None:
     """Refuses words that don't fit together, and files that can't be written."""
     check_last_stream(args)
+    if not args.names and args.where is None:
+        raise PsiError("a queue or a reward is wanted, or --where with a condition")
+    if args.names and args.where is not None:
+        raise PsiError("--where goes without a queue or a reward")
     for option in ("certificate", "pilot"):
         if getattr(args, option) is not None and not args.guaranteed:
             raise PsiError(f"--{option} goes with --guaranteed")
+    for option in ("guaranteed", "picture"):
+        if getattr(args, option) and len(args.names) != 1:
+            raise PsiError(f"--{option} goes with one queue or reward")
     check_writable(args.out)
     check_writable(args.certificate, "--certificate")
     check_picture(args.picture)
 
 
-def work(arguments: list[str]) -> int:
-    args = parser().parse_args(arguments)
-    check_args(args)
-    psi = Program(args.psi, args.jobs)
-    net = checked(psi, args.net)
-    streams = args.seed, args.first, args.count, args.reward, functools.partial(Progress, COMMAND)
-    law: Law
-    if args.guaranteed:
-        law = guaranteed_law_of(psi, net, args.name, *streams, args.pilot)
-    else:
-        law = law_of(psi, net, args.name, *streams)
-    if not law.known:
-        raise PsiError(f"none of {law.many:,} streams is coupled; psi-why tells what may help", 1)
+def answered(found: Found, args: argparse.Namespace, answer: Callable[[], str]) -> None:
+    """Writes an answer, where a stream is coupled."""
+    if not found.known:
+        raise PsiError(f"none of {found.many:,} streams is coupled; psi-why tells what may help", 1)
+    write_answer(answer(), args.out)
+    if notes_of(found) and args.format != "text":
+        print_note(COMMAND, notes_of(found)[0])
+
+
+def write_law(law: Law, net: Network, args: argparse.Namespace) -> str:
+    """Writes the picture and the certificates of a distribution, and gives the answer."""
     if args.picture:
         from psi_tools.plot.draw_law import draw_law
         from psi_tools.plot.style import saved
@@ -160,11 +236,35 @@ def work(arguments: list[str]) -> int:
         write(args.picture, saved(draw_law(law, ""), args.picture.rpartition(".")[2].lower()))
     if args.certificate:
         write(args.certificate, certificates_of(net, args, law).encode())
-    write_answer(answer_of(law, args), args.out)
+    return answer_of(law, args)
+
+
+def work(arguments: list[str]) -> int:
+    # Names may stand behind options, too.
+    args = parser().parse_intermixed_args(arguments)
+    check_args(args)
+    psi = Program(args.psi, args.jobs)
+    net = checked(psi, args.net)
+    if args.count > FEW and not psi.has_states():
+        print_note(COMMAND, "psi_states isn't built, so psi draws each sample, which takes longer; " + BUILT_BY)
+    progress = functools.partial(Progress, COMMAND)
+    streams = args.seed, args.first, args.count
+    if args.where is not None:
+        share = share_where(psi, net, args.where, *streams, progress)
+        answered(share, args, lambda: share_answer_of(share, args))
+        return 0
+    if len(args.names) > 1:
+        joint = joint_law_of(psi, net, args.names, *streams, args.reward, progress)
+        answered(joint, args, lambda: joint_answer_of(joint, args))
+        return 0
+    law: Law
+    if args.guaranteed:
+        law = guaranteed_law_of(psi, net, args.names[0], *streams, args.reward, progress, args.pilot)
+    else:
+        law = law_of(psi, net, args.names[0], *streams, args.reward, progress)
+    answered(law, args, lambda: write_law(law, net, args))
     if args.guaranteed and args.format == "csv":
         print_note(COMMAND, law.remarks()[-1])
-    if notes_of(law) and args.format != "text":
-        print_note(COMMAND, notes_of(law)[0])
     return 0
 
 

@@ -3,10 +3,11 @@
 Prints the report of any number of streams, as `psi report` would if it took so many: of NET, the
 seed SEED, and the streams FIRST to FIRST + COUNT - 1. The streams are cut in blocks, which
 `psi report` draws side by side: on this machine or others by GNU parallel, or as a Slurm job array.
-Finished blocks are kept in a folder, so that the same call goes on where it was stopped.
-docs/MANY.md has all of it.
+Finished blocks are kept in a folder, so that the same call goes on where it was stopped. With
+--states it prints the samples themselves, which `psi_states` draws on this machine. docs/MANY.md has
+all of it.
 
-The exit status is 0 where the report is printed, 1 where blocks failed again and again, 2 where the
+The exit status is 0 where the report or the table is printed, 1 where blocks failed again and again, 2 where the
 words, the folder or the hosts aren't right, 7 where something can't be written, that of `psi check`
 where PSI doesn't take the network, and 128 and the signal's number where a signal stopped it. Each
 but 0 has a line on standard error.
@@ -19,6 +20,7 @@ import re
 import shlex
 import signal
 import subprocess
+from collections.abc import Iterator
 from typing import NoReturn
 
 from psi_tools.arguments import GREATEST
@@ -26,12 +28,14 @@ from psi_tools.cli.command import run
 from psi_tools.cli.options import Parser, number
 from psi_tools.draw.blocks import MOST_BLOCKS, Folder
 from psi_tools.draw.engines import SHARE, SSH, Here, Hosts, Slurm, Way, run_task
-from psi_tools.draw.many import COMMAND, draw_all, merge
+from psi_tools.draw.many import COMMAND, draw_all, joined, merge
 from psi_tools.draw.program import built_program, companion_of, found_on_path
 from psi_tools.errors import PsiError
 from psi_tools.io.files import MOST_BYTES
-from psi_tools.io.output import check_writable, write_answer
+from psi_tools.io.output import check_writable, write_answer, write_pieces
+from psi_tools.io.samples import uncoupled_in
 from psi_tools.io.terminal import print_note
+from psi_tools.model.networks import header_of
 from psi_tools.stats.intervals import LEAST_BATCHES
 
 MOST_STREAMS, MOST_TOTAL = 65_536, 256
@@ -43,7 +47,8 @@ the same call goes on where it was stopped. psi-means tells the means of such a 
 intervals.
 
     psi-many desk.toml 0 0 1000000 --out desk.csv
-    psi-many ring.toml 0 0 10000 --closed 6"""
+    psi-many ring.toml 0 0 10000 --closed 6
+    psi-many desk.toml 0 0 1000000 --states --out samples.csv"""
 
 
 def merger_of(args: argparse.Namespace, psi: str) -> str | None:
@@ -80,6 +85,11 @@ def parser() -> Parser:
         metavar="TOTAL",
         type=number(0, MOST_TOTAL),
         help="sample a closed network that holds TOTAL customers, by psi closed",
+    )
+    parser.add_argument(
+        "--states",
+        action="store_true",
+        help="print the samples themselves, a row for each stream, by psi_states on this machine",
     )
     add_blocks(parser)
     add_ways(parser)
@@ -141,6 +151,9 @@ def parse(arguments: list[str]) -> argparse.Namespace:
             shlex.split(option)
         except ValueError as fault:
             raise PsiError(f"{option} isn't a command's words: {fault}") from None
+    others = [option for option in ("hosts", "slurm", "merge") if args.states and getattr(args, option)]
+    if others:
+        raise PsiError(f"--{others[0]} goes without --states: samples are drawn on this machine, and not merged")
     if args.first + args.count - 1 > GREATEST:
         raise PsiError(f"the last stream is above {GREATEST}")
     if args.block and args.count > MOST_BLOCKS * args.block:
@@ -179,22 +192,31 @@ def program_of(path: str) -> str:
     return os.path.abspath(found)
 
 
-def report(args: argparse.Namespace) -> bytes:
-    """The report that the arguments ask for."""
-    psi = program_of(args.psi)
-    program = merger_of(args, psi)
+def states_program(psi: str) -> str:
+    """The path of psi_states, which is built."""
+    found = companion_of(psi, "psi_states")
+    if not found:
+        raise PsiError("psi_states isn't built, and isn't beside psi; `rt run` in crates/psi_states builds it")
+    return found
+
+
+def blocks_of(args: argparse.Namespace, psi: str) -> tuple[Folder, list[pathlib.Path]]:
+    """The folder of the arguments, and the files of all its blocks, once they are drawn."""
     program_of("sbatch" if args.slurm else "parallel")
     net = read_network(psi, args.net)
     if args.closed is not None:
         is_closed(psi, net, args)
     engine: type[Hosts] | type[Slurm] | type[Here] = Hosts if args.hosts else Slurm if args.slurm else Here
-    way: Way = engine(args, psi, net)
+    way: Way = engine(args, states_program(psi) if args.states else psi, net)
     numbers = {"seed": args.seed, "first": args.first, "count": args.count}
-    name = "{}.{seed}.{first}.{count}.many".format(pathlib.Path(args.net).name, **numbers)
+    name = "{}.{seed}.{first}.{count}".format(pathlib.Path(args.net).name, **numbers)
     if args.closed is not None:
         numbers["closed"] = args.closed
-        name = name.replace(".many", f".{args.closed}.many")
-    folder = Folder(args.folder or name)
+        name += f".{args.closed}"
+    if args.states:
+        numbers["states"] = 1
+        name += ".states"
+    folder = Folder(args.folder or f"{name}.many")
     folder.lock()
     fitting = min(-(-args.count // (SHARE * way.slots)), args.count // LEAST_BATCHES)
     before = folder.bind(net, numbers, args.block, max(1, min(MOST_STREAMS, fitting)))
@@ -204,16 +226,39 @@ def report(args: argparse.Namespace) -> bytes:
         print_note(COMMAND, f"{folder.path} has {before} streams, and gets {args.count - before} more")
     files = draw_all(folder, way)
     folder.tidy()
-    return merge(folder, files, program)
+    return folder, files
 
 
-def report_uncoupled(text: bytes, args: argparse.Namespace) -> None:
-    """Tells of streams that aren't coupled: what the report says is of the others."""
+def write_report(args: argparse.Namespace, psi: str) -> None:
+    """Draws and writes the report that the arguments ask for."""
+    program = merger_of(args, psi)
+    folder, files = blocks_of(args, psi)
+    text = merge(folder, files, program)
+    write_answer(text.decode(), args.out)
     found = UNCOUPLED.search(text)
-    lost = int(found[1]) if found else 0
+    report_uncoupled(int(found[1]) if found else 0, args, "sums and extremes are of the others, and biased")
+
+
+def write_table(args: argparse.Namespace, psi: str) -> None:
+    """Draws and writes the table of samples that the arguments ask for."""
+    folder, files = blocks_of(args, psi)
+    header, lost = header_of(folder.network()), 0
+
+    def counted() -> Iterator[bytes]:
+        """The pieces of the table; what isn't coupled in them is counted."""
+        nonlocal lost
+        for piece in joined(folder, files):
+            lost += uncoupled_in(header, piece)
+            yield piece
+
+    write_pieces(counted(), args.out)
+    report_uncoupled(lost, args, "their rows are empty, and the others alone are biased")
+
+
+def report_uncoupled(lost: int, args: argparse.Namespace, more: str) -> None:
+    """Tells of streams that aren't coupled."""
     if lost:
-        what = f"NOT COUPLED: {lost} of {args.count} streams"
-        print_note(COMMAND, f"{what}; sums and extremes are of the others, and biased")
+        print_note(COMMAND, f"NOT COUPLED: {lost} of {args.count} streams; {more}")
 
 
 def stop(number: int, frame: object) -> NoReturn:
@@ -227,9 +272,11 @@ def work(arguments: list[str]) -> int:
     for ending in (signal.SIGINT, signal.SIGTERM, signal.SIGHUP):
         signal.signal(ending, stop)
     check_writable(args.out)
-    text = report(args)
-    write_answer(text.decode(), args.out)
-    report_uncoupled(text, args)
+    psi = program_of(args.psi)
+    if args.states:
+        write_table(args, psi)
+    else:
+        write_report(args, psi)
     return 0
 
 

@@ -10,12 +10,13 @@ from typing import Any, NamedTuple
 
 from psi_tools.errors import PsiError, reason
 from psi_tools.io import files
-from psi_tools.model.networks import Network
+from psi_tools.io.samples import is_table
+from psi_tools.model.networks import Network, header_of
 
 UNWRITTEN = 7
 # What stands in the file `lock` of a folder that is psi-many's own, and what is a number of those
 # lines that a folder is bound to.
-MARK, NUMBERS = b"a folder of psi-many\n", ("seed", "first", "count", "block", "closed")
+MARK, NUMBERS = b"a folder of psi-many\n", ("seed", "first", "count", "block", "closed", "states")
 # What a folder may have at its top where a call was stopped before it was bound.
 BEGUN = {"lock", "blocks", "net.toml"}
 MOST_BLOCKS = 1_048_576
@@ -65,7 +66,7 @@ def write_whole(path: pathlib.Path, text: bytes) -> None:
     """Writes a file under another name first, so that under its own it is never cut short."""
     front = f"part.{os.uname().nodename}.{os.getpid()}."
     try:
-        files.replace(str(path), text, front, f".{path.name}")
+        files.replace(str(path), [text], front, f".{path.name}")
     except OSError as fault:
         # Folder.tidy removes what a kill leaves of it.
         raise PsiError(f"{path} can't be written: {reason(fault)}", UNWRITTEN) from None
@@ -211,7 +212,7 @@ class Folder:
         before, count = self.count, wanted["count"]
         if size:
             asked["block"] = size
-        for key in dict.fromkeys([*asked, "closed"]):
+        for key in dict.fromkeys([*asked, "closed", "states"]):
             value = asked.get(key)
             if value is None and self.bound.get(key) is None or key == "count" and before < count:
                 continue
@@ -242,6 +243,7 @@ class Folder:
         keys = ("seed", "first", "count", "block")
         self.seed, self.first, self.count, self.size = (int(bound[key]) for key in keys)
         self.total = int(bound["closed"]) if "closed" in bound else None
+        self.has_samples = "states" in bound
 
     def network(self) -> Network:
         """The network, as its copy says it."""
@@ -265,9 +267,18 @@ class Folder:
         begin = number * self.size
         return Block(number, self.first + begin, min(self.size, self.count - begin))
 
+    def names_in(self, number: int, text: bytes) -> tuple[bytes, ...] | None:
+        """The queues and rewards of a block's text: of its report, or of the table of its samples; none
+        where it isn't whole."""
+        _, first, count = self.block(number)
+        if not self.has_samples:
+            return names_of(text, count)
+        header = header_of(self.network())
+        return (",".join(header).encode(),) if is_table(header, text, first, count) else None
+
     def accept(self, number: int, text: bytes) -> bool:
-        """Keeps the text of a block where it is a whole report."""
-        whole = names_of(text, self.block(number).count) is not None
+        """Keeps the text of a block where it is whole."""
+        whole = self.names_in(number, text) is not None
         if whole:
             write_whole(self.blocks / f"{number:07}.{digest_of(text)[:16]}.csv", text)
         return whole
@@ -305,7 +316,7 @@ class Folder:
         self.removed: dict[int, str] = {}
         for number, same in sorted(self.listed().items()):
             text = same[0].read_bytes()
-            names[number] = names_of(text, self.block(number).count) or ()
+            names[number] = self.names_in(number, text) or ()
             if len(same) > 1:
                 self.removed[number] = "has several files"
             elif digest_in(same[0]) != digest_of(text)[:16]:

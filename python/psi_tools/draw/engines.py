@@ -44,6 +44,9 @@ STEP = """printf 'block %s\\n' {{1}} && {psi} report net.toml {seed} {{2}} {{3}}
 CLOSED_STEP = """printf 'block %s\\n' {{1}} && for stream in $(seq {{2}} {{3}}); do \
 {psi} closed net.toml {seed} $stream {total} || [ $? -eq 1 ] || exit; done \
 && printf 'whole %s\\n' {{1}}"""
+# And of samples: psi_states, which ends with 1 where some stream isn't coupled.
+STATES_STEP = """printf 'block %s\\n' {{1}} && {{ {psi} net.toml {seed} {{2}} {{3}}{closed} || [ $? -eq 1 ]; }} \
+&& printf 'whole %s\\n' {{1}}"""
 
 
 class Way(Protocol):
@@ -91,15 +94,19 @@ def take(lines: Iterable[bytes], finish: Callable[[int, bytes], None]) -> None:
 
 
 def keep(folder: Folder, number: int, text: bytes) -> bool:
-    """Keeps what a block's sampler printed, where it is whole; of a closed network its report."""
-    if folder.total is None:
+    """Keeps what a block's sampler printed, where it is whole; of a closed network its report, where samples
+    aren't kept themselves."""
+    if folder.total is None or folder.has_samples:
         return folder.accept(number, text)
     report = report_of_text(folder.network(), text, folder.block(number).count)
     return report is not None and folder.accept(number, report)
 
 
 def step_of(folder: Folder, psi: str) -> str:
-    """The command of one block, with psi as it is called there."""
+    """The command of one block, with psi, or psi_states, as it is called there."""
+    if folder.has_samples:
+        closed = "" if folder.total is None else f" closed {folder.total}"
+        return STATES_STEP.format(psi=psi, seed=folder.seed, closed=closed)
     if folder.total is None:
         return STEP.format(psi=psi, seed=folder.seed)
     return CLOSED_STEP.format(psi=psi, seed=folder.seed, total=folder.total)
@@ -108,7 +115,8 @@ def step_of(folder: Folder, psi: str) -> str:
 def line_of(folder: Folder, block: Block) -> str:
     """The line that GNU parallel reads for a block."""
     number, first, count = block
-    return f"{number} {first} {count if folder.total is None else first + count - 1}\n"
+    is_counted = folder.total is None or folder.has_samples
+    return f"{number} {first} {count if is_counted else first + count - 1}\n"
 
 
 def run_parallel(

@@ -3,10 +3,11 @@
 import os
 import pathlib
 import subprocess
+from collections.abc import Iterator
 
-from psi_tools.draw.blocks import Block, Folder, names_of, write_whole
+from psi_tools.draw.blocks import Block, Folder, digest_in, digest_of, names_of, write_whole
 from psi_tools.draw.engines import ROUNDS, Progress, Way
-from psi_tools.errors import PsiError
+from psi_tools.errors import PsiError, reason
 from psi_tools.io.terminal import print_note
 
 COMMAND = "psi-many"
@@ -95,3 +96,16 @@ def merge(folder: Folder, files: list[pathlib.Path], program: str | None) -> byt
     if names_of(texts[0], folder.count) is None:
         raise PsiError("the merged text isn't the report of all streams", 1)
     return texts[0]
+
+
+def joined(folder: Folder, files: list[pathlib.Path]) -> Iterator[bytes]:
+    """The table of all blocks, a piece for each: the first header, and the rows of all. Each file is read
+    again, and is as it was written."""
+    for place, file in enumerate(files):
+        try:
+            text = file.read_bytes()
+        except OSError as fault:
+            raise PsiError(f"{file} can't be read: {reason(fault)}", 1) from None
+        if digest_in(file) != digest_of(text)[:16]:
+            raise PsiError(f"{file} isn't as it was written; the same call draws it again", 1)
+        yield text[text.index(b"\n") + 1 :] if place else text

@@ -64,6 +64,8 @@ def read_folder(path: str) -> tuple[Batches, int]:
         raise PsiError(f"{path} is no folder of psi-many")
     try:
         folder.read_bound()
+        if folder.has_samples:
+            raise PsiError(f"{path} is a folder of samples, as psi-many --states draws them, and has no reports")
         files = folder.listed()
         texts = {number: (max(same), max(same).read_bytes()) for number, same in files.items()}
     except (OSError, UnicodeDecodeError) as fault:

@@ -11,6 +11,7 @@ import errno
 import os
 import re
 import stat
+from collections.abc import Iterable
 
 from psi_tools.errors import PsiError, reason
 
@@ -50,15 +51,15 @@ def is_stream(path: str) -> bool:
     return not stat.S_ISREG(mode) and not stat.S_ISDIR(mode)
 
 
-def write_stream(path: str, data: bytes) -> None:
-    """Writes to a stream, behind what was written there; nothing is cut off."""
+def write_stream(path: str, pieces: Iterable[bytes]) -> None:
+    """Writes pieces to a stream, behind what was written there; nothing is cut off."""
     own = descriptor_of(path)
     if own and own[0] == os.getpid():
         file = os.fdopen(os.dup(own[1]), "wb")
     else:
         file = open(os.open(path, os.O_WRONLY | os.O_APPEND), "wb")
     with file:
-        file.write(data)
+        file.writelines(pieces)
 
 
 def mode_of(target: str) -> int:
@@ -81,15 +82,15 @@ def open_new(folder: str, front: str, ending: str = "") -> tuple[int, str]:
     raise FileExistsError(errno.EEXIST, os.strerror(errno.EEXIST), path)
 
 
-def replace(target: str, data: bytes, front: str, ending: str = "") -> None:
-    """Writes a plain file under a temporary name, flushes it, and gives it its own name. Where that
+def replace(target: str, pieces: Iterable[bytes], front: str, ending: str = "") -> None:
+    """Writes a plain file piece by piece under a temporary name, flushes it, and gives it its own name. Where that
     fails the temporary file is removed, and the old one is as it was."""
     mode = mode_of(target)
     number, part = open_new(os.path.dirname(target) or ".", front, ending)
     try:
         with open(number, "wb") as file:
             os.fchmod(file.fileno(), mode)
-            file.write(data)
+            file.writelines(pieces)
             file.flush()
             os.fsync(file.fileno())
         os.replace(part, target)
@@ -99,16 +100,16 @@ def replace(target: str, data: bytes, front: str, ending: str = "") -> None:
         raise
 
 
-def write_file(path: str, data: bytes) -> None:
-    """Writes a file whole or not at all under its name, or a stream."""
+def write_file(path: str, pieces: Iterable[bytes]) -> None:
+    """Writes a file whole or not at all under its name, or a stream, piece by piece."""
     if is_stream(path):
-        write_stream(path, data)
+        write_stream(path, pieces)
         return
     target = os.path.realpath(path)
     if os.path.islink(target):
         raise OSError(errno.ELOOP, os.strerror(errno.ELOOP))
     # A long name is cut, so that the temporary one isn't too long.
-    replace(target, data, f".{os.path.basename(target)[:200]}.")
+    replace(target, pieces, f".{os.path.basename(target)[:200]}.")
 
 
 def try_to_write(path: str) -> None:

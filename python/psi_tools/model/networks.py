@@ -383,3 +383,9 @@ def values_of(net: Network, state: Sequence[int]) -> list[int]:
     """The values of all rewards of a network in a state, in the order of the file."""
     place = {name: number for name, number in zip(net.queues, state)}
     return [value_of(reward, [place[name] for name in reward["queues"]]) for reward in net.table["reward"]]
+
+
+def header_of(net: Network) -> list[str]:
+    """The names of the columns of a table of samples."""
+    queues, rewards = (f"queue.{name}" for name in net.queues), (f"reward.{name}" for name in net.rewards)
+    return ["stream", "horizon", *queues, *rewards]

@@ -1,4 +1,4 @@
-"""The distribution of a number over samples: probabilities, mean and quantiles, with intervals."""
+"""Distributions over samples: of a number with its mean and quantiles, and of several numbers jointly."""
 
 import dataclasses
 from collections.abc import Iterator, Sequence
@@ -22,6 +22,8 @@ Quantile = tuple[float, int | None, int | None, int | None]
 
 # The columns of a value's row.
 RECORD = ("value", "count", "probability", "low", "high", "at_most", "at_most_low", "at_most_high")
+# Those of values that came together, behind the values, and of a condition.
+SHARED = ("count", "probability", "low", "high")
 SHARES = 0.05, 0.25, 0.5, 0.75, 0.9, 0.95, 0.99
 
 
@@ -107,3 +109,53 @@ class Law:
     def remarks(self) -> list[str]:
         """What is to be known of the intervals, each as a line."""
         return [*filter(None, [self.carried()])]
+
+
+@dataclasses.dataclass
+class Joint:
+    """The joint distribution of some columns of a table over samples: `counts` has pairs of values, one for each
+    column, and how many samples have them, ascending; of `unknown` more streams they aren't known, as they
+    weren't coupled."""
+
+    columns: list[str]
+    counts: list[tuple[tuple[int, ...], int]]
+    unknown: int
+
+    @property
+    def known(self) -> int:
+        """How many samples have known values."""
+        return sum(count for _, count in self.counts)
+
+    @property
+    def many(self) -> int:
+        """How many streams were drawn."""
+        return self.known + self.unknown
+
+    def records(self, level: float = LEVEL) -> list[Record]:
+        """The values that came together, each with their probability and its interval."""
+        records: list[Record] = []
+        for values, count in self.counts:
+            ends = probability(count, self.many, self.unknown, level)
+            cells = *values, count, count / self.known, *ends
+            records.append(dict(zip((*self.columns, *SHARED), cells)))
+        return records
+
+
+@dataclasses.dataclass
+class Share:
+    """How many of some samples meet a condition; of `unknown` more streams it isn't known, as they weren't coupled."""
+
+    condition: str
+    count: int
+    known: int
+    unknown: int
+
+    @property
+    def many(self) -> int:
+        """How many streams were drawn."""
+        return self.known + self.unknown
+
+    def record(self, level: float = LEVEL) -> Record:
+        """How many samples meet the condition, and its probability with its interval."""
+        ends = probability(self.count, self.many, self.unknown, level)
+        return dict(zip(SHARED, (self.count, self.count / self.known, *ends)))
