@@ -4,7 +4,8 @@
 Counts by callgrind the instructions of six runs of the built program PSI, and compares them with
 bounds.txt, which has a line `KIT LEVEL RUN INSTRUCTIONS` for each kit of the toolchain that builds
 the program, each processor that it may be built for, and each run. The kit is the one of the `rt`
-on the PATH; where it has no line, nothing is compared, and the last line says so.
+on the PATH; where it has no line for the program's processor, nothing is compared, and the last
+line says so.
 
 A run that takes more than 3 % above its bound is a failure; one that takes more than 3 % less is
 reported, so that the bound can follow. The last line is `N runs within their bounds, M above`. The
@@ -56,9 +57,9 @@ def kit_here() -> str:
     return name
 
 
-def bounds_of(kit: str, bounds: AllBounds) -> Bounds:
-    """The bounds of the programs that a kit makes."""
-    return {(level, name): count for (other, level, name), count in bounds.items() if other == kit}
+def bounds_of(kit: str, level: str, bounds: AllBounds) -> Bounds:
+    """The bounds of the programs that a kit makes for a processor level."""
+    return {(lv, name): count for (other, lv, name), count in bounds.items() if (other, lv) == (kit, level)}
 
 
 def write_bounds(bounds: AllBounds) -> None:
@@ -109,13 +110,12 @@ def main() -> int:
     if not shutil.which("valgrind") or not shutil.which("objdump"):
         print("instructions: valgrind or objdump is not there", file=sys.stderr)
         return 2
-    kit, bounds = kit_here(), read_bounds()
-    own = bounds_of(kit, bounds)
-    if not given.write and not own:
-        print(f"no bound was made with {kit or 'a kit, which is not here'}: nothing is compared")
-        return 0
     program = str(pathlib.Path(given.program).resolve())
-    level = measure.level(program)
+    kit, level, bounds = kit_here(), measure.level(program), read_bounds()
+    own = bounds_of(kit, level, bounds)
+    if not given.write and not own:
+        print(f"there is no bound of {kit or 'a kit that is not here'} for {level}: nothing is compared")
+        return 0
     with tempfile.TemporaryDirectory() as folder:
         counts = measure.all_instructions(calls_of(program, pathlib.Path(folder)))
     if given.write:
