@@ -191,6 +191,12 @@ def test_every_run_has_a_bound_for_its_kit_and_level():
     assert levels and set(bounds) == {(*level, name) for level in levels for name in instructions.RUNS}
 
 
+def test_bounds_of_the_same_kit_and_level_are_compared_alone():
+    bounds = {("a", "x86-64", "one"): 1, ("a", "x86-64-v3", "one"): 2, ("b", "x86-64", "one"): 3}
+    assert instructions.bounds_of("a", "x86-64-v3", bounds) == {("x86-64-v3", "one"): 2}
+    assert instructions.bounds_of("c", "x86-64", bounds) == {}
+
+
 def found(seconds):
     return rivals.Found(1.0, 0.01, seconds, seconds)
 
