@@ -4,3 +4,4 @@ pub mod Words
 pub mod Request
 pub mod Status
 pub mod Tables
+pub mod Paths

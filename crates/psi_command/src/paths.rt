@@ -1,0 +1,55 @@
+//! The paths that the words of `psi_paths` ask for.
+
+ghost use Rattle.std.specs.Prelude.{◌≡◌, ◌≤◌, map, string_bytes, IfOk};
+ghost use Rattle.psi_command.specs.Paths.{paths_of, GivesPaths, ArePathsInRange};
+
+use crate::table::Table;
+use crate::words::cursor::Cursor;
+
+/// The most steps that a path may have: its random words stand at places from 2 to the power 22 on, and below 2 to the
+/// power 32.
+const MOST_STEPS: u64 = 4_290_772_992;
+
+/// The paths of so many steps that begin in the samples of several streams, one row of sums for each.
+#[derive(Clone, Copy, Debug)]
+pub struct Paths<'w> {
+    /// The samples in which the paths begin.
+    pub table: Table<'w>,
+    /// The number of steps of each path, 0 to 4,290,772,992.
+    pub steps: u32,
+}
+
+/// The paths that the words ask for, or the place of the word that offends, counted from 1. It does not allocate.
+#[tactic(auto, unfolding(crate::specs::Paths::paths_of))]
+pub fn paths_of(words: &[String]) -> Result<Paths<'_>, u8>
+    ensures paths { GivesPaths result (paths_of (map string_bytes words.now)) }
+    ensures ranges { IfOk result ArePathsInRange }
+{
+    let mut words = Cursor::new(words);
+    let net = words.next_text()?;
+    let seed = words.next_number(u64::MAX)?;
+    let first = words.next_number(u64::MAX)?;
+    let count = words.next_count(u32::MAX, first)?;
+    let steps = words.next_number(MOST_STEPS)? as u32;
+    if !words.next_last("closed")? {
+        words.finish()?;
+        let table = Table {
+            net,
+            seed,
+            first,
+            count,
+            total: None,
+        };
+        return Ok(Paths { table, steps });
+    }
+    let total = words.next_number(256)? as u16;
+    words.finish()?;
+    let table = Table {
+        net,
+        seed,
+        first,
+        count,
+        total: Some(total),
+    };
+    Ok(Paths { table, steps })
+}
