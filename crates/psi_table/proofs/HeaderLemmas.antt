@@ -2,11 +2,11 @@
 use Rattle.std.specs.Prelude.{◌≡◌, ℕ, zero, suc, ◌+◌, List, [], ◌∷◌, ◌++◌, map, codes, Some, refl}
 use Rattle.std.specs.List.{slice_get}
 use Rattle.std.specs.Option.{option_map}
-use Rattle.std.proofs.Common.{sym, ◌∙◌, ap, take, append_assoc}
+use Rattle.std.proofs.Common.{sym, ◌∙◌, ap, take}
 use Rattle.psi_reward.specs.Worth.{worth_of}
 use Rattle.psi_net_model.specs.Network.{Network, NamedReward}
 use Rattle.psi_net_model.specs.declared.entries.Queue.{Queue}
-use Rattle.psi_report.specs.Quantities.{Quantity, queues_from, queue_quantities, reward_quantities}
+use Rattle.psi_report.specs.Quantities.{queues_from, queue_quantities}
 use Rattle.psi_table.specs.Table.{names_after, header_fields}
 
 -- one name more
@@ -17,12 +17,12 @@ names_more name_of word (x ∷ xs) zero name at = let same : name ≡ name_of x 
 names_more name_of word (x ∷ xs) (suc i) name at = ap (λ (ns : List (List ℕ)). (word ++ name_of x) ∷ ns) (names_more name_of word xs i name at)
 
 -- the names of quantities are those of the queues and of the rewards
-queue-names : (word : List ℕ) (i : ℕ) (queues : List Queue) → names_after word (queues_from i queues) ≡ map (λ (q : Queue). word ++ q.name) queues
+pub queue-names : (word : List ℕ) (i : ℕ) (queues : List Queue) → names_after word (queues_from i queues) ≡ map (λ (q : Queue). word ++ q.name) queues
 unfolding queues_from
 queue-names word i [] = refl
 queue-names word i (queue ∷ queues) = ap (λ (ns : List (List ℕ)). (word ++ queue.name) ∷ ns) (queue-names word (i + 1) queues)
 
-reward-names : (word : List ℕ) (rewards : List NamedReward)
+pub reward-names : (word : List ℕ) (rewards : List NamedReward)
     → names_after word (map (λ (r : NamedReward). record { name = r.name; value = worth_of r.kind }) rewards) ≡ map (λ (r : NamedReward). word ++ r.name) rewards
 reward-names word [] = refl
 reward-names word (r ∷ rewards) = ap (λ (ns : List (List ℕ)). (word ++ r.name) ∷ ns) (reward-names word rewards)

@@ -59,7 +59,7 @@ kinds_more P (r ∷ rewards) (suc i) kind at here all =
 
 -- ---- fields that need no quotes
 
-digits-field : (ds : List ℕ) → AllDigits 10 ds → IsPlainField ds
+pub digits-field : (ds : List ℕ) → AllDigits 10 ds → IsPlainField ds
 digits-field [] all = refl
 digits-field (c ∷ cs) all =
     let range : IsInRange 48 57 c = digit_from_value c all.0 in
@@ -69,7 +69,7 @@ digits-field (c ∷ cs) all =
     let feed : (c == 10) ≡ false = ne_eqb c 10 (λ e. absurd (omega arith)) in
     rw (comma, quote, return, feed) (digits-field cs all.1)
 
-number-field : (n : ℕ) → n < 2 ^ 64 → IsPlainField (decimal n)
+pub number-field : (n : ℕ) → n < 2 ^ 64 → IsPlainField (decimal n)
 number-field n few = digits-field (decimal n) (digits_decimal (numerals_by_value (AllDigits 10) tells_digits) n few)
 
 value-field : (z : ℤ) → unsigned_abs z ≤ 2 ^ 63 → IsPlainField (signed_decimal z)
@@ -96,12 +96,12 @@ rewards-plain state (r ∷ rewards) small =
     All-cons IsPlainField (signed_decimal (worth_of r.kind state)) (value_fields state (map worth rewards))
     (value-field (worth_of r.kind state) (All-head (IsSmallAt state) r rewards small)) (rewards-plain state rewards (All-tail (IsSmallAt state) r rewards small))
 
-empty-plain : (qs : List Quantity) → All IsPlainField (map (λ (q : Quantity). []) qs)
+pub empty-plain : (qs : List Quantity) → All IsPlainField (map (λ (q : Quantity). []) qs)
 empty-plain [] = All-nil IsPlainField
 empty-plain (q ∷ qs) = All-cons IsPlainField [] (map (λ (q : Quantity). []) qs) refl (empty-plain qs)
 
 -- such fields stand as they are, a comma before each
-fields-behind : (fields : List (List ℕ)) → All IsPlainField fields → fields_text default_writer fields ≡ behind fields
+pub fields-behind : (fields : List (List ℕ)) → All IsPlainField fields → fields_text default_writer fields ≡ behind fields
 unfolding fields_text
 fields-behind [] plain = refl
 fields-behind (field ∷ fields) plain =
@@ -162,12 +162,12 @@ line_met old net stream horizon state few fits count each small =
     ∙ ap (λ (xs : List ℕ). old ++ ((decimal stream ++ ((44 ∷ decimal horizon) ++ xs)) ++ 10 ∷ [])) (sym (values-told net state count))
     ∙ ap (λ (xs : List ℕ). old ++ xs) (sym line)
 
-queues-number : (i : ℕ) (queues : List Queue) → length (queues_from i queues) ≡ length queues
+pub queues-number : (i : ℕ) (queues : List Queue) → length (queues_from i queues) ≡ length queues
 unfolding queues_from
 queues-number i [] = refl
 queues-number i (queue ∷ queues) = ap suc (queues-number (i + 1) queues)
 
-commas : (qs : List Quantity) → behind (map (λ (q : Quantity). []) qs) ≡ replicate (length qs) 44
+pub commas : (qs : List Quantity) → behind (map (λ (q : Quantity). []) qs) ≡ replicate (length qs) 44
 commas [] = refl
 commas (q ∷ qs) = ap (λ (xs : List ℕ). 44 ∷ xs) (commas qs)
 

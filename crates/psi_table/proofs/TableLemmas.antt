@@ -1,6 +1,6 @@
 -- Tables, row by row.
-use Rattle.std.specs.Prelude.{◌≡◌, ℕ, zero, suc, ◌+◌, List, [], ◌∷◌, ◌++◌, length, refl}
-use Rattle.std.proofs.Common.{sym, ◌∙◌, ap, append_assoc, append-nil, arith}
+use Rattle.std.specs.Prelude.{◌≡◌, ℕ, suc, ◌+◌, List, [], ◌∷◌, ◌++◌, length}
+use Rattle.std.proofs.Common.{sym, ◌∙◌, ap, append-nil, arith}
 use Rattle.std.proofs.lemmas.Grind.{flat_map-append}
 use Rattle.csv.specs.Writing.{row_text, default_writer}
 use Rattle.psi_state.specs.declared.Outcome.{Outcome}
@@ -17,7 +17,7 @@ rows-append net first (x ∷ xs) ys =
     let same : suc first + length xs ≡ first + suc (length xs) = omega arith in
     ap (λ (rows : List (List (List ℕ))). stream_fields net first x ∷ rows) (rows-append net (suc first) xs ys ∙ ap (λ n. stream_rows net (suc first) xs ++ stream_rows net n ys) same)
 
-rows_text-append : (xs ys : List (List (List ℕ))) → rows_text (xs ++ ys) ≡ rows_text xs ++ rows_text ys
+pub rows_text-append : (xs ys : List (List (List ℕ))) → rows_text (xs ++ ys) ≡ rows_text xs ++ rows_text ys
 unfolding rows_text
 rows_text-append xs ys = flat_map-append (row_text default_writer) xs ys
 

@@ -1,3 +1,5 @@
 -- The definitions of this crate.
 pub mod Table
 pub mod Lines
+pub mod Paths
+pub mod PathLines

@@ -24,8 +24,8 @@ fn push_column(header: &mut ByteRecord, word: &[u8], name: &Name) -> Result<(), 
     header.push_field(column.as_slice())
 }
 
-// Appends what the columns of the queues are called.
-fn push_queues(header: &mut ByteRecord, net: &Net) -> Result<(), AllocError>
+/// Appends what the columns of the queues are called.
+pub(crate) fn push_queues(header: &mut ByteRecord, net: &Net) -> Result<(), AllocError>
     requires { partial_of header.old ≡ [] }
     ensures fields { OnOk result (fields_of header.new ≡ fields_of header.old ++ map (λ q. codes "queue." ++ q.name) net.now.queues) }
     ensures whole { OnOk result (partial_of header.new ≡ []) }
@@ -36,8 +36,8 @@ fn push_queues(header: &mut ByteRecord, net: &Net) -> Result<(), AllocError>
     Ok(())
 }
 
-// Appends what the columns of the rewards are called.
-fn push_rewards(header: &mut ByteRecord, net: &Net) -> Result<(), AllocError>
+/// Appends what the columns of the rewards are called.
+pub(crate) fn push_rewards(header: &mut ByteRecord, net: &Net) -> Result<(), AllocError>
     requires { partial_of header.old ≡ [] }
     ensures fields { OnOk result (fields_of header.new ≡ fields_of header.old ++ map (λ r. codes "reward." ++ r.name) net.now.rewards) }
     ensures whole { OnOk result (partial_of header.new ≡ []) }
@@ -70,8 +70,8 @@ fn into_text(table: Writer<Vec<u8>>) -> Result<Vec<u8>, OutOfMemory>
     }
 }
 
-// The line of a record's fields.
-fn record_line(alloc: Global, fields: &ByteRecord) -> Result<Vec<u8>, OutOfMemory>
+/// The line of a record's fields.
+pub(crate) fn record_line(alloc: Global, fields: &ByteRecord) -> Result<Vec<u8>, OutOfMemory>
     ensures { IfOk result (λ line. line.items ≡ row_text default_writer (fields_of fields.now)) }
 {
     let mut table = Writer::from_writer(Vec::new(alloc));

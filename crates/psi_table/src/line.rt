@@ -16,10 +16,6 @@ use psi_net_model::Net;
 use psi_reward::RewardLaw;
 use psi_state::{Outcome, State};
 
-/// More bytes than a line has: a stream, a horizon and 32 numbers of customers of at most 20 digits each, 64 values of at
-/// most 21 bytes, a comma before each field but the first, and a line feed.
-pub(crate) const LONGEST: usize = 2_200;
-
 // Appends a comma and a number of customers.
 fn put_customers(line: &mut Vec<u8>, customers: u16)
     requires { vec_len line.old + 21 ≤ vec_capacity line.old }

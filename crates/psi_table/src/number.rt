@@ -106,3 +106,14 @@ pub(crate) fn put_integer(line: &mut Vec<u8>, value: i64)
     line.push_reserved(b'-');
     put_number(line, value.unsigned_abs());
 }
+
+/// Appends an integer of 128 bits.
+pub(crate) fn put_wide(line: &mut Vec<u8>, value: i128)
+    requires { vec_len line.old + 40 ≤ vec_capacity line.old }
+    ensures text { line.new.items ≡ line.old.items ++ signed_decimal value }
+    ensures count { vec_len line.new ≤ vec_len line.old + 40 }
+    ensures room { vec_capacity line.old ≤ vec_capacity line.new }
+{
+    let mut digits = Buffer::new();
+    put(line, digits.format(value).as_bytes());
+}

@@ -1,12 +1,16 @@
 //! The block in which the lines of a table are gathered before they are written.
 
-ghost use Rattle.std.specs.Prelude.{◌≡◌, ◌<◌, [], ◌++◌, length, IfOk, OnOk};
+ghost use Rattle.std.specs.Prelude.{◌≡◌, ℕ, ◌<◌, [], ◌++◌, length, IfOk, OnOk};
 ghost use Rattle.psi_log_writer.specs.Sending.{Sends};
 ghost use Rattle.psi_report.specs.Samples.{IsSampleOf};
 ghost use Rattle.psi_table.specs.Lines.{header_line, stream_line};
+ghost use Rattle.psi_table.specs.Paths.{AreSumsFor, AreOfStream};
+ghost use Rattle.psi_table.specs.PathLines.{paths_header_line, path_line};
 
 use crate::header::header_line;
-use crate::line::{LONGEST, put_line};
+use crate::line::put_line;
+use crate::path_header::paths_header_line;
+use crate::path_line::{LONGEST, Walked, put_path_line};
 use psi_io::{Sink, SinkFault, write_all};
 use psi_net_model::{Net, OutOfMemory};
 use psi_state::Outcome;
@@ -16,10 +20,10 @@ use std::marker::Model;
 // The number of bytes with which a block is full.
 const FULL: usize = 65_536;
 
-/// The lines of a table that wait to be written. They go to a sink in blocks: where 65,536 bytes or more wait, all of them
+/// The lines of a table, of samples or of their paths, that wait to be written. They go to a sink in blocks: where 65,536 bytes or more wait, all of them
 /// do before one more line is put. It is seen as the bytes that wait.
 ///
-/// Only `begin` allocates.
+/// Only `begin` and `begin_paths` allocate, and as much for each network.
 #[derive(Drop)]
 pub struct Rows {
     bytes: Vec<u8>,
@@ -32,11 +36,11 @@ impl Model for Rows {
 
     ghost view = { λ r. r.bytes.items };
 
-    ghost invariant = { λ r. 67736 ≤ vec_capacity r.bytes };
+    ghost invariant = { λ r. 111936 ≤ vec_capacity r.bytes };
 }
 
 impl Rows {
-    /// The header of a network's table, which waits, with the room for a block and a line.
+    /// The header of the table of a network's samples, which waits, with the room for a block and a line.
     ///
     /// # Errors
     ///
@@ -44,7 +48,25 @@ impl Rows {
     pub fn begin(alloc: Global, net: &Net) -> Result<Rows, OutOfMemory>
         ensures { IfOk result (λ rows. rows ≡ header_line net.now) }
     {
-        let mut bytes = header_line(alloc, net)?;
+        Rows::reserve(header_line(alloc, net)?)
+    }
+
+    /// The header of the table of a network's paths, which waits, with the room for a block and a line.
+    ///
+    /// # Errors
+    ///
+    /// [`OutOfMemory`] where there is no memory for it.
+    pub fn begin_paths(alloc: Global, net: &Net) -> Result<Rows, OutOfMemory>
+        ensures { IfOk result (λ rows. rows ≡ paths_header_line net.now) }
+    {
+        Rows::reserve(paths_header_line(alloc, net)?)
+    }
+
+    // A header that waits, with the room for a block and a line.
+    fn reserve(header: Vec<u8>) -> Result<Rows, OutOfMemory>
+        ensures { IfOk result (λ rows. rows ≡ header.items) }
+    {
+        let mut bytes = header;
         bytes.reserve(FULL + LONGEST)?;
         Ok(Rows { bytes })
     }
@@ -70,6 +92,32 @@ impl Rows {
     {
         self.make_room(out)?;
         put_line(&mut self.bytes, net, stream, outcome);
+        Ok(())
+    }
+
+    /// Puts the row of the path of a stream behind what waits, which is written first where a block is full. Where the stream's
+    /// sample is met, the sums that were walked have to be those of its path, under whatever seed; where it isn't, they are
+    /// not read.
+    ///
+    /// # Errors
+    ///
+    /// [`SinkFault::Failed`] only where the sink's count rose in this call or stands at the greatest u64.
+    pub fn put_path<O: Sink>(
+        &mut self,
+        net: &Net,
+        stream: u64,
+        outcome: &Outcome,
+        walked: &Walked<'_>,
+        out: &mut O,
+    ) -> Result<(), SinkFault>
+        requires { AreSumsFor net.now walked.now.walk.now }
+        ensures { (seed : ℕ) → AreOfStream net.now seed walked.now.steps stream outcome.now walked.now.walk.now → Sends result
+            (record { held = O.held out.old; took = O.took out.old; faults = O.faults out.old; takes = O.takes out.old })
+            (record { held = O.held out.new; took = O.took out.new; faults = O.faults out.new; takes = O.takes out.new })
+            self.new (self.old ++ path_line net.now seed walked.now.steps stream outcome.now) }
+    {
+        self.make_room(out)?;
+        put_path_line(&mut self.bytes, net, stream, outcome, walked);
         Ok(())
     }
 

@@ -1,5 +1,5 @@
 -- Answers in the proof of `line::put_rewards`.
-use Rattle.std.proofs.Common.{◌≡◌, ◌+◌, ◌≤◌, ◌^◌, ◌∙◌, ◌++◌, ◌∷◌, ℕ, ℤ, List, All, take, ap, sym, subst, add-one, append_assoc, w64, to_z, of_z, SFits, rules, arith}
+use Rattle.std.proofs.Common.{◌≡◌, ◌≤◌, ◌^◌, ◌∙◌, ◌++◌, ◌∷◌, ℕ, ℤ, List, All, take, ap, sym, subst, add-one, append_assoc, w64, to_z, of_z, SFits, rules, arith}
 use Rattle.std.specs.Fmt.{signed_decimal}
 use Rattle.std.specs.Int.RustNames.{unsigned_abs}
 use Rattle.std.proofs.lemmas.Int.{ints, to_z-of_z}

@@ -1,0 +1,10 @@
+-- Answers in the proof of `path_line::put_unmet`.
+use Rattle.std.proofs.Common.{ℕ, ◌+◌, ◌*◌, List, [], ◌∷◌, ◌++◌, length, replicate, ◌∙◌, ap}
+use Rattle.psi_table.proofs.PathLineLemmas.{line_unwalked}
+use Rattle.psi_table.proofs.path_line.put_unmet.Goals as goal
+
+pub returns-clause-text : goal.returns-clause-text
+returns-clause-text c seed steps limit =
+    let net = c.args.net.now in
+    let second = c.put_empty.ensures.text ∙ ap (λ (xs : List ℕ). xs ++ replicate (length net.queues + length net.rewards + 2 * length net.events + 2) 44) c.put_number.ensures.text in
+    c.push_reserved.ensures.items ∙ ap (λ (xs : List ℕ). xs ++ 10 ∷ []) second ∙ line_unwalked c.args.line.now.items net seed steps c.args.stream limit c.ranges.stream.fits
