@@ -1,8 +1,1 @@
--- The lemmas of this crate.
-pub mod WritingLemmas
-pub mod NamingLemmas
-pub mod StatesLemmas
-pub mod EndingsLemmas
-pub mod RunningLemmas
-pub mod FinishingLemmas
-pub mod EdgeLemmas
+-- The lemmas of this crate: none.

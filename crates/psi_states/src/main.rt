@@ -8,11 +8,7 @@ ghost use Rattle.std.specs.Process.{exit_status};
 ghost use Rattle.psi_program.specs.Run.{HasEnded};
 ghost use Rattle.psi_states.specs.Run.{IsRunOf};
 
-mod drawing;
-mod naming;
 mod program;
-mod table;
-mod work;
 
 use crate::program::run;
 use psi_io::{DiskShelf, Shelf, Sink, StdSink};

@@ -1,6 +1,6 @@
 //! The call that does all that the program does.
 
-ghost use Rattle.std.specs.Prelude.{◌≡◌, ◌≢◌, ℕ, List, ◌⊎◌, Some, None, Ok, map, string_bytes};
+ghost use Rattle.std.specs.Prelude.{◌≡◌, ◌≢◌, ℕ, List, ◌⊎◌, Some, None, Ok, map, string_bytes, IfOk};
 ghost use Rattle.psi_program.specs.Run.{HasRun};
 ghost use Rattle.psi_io.specs.Counts.{Rose};
 ghost use Rattle.psi_net_model.specs.Network.{Network};
@@ -8,18 +8,28 @@ ghost use Rattle.psi_net.specs.Reading.{network_of};
 ghost use Rattle.psi_command.specs.Status.{status_code, IsReplied};
 ghost use Rattle.psi_command.specs.Tables.{Table, table_of};
 ghost use Rattle.psi_reply.specs.Reply.{Reply};
-ghost use Rattle.psi_states.specs.Reply.{reply_to};
+ghost use Rattle.psi_streams.specs.Asked.{seen_result, IsInRange};
+ghost use Rattle.psi_states.specs.Reply.{asked_of, reply_to};
 ghost use Rattle.psi_states.specs.Means.{IsTableOf, Means};
 ghost use Rattle.psi_states.specs.Seen.{IsGiven};
 ghost use Rattle.psi_states.specs.Call.{IsRun, AreTaken};
 ghost use Rattle.psi_states.specs.Run.{IsRunOf};
 
-use crate::naming::finish;
-use crate::work::perform;
 use psi_command::{Status, table_of};
 use psi_io::{Shelf, Sink};
-use psi_reply::Ending;
+use psi_streams::Asked;
 use std::alloc::Global;
+
+// What the words ask for, or the place of the word that offends.
+fn asked_of(words: &[String]) -> Result<Asked<'_>, u8>
+    ensures asked { seen_result result ≡ asked_of (table_of (map string_bytes words.now)) }
+    ensures ranges { IfOk result IsInRange }
+{
+    match table_of(words) {
+        Ok(table) => Ok(Asked { table, steps: None }),
+        Err(place) => Err(place),
+    }
+}
 
 /// Draws the samples that the words ask for, and prints their table; it answers how that ended.
 ///
@@ -93,8 +103,6 @@ pub(crate) fn run<F: Shelf, O: Sink, E: Sink>(
         → (F.faults shelf.new ≡ F.faults shelf.old) × (O.faults out.new ≡ O.faults out.old) × (E.faults err.new ≡ E.faults err.old)
         × ((result ≡ reply.status) ⊎ (result ≡ Status.OutOfMemory)) }
 {
-    match table_of(words) {
-        Ok(table) => perform(alloc, &table, shelf, out, err),
-        Err(place) => finish(&Ending::Usage(place), out, err),
-    }
+    let asked = asked_of(words);
+    psi_streams::run(alloc, b"psi_states", asked, shelf, out, err)
 }

@@ -1,0 +1,172 @@
+//! What a call does for its words: the memory is taken, and the table drawn and written.
+
+ghost use Rattle.std.specs.Prelude.{◌≡◌, ◌+◌, ◌^◌, ◌≤◌, ℕ, Ok, length, IfSome};
+ghost use Rattle.psi_io.specs.Shelf.{AgreesSince};
+ghost use Rattle.psi_closed.specs.Diagram.{IsTotal};
+ghost use Rattle.psi_net_model.specs.Network.{caps_of};
+ghost use Rattle.psi_program.specs.Finished.{IsFinished};
+ghost use Rattle.psi_program.specs.Seen.{ShelfCall};
+ghost use Rattle.psi_streams.specs.Asked.{seen_asked, IsInRange};
+ghost use Rattle.psi_reply.specs.Closed.{AreMovesOf};
+ghost use Rattle.psi_reply.specs.Ending.{EndsWith};
+ghost use Rattle.psi_reply.specs.Report.{samples_of};
+ghost use Rattle.psi_streams.specs.Named.{named_reply, faults};
+ghost use Rattle.psi_streams.specs.Reply.{table_reply, closed_samples_of, closed_states_reply, asked_reply};
+ghost use Rattle.psi_streams.specs.Ended.{IsEndingOf};
+
+use crate::drawing::{ClosedStreams, OpenStreams};
+use crate::naming::finish;
+use crate::program::Task;
+use crate::table::{table_status, write_table};
+use crate::tabling::Tabling;
+use psi_command::Status;
+use psi_io::{Shelf, Sink};
+use psi_kinds::Move;
+use psi_net_model::Net;
+use psi_past::SeedPast;
+use psi_reply::{Ending, closed_plan, has_room, moves_of, plan_for};
+use psi_run::network_at;
+use std::alloc::Global;
+
+// The table of a network's samples or of their paths, written, or what is told in its place.
+fn write_open<O: Sink, E: Sink>(
+    alloc: Global,
+    net: &Net,
+    task: &Task<'_>,
+    out: &mut O,
+    err: &mut E,
+) -> Status
+    requires name { length task.now.name.now ≤ 10 }
+    requires streams { task.now.asked.table.first + task.now.asked.table.count ≤ 2 ^ 64 }
+    requires few { IfSome task.now.asked.steps (λ steps. steps ≤ 4290772992) }
+    ensures { IsFinished (faults task.now.name.now) (λ ending. EndsWith ending (table_reply task.now.asked.steps net.now task.now.asked.table.seed task.now.asked.table.first (samples_of net.now task.now.asked.table.seed task.now.asked.table.first task.now.asked.table.count)))
+        (O.takes out.old) (E.takes err.old)
+        (record { before = O.held out.old; after = O.held out.new; took_before = O.took out.old; took_after = O.took out.new; faults_before = O.faults out.old; faults_after = O.faults out.new })
+        (record { before = E.held err.old; after = E.held err.new; took_before = E.took err.old; took_after = E.took err.new; faults_before = E.faults err.old; faults_after = E.faults err.new })
+        result }
+{
+    let table = &task.asked.table;
+    let Ok(plan) = plan_for(alloc, net, table.seed, table.first) else {
+        return finish(task.name, &Ending::OutOfMemory, out, err);
+    };
+    let mut streams = OpenStreams::new(net, table.seed, plan);
+    let Ok(mut tabling) = Tabling::begin(alloc, net, table.seed, task.asked.steps) else {
+        return finish(task.name, &Ending::OutOfMemory, out, err);
+    };
+    let written = write_table(&mut streams, &mut tabling, table.first, table.count, out);
+    table_status(written)
+}
+
+// The same of a closed network of these moves, written, or what is told in its place.
+fn write_moves<O: Sink, E: Sink>(
+    alloc: Global,
+    net: &Net,
+    moves: &[Move],
+    task: &Task<'_>,
+    total: u16,
+    out: &mut O,
+    err: &mut E,
+) -> Status
+    requires moves { AreMovesOf net.now.events moves.now }
+    requires fits { IsTotal (caps_of net.now) total }
+    requires name { length task.now.name.now ≤ 10 }
+    requires streams { task.now.asked.table.first + task.now.asked.table.count ≤ 2 ^ 64 }
+    requires few { IfSome task.now.asked.steps (λ steps. steps ≤ 4290772992) }
+    ensures { IsFinished (faults task.now.name.now) (λ ending. EndsWith ending (table_reply task.now.asked.steps net.now task.now.asked.table.seed task.now.asked.table.first (closed_samples_of net.now task.now.asked.table.seed total task.now.asked.table.first task.now.asked.table.count)))
+        (O.takes out.old) (E.takes err.old)
+        (record { before = O.held out.old; after = O.held out.new; took_before = O.took out.old; took_after = O.took out.new; faults_before = O.faults out.old; faults_after = O.faults out.new })
+        (record { before = E.held err.old; after = E.held err.new; took_before = E.took err.old; took_after = E.took err.new; faults_before = E.faults err.old; faults_after = E.faults err.new })
+        result }
+{
+    let table = &task.asked.table;
+    let past = SeedPast::new(table.seed, table.first);
+    let Ok(plan) = closed_plan(alloc, net, moves, past, total) else {
+        return finish(task.name, &Ending::OutOfMemory, out, err);
+    };
+    let mut streams = ClosedStreams::new(net, table.seed, plan);
+    let Ok(mut tabling) = Tabling::begin(alloc, net, table.seed, task.asked.steps) else {
+        return finish(task.name, &Ending::OutOfMemory, out, err);
+    };
+    let written = write_table(&mut streams, &mut tabling, table.first, table.count, out);
+    table_status(written)
+}
+
+// The same of a closed network, written, or what is told in its place.
+fn write_closed<O: Sink, E: Sink>(
+    alloc: Global,
+    net: &Net,
+    task: &Task<'_>,
+    total: u16,
+    out: &mut O,
+    err: &mut E,
+) -> Status
+    requires name { length task.now.name.now ≤ 10 }
+    requires streams { task.now.asked.table.first + task.now.asked.table.count ≤ 2 ^ 64 }
+    requires few { IfSome task.now.asked.steps (λ steps. steps ≤ 4290772992) }
+    requires most { total ≤ 256 }
+    ensures { IsFinished (faults task.now.name.now) (λ ending. EndsWith ending (named_reply task.now.name.now (closed_states_reply task.now.asked.steps net.now task.now.asked.table.seed task.now.asked.table.first task.now.asked.table.count total)))
+        (O.takes out.old) (E.takes err.old)
+        (record { before = O.held out.old; after = O.held out.new; took_before = O.took out.old; took_after = O.took out.new; faults_before = O.faults out.old; faults_after = O.faults out.new })
+        (record { before = E.held err.old; after = E.held err.new; took_before = E.took err.old; took_after = E.took err.new; faults_before = E.faults err.old; faults_after = E.faults err.new })
+        result }
+{
+    let moves = match moves_of(alloc, net) {
+        Ok(moves) => moves,
+        Err(ending) => return finish(task.name, &ending, out, err),
+    };
+    if !has_room(net, total) {
+        return finish(task.name, &Ending::NoSuchTotal, out, err);
+    }
+    write_moves(alloc, net, moves.as_slice(), task, total, out, err)
+}
+
+// The same of a network, closed or not, written, or what is told in its place.
+fn write_states<O: Sink, E: Sink>(
+    alloc: Global,
+    net: &Net,
+    task: &Task<'_>,
+    out: &mut O,
+    err: &mut E,
+) -> Status
+    requires name { length task.now.name.now ≤ 10 }
+    requires ranges { IsInRange task.now.asked }
+    ensures { IsFinished (faults task.now.name.now) (λ ending. EndsWith ending (named_reply task.now.name.now (asked_reply (seen_asked task.now.asked) net.now)))
+        (O.takes out.old) (E.takes err.old)
+        (record { before = O.held out.old; after = O.held out.new; took_before = O.took out.old; took_after = O.took out.new; faults_before = O.faults out.old; faults_after = O.faults out.new })
+        (record { before = E.held err.old; after = E.held err.new; took_before = E.took err.old; took_after = E.took err.new; faults_before = E.faults err.old; faults_after = E.faults err.new })
+        result }
+{
+    match task.asked.table.total {
+        Some(total) => write_closed(alloc, net, task, total, out, err),
+        None => write_open(alloc, net, task, out, err),
+    }
+}
+
+/// Does what is asked for: the network is read, all memory is taken, and the table is drawn and written.
+///
+/// The table goes to out in pieces, so it is no text of an ending. It is as if it were: there is an ending whose text was
+/// written, whole or in part.
+pub(crate) fn perform<F: Shelf, O: Sink, E: Sink>(
+    alloc: Global,
+    task: &Task<'_>,
+    shelf: &mut F,
+    out: &mut O,
+    err: &mut E,
+) -> Status
+    requires name { length task.now.name.now ≤ 10 }
+    requires ranges { IsInRange task.now.asked }
+    ensures finished { let seen : ShelfCall = record { gave_before = F.gave shelf.old; gave_after = F.gave shelf.new; asked_before = F.asked shelf.old; asked_after = F.asked shelf.new; faults_before = F.faults shelf.old; faults_after = F.faults shelf.new } in
+        IsFinished (faults task.now.name.now) (IsEndingOf task.now.name.now seen (F.gives shelf.old) (Ok (seen_asked task.now.asked))) (O.takes out.old) (E.takes err.old)
+        (record { before = O.held out.old; after = O.held out.new; took_before = O.took out.old; took_after = O.took out.new; faults_before = O.faults out.old; faults_after = O.faults out.new })
+        (record { before = E.held err.old; after = E.held err.new; took_before = E.took err.old; took_after = E.took err.new; faults_before = E.faults err.old; faults_after = E.faults err.new })
+        result }
+    // The answers agree with what the shelf tells.
+    ensures agrees { AgreesSince (F.told shelf.old) (F.gave shelf.old) (F.gave shelf.new) }
+    // Where the shelf gives the network file, no count rose.
+    ensures spared { F.gives shelf.old task.now.asked.table.net.now → F.faults shelf.new ≡ F.faults shelf.old }
+{
+    match network_at(alloc, shelf, task.asked.table.net) {
+        Ok(net) => write_states(alloc, &net, task, out, err),
+        Err(ending) => finish(task.name, &ending, out, err),
+    }
+}
