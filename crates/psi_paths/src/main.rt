@@ -1,0 +1,52 @@
+//! The program `psi_paths`: stationary paths, each from a sample on.
+//!
+//! `psi_paths NET SEED FIRST COUNT STEPS` prints sums along the paths of STEPS steps that begin in the samples of a network, one
+//! row for each of COUNT streams from FIRST on; with `closed TOTAL` behind, of a closed network with so many customers.
+#![tactic(auto)]
+
+ghost use Rattle.std.specs.Process.{exit_status};
+ghost use Rattle.psi_program.specs.Run.{HasEnded};
+ghost use Rattle.psi_paths.specs.Run.{IsRunOf};
+
+mod program;
+
+use crate::program::run;
+use psi_io::{DiskShelf, Shelf, Sink, StdSink};
+use psi_program::{Program, start};
+use std::alloc::Global;
+use std::process::ExitCode;
+
+/// The program, as the system starts it.
+struct Walking;
+
+impl Program for Walking {
+    ghost is_run = { λ _. IsRunOf };
+
+    fn run<F: Shelf, O: Sink, E: Sink>(
+        &self,
+        alloc: Global,
+        words: &[String],
+        shelf: &mut F,
+        out: &mut O,
+        err: &mut E,
+    ) -> u8 {
+        run(alloc, words, shelf, out, err).code()
+    }
+}
+
+/// Runs the program over the words, the files and the two outputs of the system.
+///
+/// It ends for want of words, or as a run of the program: by the bytes that the system answered to its reads, and those
+/// that it accepted on its outputs.
+fn run_paths(rt: &HostRuntime) -> ExitCode
+    ensures process { HasEnded IsRunOf (exit_status result) }
+{
+    let mut shelf = DiskShelf::new(rt);
+    let mut out = StdSink::new(rt.stdout());
+    let mut err = StdSink::new(rt.stderr());
+    start(&Walking, rt, &mut shelf, &mut out, &mut err)
+}
+
+fn main(rt: HostRuntime) -> ExitCode {
+    run_paths(&rt)
+}

@@ -1,0 +1,116 @@
+//! The call that does all that the program does.
+
+ghost use Rattle.std.specs.Prelude.{◌≡◌, ◌≢◌, ℕ, List, ◌⊎◌, Some, None, Ok, map, string_bytes, IfOk};
+ghost use Rattle.psi_program.specs.Run.{HasRun};
+ghost use Rattle.psi_io.specs.Counts.{Rose};
+ghost use Rattle.psi_net_model.specs.Network.{Network};
+ghost use Rattle.psi_net.specs.Reading.{network_of};
+ghost use Rattle.psi_command.specs.Status.{status_code, IsReplied};
+ghost use Rattle.psi_command.specs.Paths.{Paths, paths_of};
+ghost use Rattle.psi_reply.specs.Reply.{Reply};
+ghost use Rattle.psi_streams.specs.Asked.{seen_result, IsInRange};
+ghost use Rattle.psi_paths.specs.Reply.{asked_of, reply_to};
+ghost use Rattle.psi_paths.specs.Means.{IsTableOf, Means};
+ghost use Rattle.psi_paths.specs.Seen.{IsGiven};
+ghost use Rattle.psi_paths.specs.Call.{IsRun, AreTaken};
+ghost use Rattle.psi_paths.specs.Run.{IsRunOf};
+
+use psi_command::{Status, paths_of};
+use psi_io::{Shelf, Sink};
+use psi_streams::Asked;
+use std::alloc::Global;
+
+// What the words ask for, or the place of the word that offends.
+fn asked_of(words: &[String]) -> Result<Asked<'_>, u8>
+    ensures asked { seen_result result ≡ asked_of (paths_of (map string_bytes words.now)) }
+    ensures ranges { IfOk result IsInRange }
+{
+    match paths_of(words) {
+        Ok(paths) => Ok(Asked {
+            table: paths.table,
+            steps: Some(paths.steps),
+        }),
+        Err(place) => Err(place),
+    }
+}
+
+/// Draws the samples that the words ask for, walks the path that begins in each, and prints a table of sums along them; it
+/// answers how that ended.
+///
+/// | Words | Table |
+/// |---|---|
+/// | `NET SEED FIRST COUNT STEPS` | the paths of the network in NET that begin in its samples, one for each stream FIRST, .., FIRST + COUNT - 1, as `psi sample NET SEED STREAM` prints them |
+/// | `NET SEED FIRST COUNT STEPS closed TOTAL` | those that begin in the samples of the closed network with TOTAL customers, as `psi closed NET SEED STREAM TOTAL` prints them |
+///
+/// SEED and FIRST are numbers of at most 2 to the power 64 less 1, COUNT is 1 to 4,294,967,295, STEPS 0 to 4,290,772,992, TOTAL at
+/// most 256, and the last stream is at most 2 to the power 64 less 1. The table is comma-separated values (RFC 4180, with a
+/// line feed alone at each end). Its header is `stream`, `horizon`, `steps`, `queue.` with the name of each queue, `reward.` with
+/// the name of each reward, and for each event of the expanded list `event.` and `moved.` with its name, a dot and the number of
+/// its server. A row tells the stream, the horizon of its sample, and the number of steps. Then come the sums over the times 0, 1,
+/// .., STEPS of the customers in each queue and of the value of each reward. Then comes for each event at how many of the times 1, 2,
+/// .., STEPS it was chosen, and at how many of them it changed the state. A sample that isn't met has empty fields behind its stream.
+///
+/// The event of time k, from 1 on, is that of the word at place 2 to the power 22 plus k - 1 of the stream: no sample reads it.
+///
+/// All memory is taken before the first byte is written, and depends neither on COUNT nor on STEPS. The table goes to out in blocks
+/// of some 65,536 bytes. With any other status than `Done`, `NotCoupled` and `WriteFault` nothing is written to out, and one
+/// line to err tells why.
+///
+/// | Status | Line |
+/// |---|---|
+/// | `Usage` | `psi_paths: usage word N` |
+/// | `NetRefused` | `psi_paths: network refused CODE NAME SECTION NUMBER KEY` |
+/// | `ReadFault` | `psi_paths: cannot read network` |
+/// | `OutOfMemory` | `psi_paths: out of memory` |
+/// | `NotClosed` | `psi_paths: not closed event E` |
+/// | `NoSuchTotal` | `psi_paths: no state with this total` |
+///
+/// The file NET is read once, up to one byte more than it may have. Where the shelf gives it, and out and err take their
+/// texts, no count rises, and the status is neither `ReadFault` nor `WriteFault`.
+pub(crate) fn run<F: Shelf, O: Sink, E: Sink>(
+    alloc: Global,
+    words: &[String],
+    shelf: &mut F,
+    out: &mut O,
+    err: &mut E,
+) -> Status
+    // What each status says of the words, the shelf and the sinks.
+    ensures call { IsRun (record {
+      words = map string_bytes words.now;
+      shelf = record { told = F.told shelf.old; asked_before = F.asked shelf.old; asked_after = F.asked shelf.new; faults_before = F.faults shelf.old; faults_after = F.faults shelf.new };
+      out = record { before = O.held out.old; after = O.held out.new; took_before = O.took out.old; took_after = O.took out.new; faults_before = O.faults out.old; faults_after = O.faults out.new };
+      err = record { before = E.held err.old; after = E.held err.new; took_before = E.took err.old; took_after = E.took err.new; faults_before = E.faults err.old; faults_after = E.faults err.new };
+    }) result }
+
+    // The headline: where the words ask for the table of the paths that begin in a network's samples, the shelf tells a file that reads as a
+    // network, no count of faults rose in this call and memory didn't run out, what is printed is the table of these paths.
+    ensures headline { (name : List ℕ) (seed first count steps : ℕ) (bytes : List ℕ) (net : Network)
+        → paths_of (map string_bytes words.now) ≡ Ok (record { table = record { net = name; seed = seed; first = first; count = count; total = None }; steps = steps })
+        → F.told shelf.old name ≡ Some bytes → network_of bytes ≡ Ok net
+        → ¬ (Rose (F.faults shelf.old name) (F.faults shelf.new name))
+        → ¬ (Rose (O.faults out.old) (O.faults out.new)) → ¬ (Rose (E.faults err.old) (E.faults err.new))
+        → result ≢ Status.OutOfMemory
+        → IsTableOf (O.held out.old) (O.held out.new) result net seed first count steps }
+
+    // What crossed the edges is a run of the program: the same over the bytes that were read and accepted, whatever the
+    // shelf and the sinks tell.
+    ensures edge { HasRun IsRunOf (map string_bytes words.now)
+        (record { gave = F.gave shelf.old; out = O.took out.old; err = E.took err.old; tally = record { asked = F.asked shelf.old; files = F.faults shelf.old; out = O.faults out.old; err = E.faults err.old } })
+        (record { gave = F.gave shelf.new; out = O.took out.new; err = E.took err.new; tally = record { asked = F.asked shelf.new; files = F.faults shelf.new; out = O.faults out.new; err = E.faults err.new } })
+        (status_code result) }
+
+    // What a status of a reply means for the table, closed or not, whatever counts rose.
+    ensures means { (paths : Paths) → paths_of (map string_bytes words.now) ≡ Ok paths → IsReplied result
+        → Means paths (F.told shelf.old) (O.held out.old) (O.held out.new) result }
+
+    // Where the shelf gives the network file, and out and err take the reply's texts and the line on memory that ran out, no
+    // count of faults rises in this call, and the status is the reply's or `OutOfMemory`.
+    ensures spared { (reply : Reply) → reply_to (paths_of (map string_bytes words.now)) (F.told shelf.old) ≡ Some reply
+        → IsGiven (F.gives shelf.old) (paths_of (map string_bytes words.now))
+        → AreTaken (O.takes out.old) (E.takes err.old) (paths_of (map string_bytes words.now)) reply
+        → (F.faults shelf.new ≡ F.faults shelf.old) × (O.faults out.new ≡ O.faults out.old) × (E.faults err.new ≡ E.faults err.old)
+        × ((result ≡ reply.status) ⊎ (result ≡ Status.OutOfMemory)) }
+{
+    let asked = asked_of(words);
+    psi_streams::run(alloc, b"psi_paths", asked, shelf, out, err)
+}
