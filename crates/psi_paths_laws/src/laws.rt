@@ -1,0 +1,19 @@
+//! The laws of tables of paths.
+
+ghost use Rattle.psi_paths_laws.specs.Statements.{PathsAreJoined, PrintedPathsAreJoined, ShortPathsTellSamples, UnmetPathsAreEmpty};
+
+/// The table of the paths of streams is that of the first of them, and behind it the rows of the others: of any samples
+/// (`any`), and of those that `psi_paths` prints of streams, and of those behind them (`printed`). So many machines can draw one
+/// table.
+pub fn paths_are_joined()
+    ensures any { PathsAreJoined }
+    ensures printed { PrintedPathsAreJoined }
+{}
+
+/// The row of a path of no step has the stream, the horizon and the values that the row of its sample has, and each event has
+/// happened at no time (`met`). Where the sample isn't met, each field behind the stream is empty, whatever the number of steps
+/// (`unmet`).
+pub fn short_paths_tell_samples()
+    ensures met { ShortPathsTellSamples }
+    ensures unmet { UnmetPathsAreEmpty }
+{}
