@@ -10,7 +10,7 @@ use crate::words::cursor::Cursor;
 /// power 32.
 const MOST_STEPS: u64 = 4_290_772_992;
 
-/// The paths of so many steps that begin in the samples of several streams, one row of sums for each.
+/// Paths of `steps` steps that begin in the samples of several streams, one row of sums for each.
 #[derive(Clone, Copy, Debug)]
 pub struct Paths<'w> {
     /// The samples in which the paths begin.
@@ -19,7 +19,8 @@ pub struct Paths<'w> {
     pub steps: u32,
 }
 
-/// The paths that the words ask for, or the place of the word that offends, counted from 1. It does not allocate.
+/// Returns the paths that the arguments ask for, or the place of the argument that offends, counted from 1. It does not
+/// allocate.
 #[tactic(auto, unfolding(crate::specs::Paths::paths_of))]
 pub fn paths_of(words: &[String]) -> Result<Paths<'_>, u8>
     ensures paths { GivesPaths result (paths_of (map string_bytes words.now)) }

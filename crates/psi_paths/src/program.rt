@@ -34,8 +34,8 @@ fn asked_of(words: &[String]) -> Result<Asked<'_>, u8>
     }
 }
 
-/// Draws the samples that the words ask for, walks the path that begins in each, and prints a table of sums along them; it
-/// answers how that ended.
+/// Draws the samples that the arguments ask for, walks the path that begins in each, and prints a table of sums along them. It
+/// returns how that ended.
 ///
 /// | Words | Table |
 /// |---|---|
@@ -46,15 +46,15 @@ fn asked_of(words: &[String]) -> Result<Asked<'_>, u8>
 /// most 256, and the last stream is at most 2 to the power 64 less 1. The table is comma-separated values (RFC 4180, with a
 /// line feed alone at each end). Its header is `stream`, `horizon`, `steps`, `queue.` with the name of each queue, `reward.` with
 /// the name of each reward, and for each event of the expanded list `event.` and `moved.` with its name, a dot and the number of
-/// its server. A row tells the stream, the horizon of its sample, and the number of steps. Then come the sums over the times 0, 1,
+/// its server. A row has the stream, the horizon of its sample, and the number of steps. Then come the sums over the times 0, 1,
 /// .., STEPS of the customers in each queue and of the value of each reward. Then comes for each event at how many of the times 1, 2,
-/// .., STEPS it was chosen, and at how many of them it changed the state. A sample that isn't met has empty fields behind its stream.
+/// .., STEPS it was chosen, and at how many of them it changed the state. A sample that is not met has empty fields after its stream.
 ///
 /// The event of time k, from 1 on, is that of the word at place 2 to the power 22 plus k - 1 of the stream: no sample reads it.
 ///
-/// All memory is taken before the first byte is written, and depends neither on COUNT nor on STEPS. The table goes to out in blocks
+/// It allocates before the first byte is written, and as much for each COUNT and STEPS. The table goes to out in blocks
 /// of some 65,536 bytes. With any other status than `Done`, `NotCoupled` and `WriteFault` nothing is written to out, and one
-/// line to err tells why.
+/// line to err says why.
 ///
 /// | Status | Line |
 /// |---|---|

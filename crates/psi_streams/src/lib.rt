@@ -1,7 +1,7 @@
 //! Programs that print a table with one row for each of many streams: of their samples, or of the paths that begin in them.
 //!
-//! Such a program is a name and its own words; [`run`] does the rest. It reads the network, takes all memory, and draws and writes the
-//! table row by row.
+//! Such a program is a name and its own arguments; [`run`] does the rest. It reads the network, allocates, and then draws and
+//! writes the table row by row.
 #![tactic(auto)]
 
 mod drawing;

@@ -16,7 +16,7 @@ use psi_io::{Shelf, Sink};
 use psi_reply::Ending;
 use std::alloc::Global;
 
-/// What the words of a program ask for.
+/// What the arguments of a program ask for.
 #[derive(Clone, Copy, Debug)]
 pub struct Asked<'w> {
     /// The samples.
@@ -25,18 +25,18 @@ pub struct Asked<'w> {
     pub steps: Option<u32>,
 }
 
-/// What is to be done: under the name of a program, what its words ask for.
+/// What is to be done: what the arguments ask for, under the name of a program.
 #[derive(Drop)]
 pub(crate) struct Task<'w> {
     pub(crate) name: &'w [u8],
     pub(crate) asked: Asked<'w>,
 }
 
-/// Draws what is asked for and prints its table, or tells at which place the words offend, or why there is no table: under the
-/// name of the program, which has at most 10 bytes. It answers how that ended.
+/// Draws what is asked for and prints its table. Otherwise it reports at which place the arguments offend, or why there is no
+/// table, under the name of the program, which has at most 10 bytes. It returns how that ended.
 ///
-/// All memory is taken before the first byte is written, and depends neither on the number of streams nor on that of steps. The
-/// file of the network is read once, up to one byte more than it may have.
+/// It allocates before the first byte is written, and as much for each number of streams and of steps. The file of the network
+/// is read once, up to one byte more than it may have.
 pub fn run<F: Shelf, O: Sink, E: Sink>(
     alloc: Global,
     name: &[u8],

@@ -38,7 +38,7 @@ impl<'n> Model for Tabling<'n> {
 }
 
 impl<'n> Tabling<'n> {
-    /// The table of samples, or with a number of steps of paths, whose header waits.
+    /// Returns the table of samples, or with a number of steps that of paths, whose header waits.
     pub(crate) fn begin(
         alloc: Global,
         net: &'n Net,
@@ -87,7 +87,7 @@ impl<'n> Tabling<'n> {
         })
     }
 
-    /// Puts the row of a stream behind what waits, which is written first where a block is full. A sample that is met has a
+    /// Puts the row of a stream after what waits, which is written first where a block is full. A sample that is met has a
     /// state within the network's capacities.
     ///
     /// # Errors

@@ -14,7 +14,7 @@ use psi_state::{Outcome, State};
 use psi_table::Walked;
 use std::alloc::Global;
 
-/// What walks paths of so many steps, at most 4,290,772,992, and keeps the sums of the last one.
+/// Walks paths of `steps` steps, at most 4,290,772,992, and keeps the sums of the last one.
 #[derive(Drop)]
 pub(crate) struct Walking {
     pub(crate) walk: Walk,
@@ -22,7 +22,7 @@ pub(crate) struct Walking {
 }
 
 impl Walking {
-    /// What walks paths of so many steps in a network. All its sums are 0.
+    /// Returns a walk for paths of `steps` steps in a network. All its sums are 0.
     pub(crate) fn new(alloc: Global, net: &Net, steps: u32) -> Result<Walking, OutOfMemory>
         ensures steps { IfOk result (λ walking. walking.steps ≡ steps) }
         ensures counts { IfOk result (λ walking. AreSumsFor net.now walking.walk) }
@@ -64,7 +64,7 @@ impl Walking {
             .run(&system, &rewards, &mut past, start, self.steps);
     }
 
-    /// The path that was walked last.
+    /// Returns the path that was walked last.
     pub(crate) fn walked(&self) -> Walked<'_>
         ensures steps { result.steps ≡ self.now.steps }
         ensures walk { result.walk.now ≡ self.now.walk }

@@ -1,8 +1,8 @@
 //! A table of samples of a network: comma-separated values (RFC 4180), a header and one row for each stream.
 //!
 //! A row tells the stream, the horizon at which its sample is met, the number of customers in each queue and the value
-//! of each reward; where the sample isn't met, all fields but the stream are empty. A row of a table of paths tells instead what
-//! these come to in sum along the path that begins in the sample, and how often each event was chosen and changed the state.
+//! of each reward; where the sample isn't met, all fields but the stream are empty. A row of a table of paths has
+//! their sums along the path that begins in the sample instead, and how often each event was chosen and changed the state.
 //! [`Rows`] writes a table of any length by way of a block: what it takes of memory is taken when it is made.
 #![tactic(auto)]
 

@@ -64,7 +64,7 @@ fn paths_header(alloc: Global, net: &Net) -> Result<ByteRecord, AllocError>
     Ok(header)
 }
 
-/// The line of the header.
+/// Returns the line of the header.
 #[tactic(auto, unfolding(crate::specs::PathLines::paths_header_line))]
 pub(crate) fn paths_header_line(alloc: Global, net: &Net) -> Result<Vec<u8>, OutOfMemory>
     ensures { IfOk result (λ line. line.items ≡ paths_header_line net.now) }

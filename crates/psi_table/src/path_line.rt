@@ -22,7 +22,7 @@ pub(crate) const LONGEST: usize = 46_400;
 pub struct Walked<'w> {
     /// The number of its steps.
     pub steps: u32,
-    /// The walk that has its sums.
+    /// The walk that holds its sums and counts.
     pub walk: &'w Walk,
 }
 
@@ -49,7 +49,7 @@ fn put_sum(line: &mut Vec<u8>, sum: i128)
     put_wide(line, sum);
 }
 
-// Appends the sum of the customers of each of so many queues, a comma before each. Each is a number of 64 bits.
+// Appends the sum of the customers of each of the first `count` queues, a comma before each. Each is a number of 64 bits.
 fn put_queues(line: &mut Vec<u8>, walk: &Walk, count: u8)
     requires room { vec_len line.old + 672 ≤ vec_capacity line.old }
     requires few { count ≤ 32 }
@@ -64,7 +64,7 @@ fn put_queues(line: &mut Vec<u8>, walk: &Walk, count: u8)
     }
 }
 
-// Appends the sum of the values of each of so many rewards, a comma before each. Each is an integer of 128 bits.
+// Appends the sum of the values of each of the first `count` rewards, a comma before each. Each is an integer of 128 bits.
 fn put_rewards(line: &mut Vec<u8>, walk: &Walk, count: u8)
     requires room { vec_len line.old + 2624 ≤ vec_capacity line.old }
     requires few { count ≤ 64 }
@@ -79,7 +79,7 @@ fn put_rewards(line: &mut Vec<u8>, walk: &Walk, count: u8)
     }
 }
 
-// Appends the two counts of each of so many events, a comma before each. Each is a number of 64 bits.
+// Appends the two counts of each of the first `count` events, a comma before each. Each is a number of 64 bits.
 fn put_events(line: &mut Vec<u8>, walk: &Walk, count: u16)
     requires room { vec_len line.old + 43008 ≤ vec_capacity line.old }
     requires few { count ≤ 1024 }

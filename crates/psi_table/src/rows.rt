@@ -51,11 +51,11 @@ impl Rows {
         Rows::reserve(header_line(alloc, net)?)
     }
 
-    /// The header of the table of a network's paths, which waits, with the room for a block and a line.
+    /// Returns the header of the table of a network's paths, which waits, with space for a block and a line.
     ///
     /// # Errors
     ///
-    /// [`OutOfMemory`] where there is no memory for it.
+    /// [`OutOfMemory`] if an allocation fails.
     pub fn begin_paths(alloc: Global, net: &Net) -> Result<Rows, OutOfMemory>
         ensures { IfOk result (λ rows. rows ≡ paths_header_line net.now) }
     {
@@ -95,8 +95,8 @@ impl Rows {
         Ok(())
     }
 
-    /// Puts the row of the path of a stream behind what waits, which is written first where a block is full. Where the stream's
-    /// sample is met, the sums that were walked have to be those of its path, under whatever seed; where it isn't, they are
+    /// Puts the row of a stream's path after what waits, which is written first where a block is full. Where the stream's
+    /// sample is met, the sums of the walk have to be those of its path, under whatever seed; where it is not met, they are
     /// not read.
     ///
     /// # Errors
