@@ -24,7 +24,7 @@ turns it off.
 """
 GROUPS = {
     "Networks and the program": ("Network", "Program", "check"),
-    "Samples": ("states", "samples", "closed", "couple", "reward", "exact"),
+    "Samples": ("states", "paths", "samples", "closed", "couple", "reward", "exact"),
     "Estimates": ("report", "means", "law", "probability"),
     "Certificates": ("log", "replay", "draw_log"),
     "Results": ("Coalescence", "RewardValue", "Probability", "Shrinking"),

@@ -21,7 +21,7 @@ from psi.calls import set_default
 from psi.estimates import check, law, means, probability, report
 from psi.results import Coalescence, FewSamples, NotCoupled, Probability, RewardValue, Uncoupled
 from psi.sampling import couple, draw_log, exact, log, replay, reward
-from psi.tables import closed, samples, states
+from psi.tables import closed, paths, samples, states
 from psi_tools import __version__
 from psi_tools.arguments import whole_argument
 from psi_tools.draw.program import Program
@@ -52,6 +52,7 @@ __all__ = [
     "law",
     "log",
     "means",
+    "paths",
     "probability",
     "replay",
     "report",

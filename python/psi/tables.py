@@ -8,11 +8,14 @@ import pandas
 from psi.calls import ProgressBar, resolved, streams_of, warn_uncoupled
 from psi.results import NotCoupled
 from psi_tools.arguments import whole_argument
+from psi_tools.draw import paths as of_paths
 from psi_tools.draw.closed import MOST_TOTAL
 from psi_tools.draw.program import Program
 from psi_tools.draw.reports import blocks_of, size_of
 from psi_tools.draw.states import Draw, any_drawing, drawing, states_of
+from psi_tools.io.samples import Rows
 from psi_tools.model.networks import Network, Source, header_of, network_of
+from psi_tools.stats.spans import Spans
 
 
 def samples(
@@ -211,6 +214,113 @@ def states(
     return pandas.DataFrame(columns)
 
 
+def paths(
+    net: Source,
+    seed: int = 0,
+    first: int = 0,
+    count: int = 100,
+    steps: int = 10_000,
+    total: int | None = None,
+    *,
+    program: Program | None = None,
+) -> pandas.DataFrame:
+    """Draw independent stationary paths, and sum queues and rewards along each, as `psi_paths` prints them.
+
+    Parameters
+    ----------
+    net : Network or path
+        A network, or the path of its file.
+    seed : int
+        The seed, 0 to 2^64 - 1. The path of a network, a seed and a stream is always the same.
+    first : int
+        The first stream, 0 to 2^64 - 1.
+    count : int
+        The number of streams, at least 1: one path each.
+    steps : int
+        The number of steps of a path after its sample, 0 to 4,290,772,992.
+    total : int, optional
+        The number of customers in a closed network, 0 to 256; without it the network is an open one.
+    program : Program, optional
+        The program beside which psi_paths is run; the one that is built, or on the PATH, by default.
+
+    Returns
+    -------
+    pandas.DataFrame
+        A row for each stream, in their order. The columns are stream; horizon and steps, in steps;
+        queue.NAME and reward.NAME, the sums of the customers and of the value over the steps + 1
+        states of the path; and for each event NAME and each server K from 1 on event.NAME.K and
+        moved.NAME.K, how often the event was chosen, and how often it changed the state. A stream
+        that isn't coupled has its row, whose other columns are missing. All columns but the first
+        are pandas' Int64; that of a reward whose sum may pass 64 bits has Python's own integers.
+
+    Raises
+    ------
+    ArgumentError
+        An argument is out of its range.
+    Refused
+        The network is refused, or isn't closed; `line` is the one that psi has for it.
+
+    Warns
+    -----
+    Uncoupled
+        Streams aren't coupled. Means and counts pass over missing values, so they are biased.
+
+    Notes
+    -----
+    A path begins in the sample of its stream, so it is stationary: the mean of a sum is steps + 1
+    times the stationary mean. The states of one path depend on each other. For an interval take the
+    paths for the values, which are independent.
+
+    Examples
+    --------
+    >>> import psi
+    >>> net = psi.Network().queue("desk", capacity=10)
+    >>> net = net.event("come", "arrival", rate=4, to=["desk"])
+    >>> net = net.event("serve", "service", rate=5, source="desk")
+    >>> table = psi.paths(net, seed=0, first=0, count=20, steps=1_000)
+    >>> list(table.columns[:5])
+    ['stream', 'horizon', 'steps', 'queue.desk', 'event.come.1']
+    >>> means = table["queue.desk"] / 1_001
+    >>> bool(2 < means.mean() < 4)
+    True
+    >>> bool((table["moved.serve.1"] <= table["event.serve.1"]).all())
+    True
+    """
+    if total is not None:
+        total = whole_argument("total", total, 0, MOST_TOTAL)
+    steps = whole_argument("steps", steps, 0, of_paths.MOST_STEPS)
+    net, program = network_of(net), resolved(program)
+    seed, first, count = streams_of(seed, first, count)
+    found = _rows(of_paths.drawing(program, net, seed, steps, total), program, first, count)
+    warn_uncoupled(found.count(None), count, "means of the others are biased")
+    is_met = numpy.array([row is not None for row in found])
+    numbers = [row.split(",") for row in found if row is not None]
+    names, wide = of_paths.header_of(net), _wide_rewards(net, steps)
+    columns: dict[str, Any] = {names[0]: numpy.arange(len(found), dtype=numpy.uint64) + numpy.uint64(first)}
+    for place, name in enumerate(names[1:]):
+        column = [int(row[place]) for row in numbers]
+        columns[name] = _column(column, is_met, name in wide)
+    return pandas.DataFrame(columns)
+
+
+def _wide_rewards(net: Network, steps: int) -> set[str]:
+    """The columns of the rewards whose sums along a path may pass 64 bits."""
+    spans = Spans(net, {})
+    ends = {f"reward.{name}": spans.of_reward(name).ends for name in net.rewards}
+    return {name for name, (least, most) in ends.items() if max(-least, most) * (steps + 1) >= 2**63}
+
+
+def _column(numbers: list[int], is_met: numpy.ndarray[Any, Any], is_wide: bool) -> Any:
+    """A column of whole numbers, which is missing where a stream isn't coupled."""
+    if is_wide:
+        values = numpy.full(len(is_met), pandas.NA, dtype=object)
+        values[is_met] = numbers
+        return values
+    narrow = numpy.zeros(len(is_met), numpy.int64)
+    narrow[is_met] = numbers
+    return pandas.arrays.IntegerArray(narrow, ~is_met)
+
+
 def _narrow(capacity: int) -> "numpy.dtype[Any]":
     """The narrowest type of signed integers for -1 and the customers of a queue."""
     return numpy.min_scalar_type(-capacity - 1)
@@ -236,12 +346,17 @@ def _drawn(
     draw: Draw, program: Program, net: Network, first: int, count: int
 ) -> tuple[numpy.ndarray[Any, Any], numpy.ndarray[Any, Any]]:
     """Which of some streams are coupled; and of these the horizons, queues and rewards, as rows."""
-    size = size_of(count)
-    bar = ProgressBar(count)
-    try:
-        found = states_of(program, draw, blocks_of(first, count, size), lambda done: bar.show(min(done * size, count)))
-    finally:
-        bar.end()
+    found = _rows(draw, program, first, count)
     met = [row for row in found if row is not None]
     numbers = numpy.fromstring(",".join(met), numpy.int64, sep=",") if met else numpy.zeros(0, numpy.int64)
     return numpy.array([row is not None for row in found]), numbers.reshape(len(met), len(header_of(net)) - 1)
+
+
+def _rows(draw: Draw, program: Program, first: int, count: int) -> Rows:
+    """The rows of some streams, drawn in blocks under a bar, none where one isn't coupled."""
+    size = size_of(count)
+    bar = ProgressBar(count)
+    try:
+        return states_of(program, draw, blocks_of(first, count, size), lambda done: bar.show(min(done * size, count)))
+    finally:
+        bar.end()

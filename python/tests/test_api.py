@@ -12,6 +12,7 @@ import api_page
 import psi as module
 import pytest
 from conftest import ALONE, HERE, TOP
+from psi_tools.draw.program import companion_of
 from psi_tools.errors import PsiError
 from psi_tools.io.terminal import Bar
 
@@ -42,7 +43,9 @@ def test_each_argument_is_documented(name):
 
 
 @pytest.mark.parametrize("name", [*CALLS, "Network", "Program"])
-def test_the_examples_run(environment, monkeypatch, name):
+def test_the_examples_run(program, environment, monkeypatch, name):
+    if name == "paths" and companion_of(program, "psi_paths") is None:
+        pytest.skip("psi_paths isn't built")
     monkeypatch.setenv("PATH", environment["PATH"])
     runner = doctest.DocTestRunner(optionflags=doctest.REPORT_NDIFF)
     tests = doctest.DocTestFinder().find(getattr(module, name), name)

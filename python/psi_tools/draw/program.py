@@ -178,13 +178,21 @@ class Program:
     def states(self, net: bytes, seed: int, first: int, count: int, total: int | None = None) -> str:
         """The table that psi_states prints of some streams, whether they are coupled or not; with a
         total, of a closed network. A refusal has the line that psi itself has for it."""
-        path = companion_of(self.path, "psi_states")
+        return self.table("psi_states", net, (seed, first, count), total)
+
+    def paths(self, net: bytes, seed: int, first: int, count: int, steps: int, total: int | None = None) -> str:
+        """The table that psi_paths prints of paths of some steps, as `states` has that of samples."""
+        return self.table("psi_paths", net, (seed, first, count, steps), total)
+
+    def table(self, name: str, net: bytes, numbers: Iterable[int], total: int | None) -> str:
+        """The table that a program of this name prints of the streams that some numbers tell."""
+        path = companion_of(self.path, name)
         if path is None:
-            raise PsiError("psi_states isn't built, and isn't beside psi; `rt run` in crates/psi_states builds it")
+            raise PsiError(f"{name} isn't built, and isn't beside psi; `rt run` in crates/{name} builds it")
         closed = [] if total is None else ["closed", str(total)]
-        answer = self.run([path, "/dev/stdin", str(seed), str(first), str(count), *closed], net)
-        answer.line = re.sub("^psi_states: ", "psi: ", answer.line)
-        return accepted(answer, "psi_states", (0, 1)).out
+        answer = self.run([path, "/dev/stdin", *map(str, numbers), *closed], net)
+        answer.line = re.sub(f"^{name}: ", "psi: ", answer.line)
+        return accepted(answer, name, (0, 1)).out
 
     def all(self, calls: Iterable[Callable[[], Value]], done: Callable[[int], None] | None = None) -> list[Value]:
         """The answers of some calls, in their order, drawn side by side; `done` is called with how

@@ -1,4 +1,4 @@
-"""Tables of samples, as psi_states prints them: a header, and a row for each stream."""
+"""Tables of samples and of paths, as psi_states and psi_paths print them: a header, and a row for each stream."""
 
 import re
 from collections.abc import Sequence
@@ -9,17 +9,17 @@ from psi_tools.errors import PsiError
 Rows = list[str | None]
 
 
-def rows_of(header: Sequence[str], text: str, first: int, count: int) -> Rows:
-    """The rows of a table of some streams. Raises PsiError where the text is no such table: the header or a row is
-    missing or another one, or a row hasn't a field for each column."""
+def rows_of(header: Sequence[str], text: str, first: int, count: int, program: str = "psi_states") -> Rows:
+    """The rows of a table of some streams that a program prints. Raises PsiError where the text is no such table: the
+    header or a row is missing or another one, or a row hasn't a field for each column."""
     lines = text.split("\n")
     if lines[0] != ",".join(header) or len(lines) != count + 2 or lines[-1]:
-        raise PsiError("psi_states printed no table of these streams")
+        raise PsiError(f"{program} printed no table of these streams")
     empty, rows = "," * (len(header) - 2), []
     for stream, line in enumerate(lines[1:-1], first):
         name, _, row = line.partition(",")
         if name != str(stream) or row.count(",") != len(empty):
-            raise PsiError(f"psi_states printed no row of stream {stream}")
+            raise PsiError(f"{program} printed no row of stream {stream}")
         rows.append(None if row == empty else row)
     return rows
 

@@ -1,0 +1,196 @@
+"""Tables of paths: psi.paths, beside the plain program, and psi.states where a path has no step."""
+
+import tomllib
+import warnings
+
+import pandas
+import pytest
+from conftest import TOP
+
+import psi as module
+from oracle import paths as plain
+from oracle.plain_network import Network as PlainNetwork
+from psi_tools.draw.paths import MOST_STEPS, events_of, header_of, modulus_of, paths_of
+from psi_tools.draw.program import companion_of
+from psi_tools.errors import PsiError
+from psi_tools.model.networks import Network
+
+EXAMPLES = TOP / "examples"
+LAST = 2**64 - 1
+BILLION = 1_000_000_000
+
+
+@pytest.fixture(autouse=True)
+def paths_program(program):
+    """psi_paths, which these tests draw by."""
+    if companion_of(program, "psi_paths") is None:
+        pytest.skip("psi_paths isn't built")
+
+
+def rows_wanted(file, seed, streams, steps, total=None):
+    """The columns of a table and its rows, with None for what is missing, as the plain program has them."""
+    net = PlainNetwork(tomllib.loads(file.read_text()))
+    outcomes = plain.outcomes_of(net, seed, streams, total)
+    rows = [plain.row(net, seed, stream, drawn, steps) for stream, drawn in zip(streams, outcomes)]
+    return plain.header(net), [[None if value == "" else value for value in row] for row in rows]
+
+
+def rows_in(table):
+    """The rows of a table, with None for what is missing."""
+    return [[None if value is pandas.NA else int(value) for value in row] for row in table.itertuples(index=False)]
+
+
+@pytest.mark.parametrize(
+    "name, seed, first, count, steps",
+    (
+        ("tandem-blocking", 3, 5, 20, 50),
+        ("overflow", 0, LAST - 9, 10, 300),
+        ("call-centre", LAST, 2**63 - 5, 7, 100),
+        ("negative-customers", 7, 0, 9, 0),
+        ("first", 1, 9, 1, 1_000),
+    ),
+)
+def test_rows_are_the_plain_programs(psi, name, seed, first, count, steps):
+    file = EXAMPLES / f"{name}.toml"
+    table = psi.paths(file, seed, first, count, steps)
+    columns, rows = rows_wanted(file, seed, range(first, first + count), steps)
+    assert ([*table.columns], rows_in(table)) == (columns, rows)
+
+
+def test_rows_of_a_closed_network(psi):
+    file = EXAMPLES / "central-server.toml"
+    table = psi.paths(file, 2, 4, 12, 30, total=6)
+    columns, rows = rows_wanted(file, 2, range(4, 16), 30, 6)
+    assert ([*table.columns], rows_in(table)) == (columns, rows)
+    assert (table[["queue.cpu", "queue.disk", "queue.drum"]].sum(axis=1) == 6 * 31).all()
+
+
+def test_a_path_of_no_step_is_its_sample(psi):
+    file = EXAMPLES / "tandem-blocking.toml"
+    states, paths = psi.states(file, 1, 2, 30), psi.paths(file, 1, 2, 30, steps=0)
+    for name in states.columns:
+        assert paths[name].tolist() == states[name].tolist()
+    counts = [name for name in paths.columns if name.startswith(("event.", "moved."))]
+    assert (paths[["steps", *counts]] == 0).all(axis=None)
+
+
+def test_a_stream_that_is_not_coupled_keeps_its_row(psi):
+    file = EXAMPLES / "short-past.toml"
+    columns, rows = rows_wanted(file, 0, range(40), 20)
+    lost = [row[1] is None for row in rows]
+    assert 0 < sum(lost) < 40
+    with pytest.warns(psi.Uncoupled, match=f"^{sum(lost)} of 40 streams weren't coupled"):
+        table = psi.paths(file, count=40, steps=20)
+    assert ([*table.columns], rows_in(table)) == (columns, rows)
+    for name in columns[1:]:
+        assert [*table[name].isna()] == lost
+
+
+def test_processes_make_no_difference(program):
+    with pytest.warns(module.Uncoupled):
+        one, four = (
+            module.paths(EXAMPLES / "short-past.toml", 1, 3, 133, 40, program=module.Program(program, jobs))
+            for jobs in (1, 4)
+        )
+    pandas.testing.assert_frame_equal(one, four)
+    assert len(one) == 133
+
+
+def test_sums_of_any_size_are_exact(psi, tmp_path):
+    net = psi.Network().queue("a", 2_000)
+    net.event("in", "arrival", 400, to=["a"]).event("out", "service", 1, source="a")
+    net.reward("cost", "linear", ["a"], weights=[-BILLION])
+    net.reward("number", "linear", ["a"], weights=[1])
+    net.heads["limit"] = 14
+    assert (2_000 * BILLION) * 5_000_001 > 2**63 > (2_000 * BILLION) * 101
+    table = psi.paths(net, count=2, steps=100)
+    assert [str(kind) for kind in table.dtypes] == ["uint64", *8 * ["Int64"]]
+    file = tmp_path / "net.toml"
+    net.write(file)
+    assert rows_in(table) == rows_wanted(file, 0, range(2), 100)[1]
+    table = psi.paths(net, count=2, steps=5_000_000)
+    assert [str(kind) for kind in table.dtypes] == ["uint64", *3 * ["Int64"], "object", *5 * ["Int64"]]
+    assert [type(value) for value in table["reward.cost"]] == [int, int]
+    assert [-BILLION * int(value) for value in table["queue.a"]] == [*table["reward.cost"]]
+    assert min(table["reward.cost"]) < -(2**63)
+    net.heads["limit"] = 0
+    with pytest.warns(psi.Uncoupled):
+        table = psi.paths(net, count=1, steps=5_000_000)
+    assert table["reward.cost"][0] is pandas.NA and table["reward.number"].isna().all()
+
+
+def test_events_and_their_unit(psi):
+    net = psi.Network.read(EXAMPLES / "call-centre.toml")
+    lines = [line.split() for line in psi.check(net).splitlines()]
+    assert [(name, str(k)) for name, k in events_of(net)] == [tuple(line[1:3]) for line in lines if line[0] == "event"]
+    assert modulus_of(net) == next(int(line[1]) for line in lines if line[0] == "modulus")
+    one = psi.Network().queue("a", 1).event("in", "arrival", 3, to=["a"]).event("out", "service", 1, source="a")
+    assert modulus_of(one) == 4 and events_of(one) == [("in", 1), ("out", 1)]
+
+
+def test_what_is_refused(psi, tmp_path):
+    net = psi.Network().queue("a", 2).event("out", "service", 1, source="b")
+    with pytest.raises(psi.Refused) as fault:
+        psi.paths(net, count=1)
+    assert (fault.value.status, fault.value.line) == (3, "psi: network refused 10 UnknownQueue event 1 from")
+    opened = EXAMPLES / "tandem-blocking.toml"
+    with pytest.raises(psi.Refused) as fault:
+        psi.paths(opened, total=3, count=5)
+    assert (fault.value.status, fault.value.line) == (11, "psi: not closed event 0")
+    with pytest.raises(psi.PsiError):
+        psi.paths(tmp_path / "absent.toml")
+    for words in (
+        {"count": 0},
+        {"seed": -1},
+        {"first": LAST, "count": 2},
+        {"total": 257},
+        {"steps": -1},
+        {"steps": MOST_STEPS + 1},
+        {"steps": 1.5},
+    ):
+        with pytest.raises(psi.ArgumentError):
+            psi.paths(opened, **words)
+
+
+def test_a_text_that_is_no_such_table(psi):
+    net = Network.read(EXAMPLES / "short-past.toml")
+    head = ",".join(header_of(net))
+
+    class Printed:
+        """A program that prints some text."""
+
+        def paths(self, *words):
+            return self.text
+
+        def all(self, calls, done):
+            return [call() for call in calls]
+
+    printed = Printed()
+    printed.text = f"{head}\n7,64,1,2,0,1,1,0,0\n8,,,,,,,,\n"
+    assert paths_of(printed, net, 0, [(7, 2)], 1) == ["64,1,2,0,1,1,0,0", None]
+    for text in ("", printed.text[:-1], printed.text.replace("8,", "9,"), printed.text.replace("moved", "event")):
+        printed.text = text
+        with pytest.raises(PsiError, match="^psi_paths printed no "):
+            paths_of(printed, net, 0, [(7, 2)], 1)
+
+
+def test_without_psi_paths(program, tmp_path, monkeypatch):
+    (tmp_path / "psi").symlink_to("/bin/true")
+    monkeypatch.setattr("psi_tools.draw.program.TOP", tmp_path)
+    with pytest.raises(PsiError, match="^psi_paths isn't built, .*`rt run` in crates/psi_paths builds it$"):
+        module.paths(EXAMPLES / "first.toml", program=module.Program(tmp_path / "psi"))
+
+
+def test_means_of_paths_are_stationary(psi):
+    """The mean of all sums is steps + 1 times the stationary mean, within five standard errors."""
+    net = psi.Network().queue("desk", 10)
+    net.event("come", "arrival", 4, to=["desk"]).event("serve", "service", 5, source="desk")
+    weights = [0.8**number for number in range(11)]
+    exact = sum(number * weight for number, weight in enumerate(weights)) / sum(weights)
+    with warnings.catch_warnings():
+        warnings.simplefilter("error")
+        table = psi.paths(net, 11, count=200, steps=300)
+    means = table["queue.desk"].astype(float) / 301
+    assert abs(means.mean() - exact) < 5 * means.std() / 200**0.5
+    assert (table["event.come.1"] >= table["moved.come.1"]).all()
+    assert (abs(table["moved.come.1"] - table["moved.serve.1"]) <= 10).all()

@@ -1,0 +1,221 @@
+"""psi_paths, where it is built beside the program or in its crate.
+
+- Tables of networks that are drawn by their number with rewards of all kinds (small_networks.py), open and
+  closed, with few steps and with none: the whole table is compared with what the plain program draws and
+  adds up (oracle/paths.py). `--networks` says how many are drawn.
+- With STEPS 0 the sums are the values that `psi_states` prints, and nothing was chosen. Tables of adjacent
+  ranges of streams are joined to the table of the whole range. A path of more steps begins with the shorter.
+- Paths across the lengths at which sums and counts may be carried over.
+- Words that ask for no table, networks that are refused, closed networks that are none.
+- Growths of memory that are refused, writes that fail, and memory that grows neither with COUNT nor with
+  STEPS, as of `psi_states` (test_states.py).
+"""
+
+import csv
+import io
+import pathlib
+import tomllib
+
+import pytest
+
+from generate.small_networks import Dice, closed_network, network
+from oracle import paths
+from oracle.plain import Outcome
+from oracle.plain_network import Network
+from tests.support import EXAMPLES, Held, beside
+from tests.tables import MOST_STREAM, QUEUE, TableTries, with_rewards
+
+MOST_STEPS = 2**32 - 2**22
+# Lengths around powers of two, as a program that adds up in parts may take them.
+LENGTHS = (2**15 - 1, 2**15, 2**15 + 1, 2**16 + 3)
+HEAD = "stream,horizon,steps,queue.a,event.in.1,moved.in.1,event.out.1,moved.out.1\n"
+
+
+def steps_of(number: int) -> int:
+    """How many steps the paths of a network have: none for each sixth, and for a few of them hundreds."""
+    dice = Dice(number + 7)
+    return 0 if number % 6 == 0 else 200 + dice.below(800) if number % 17 == 3 else dice.upto(60)
+
+
+def of_no_steps(net: Network, states: str) -> str:
+    """The table of paths of no step, by what psi_states prints of the same streams."""
+    rows = [paths.header(net)]
+    for stream, horizon, *values in [*csv.reader(io.StringIO(states))][1:]:
+        counts = ["0" if horizon else ""] * (2 * len(net.events))
+        rows.append([stream, horizon, "0" if horizon else "", *values, *counts])
+    return "".join(",".join(row) + "\n" for row in rows)
+
+
+class Tries(TableTries):
+    """psi_paths, and what is tried of it."""
+
+    def try_table(
+        self, what: str, net: Network, seed: int, streams: range, steps: int, total: int | None = None
+    ) -> list[Outcome]:
+        """The table of some streams, whole and in two ranges, beside the plain program's; and their samples."""
+        outcomes = paths.outcomes_of(net, seed, streams, total)
+        closed = [] if total is None else ["closed", total]
+
+        def table(first: int, count: int) -> tuple[int, str, str]:
+            return self.run(self.program, "net.toml", seed, first, count, steps, *closed)
+
+        status = 1 if None in outcomes else 0
+        whole = table(streams.start, len(streams))
+        self.is_same(what, whole, (status, paths.table(net, seed, streams, outcomes, steps), ""))
+        if len(streams) > 1:
+            middle = len(streams) // 2
+            one, other = table(streams.start, middle), table(streams.start + middle, len(streams) - middle)
+            joined = max(one[0], other[0]), one[1] + other[1].partition("\n")[2], one[2] + other[2]
+            self.is_same(f"{what}, joined", joined, whole)
+        return outcomes
+
+    def try_no_steps(self, what: str, net: Network, words: list[object], closed: list[object]) -> None:
+        """Paths of no step, beside what psi_states prints where it is built."""
+        states = beside(self.psi, "psi_states")
+        if states is None:
+            return
+        status, out, err = self.run(str(states), *words, *closed)
+        given = self.run(self.program, *words, 0, *closed)
+        self.is_same(f"{what}, no steps", given, (status, of_no_steps(net, out), self.line_of(err)))
+
+    def try_network(self, number: int) -> None:
+        """An open network."""
+        text = with_rewards(number, network(number))
+        self.file(text)
+        net, seed = Network(tomllib.loads(text)), number * number
+        count = 1 + number % 7
+        first = number if number % 11 else MOST_STREAM - count + 1
+        self.try_table(f"network {number}", net, seed, range(first, first + count), steps_of(number))
+        self.try_no_steps(f"network {number}", net, ["net.toml", seed, first, count], [])
+
+    def try_closed(self, number: int) -> None:
+        """A closed network, or one that is nearly closed."""
+        text = with_rewards(number, closed_network(number))
+        self.file(text)
+        net, seed, first = Network(tomllib.loads(text)), number, number + 1
+        count, total = 1 + number % 5, Dice(number).below(2 + sum(net.caps))
+        status, out, err = self.run(self.psi, "closed", "net.toml", seed, first, total)
+        if status > 1:
+            given = self.run(self.program, "net.toml", seed, first, count, steps_of(number), "closed", total)
+            self.is_same(f"closed {number}", given, (status, out, self.line_of(err)))
+            return
+        streams = range(first, first + count)
+        self.try_table(f"closed {number}", net, seed, streams, steps_of(number), total)
+        self.try_no_steps(f"closed {number}", net, ["net.toml", seed, first, count], ["closed", total])
+
+    def try_example(self, name: str, streams: range, steps: int, total: int | None = None) -> list[Outcome]:
+        """A network of the gallery."""
+        text = (EXAMPLES / f"{name}.toml").read_text()
+        self.file(text)
+        what = f"{name}, {steps} steps"
+        return self.try_table(what, Network(tomllib.loads(text)), 5, streams, steps, total)
+
+    def try_all_words(self) -> None:
+        """Words that ask for no table, and the last stream and the last place of a word."""
+        self.file(QUEUE)
+        net = "net.toml"
+        offending: tuple[tuple[int, list[object]], ...] = (
+            (1, []),
+            (2, [net]),
+            (3, [net, 0]),
+            (4, [net, 0, 0]),
+            (5, [net, 0, 0, 1]),
+            (2, [net, "-1", 0, 1, 1]),
+            (2, [net, "00", 0, 1, 1]),
+            (2, [net, 2**64, 0, 1, 1]),
+            (3, [net, 0, 2**64, 1, 1]),
+            (3, [net, 0, "+1", 1, 1]),
+            (4, [net, 0, 0, 0, 1]),
+            (4, [net, 0, 0, 2**32, 1]),
+            (4, [net, 0, MOST_STREAM, 2, 1]),
+            (4, [net, 0, 1, "1e3", 1]),
+            (5, [net, 0, 0, 1, "-1"]),
+            (5, [net, 0, 0, 1, "01"]),
+            (5, [net, 0, 0, 1, ""]),
+            (5, [net, 0, 0, 1, MOST_STEPS + 1]),
+            (5, [net, 0, 0, 1, 2**64]),
+            (5, [net, 0, 0, 1, "closed"]),
+            (6, [net, 0, 0, 1, 0, "open"]),
+            (6, [net, 0, 0, 1, 0, 7]),
+            (7, [net, 0, 0, 1, 0, "closed"]),
+            (7, [net, 0, 0, 1, 0, "closed", 257]),
+            (7, [net, 0, 0, 1, 0, "closed", ""]),
+            (8, [net, 0, 0, 1, 0, "closed", 0, 0]),
+        )
+        self.try_words(offending)
+        last = f"{HEAD}{MOST_STREAM},"
+        status, out, err = self.run(self.program, net, MOST_STREAM, MOST_STREAM, 1, 1)
+        self.is_same("the last stream", (status, out[: len(last)], err), (0, last, ""))
+
+    def try_longest(self) -> None:
+        """A path of as many steps as there may be: every step has its event, or is idle. Of this network
+        none is, and both events are chosen half of the times, within six standard deviations."""
+        self.file(QUEUE)
+        status, out, err = self.run(self.program, "net.toml", 3, 4, 1, MOST_STEPS)
+        self.is_same("the longest path", (status, err), (0, ""))
+        head, row = out.splitlines()
+        _, _, steps, total, come, in_moved, served, out_moved = map(int, row.split(","))
+        self.is_same("the longest path", (steps, come + served), (MOST_STEPS, MOST_STEPS))
+        self.hold(abs(come - served) < 6 * MOST_STEPS**0.5, f"{come} and {served} are chosen")
+        self.hold(abs(in_moved - out_moved) <= 2, f"{in_moved} come and {out_moved} leave of a queue of 2")
+        # Each of 0, 1 and 2 customers has a third of all times, so the mean is 1.
+        self.hold(abs(total - MOST_STEPS) < 10 * MOST_STEPS**0.5, f"{total} customers in {MOST_STEPS} steps")
+
+
+@pytest.fixture
+def tries(program: str, hold: Held, tmp_path: pathlib.Path) -> Tries:
+    """The programs in a folder of their own."""
+    found = beside(program, "psi_paths")
+    if found is None:
+        pytest.skip("psi_paths isn't built")
+    return Tries(program, "psi_paths", str(found), tmp_path, hold)
+
+
+@pytest.mark.slow
+def test_tables(tries: Tries, numbers: range) -> None:
+    for number in numbers:
+        tries.try_network(number)
+        tries.try_closed(number)
+
+
+def test_a_stream_that_is_not_coupled_keeps_its_row(tries: Tries) -> None:
+    outcomes = tries.try_example("short-past", range(40), 30)
+    tries.hold(0 < outcomes.count(None) < 40, "some of the streams are coupled, and some aren't")
+
+
+@pytest.mark.slow
+def test_lengths_of_paths(tries: Tries) -> None:
+    for steps in LENGTHS:
+        tries.try_example("call-centre", range(1), steps)
+    tries.try_example("fork-join", range(2), LENGTHS[-1])
+    tries.try_example("central-server", range(2), LENGTHS[-1], 6)
+
+
+def test_words(tries: Tries) -> None:
+    tries.try_all_words()
+
+
+def test_refusals(tries: Tries) -> None:
+    tries.try_refusals(3)
+
+
+@pytest.mark.slow
+def test_memory_refused(tries: Tries, library: str) -> None:
+    tries.try_memory(library, ["1", "3"], ["5000", "40"])
+
+
+@pytest.mark.slow
+def test_writes_that_fail(tries: Tries) -> None:
+    tries.try_writes(len(HEAD), "2")
+
+
+@pytest.mark.slow
+@pytest.mark.release
+def test_memory_of_a_long_table(tries: Tries) -> None:
+    tries.try_long([10, 10], [3_000_000, 10], [10, 100_000_000])
+
+
+@pytest.mark.slow
+@pytest.mark.release
+def test_the_longest_path(tries: Tries) -> None:
+    tries.try_longest()
