@@ -111,6 +111,9 @@ def interval(row: dict[str, Any], claim: dict[str, Any], d: int) -> list[Fractio
     known, of = k - lost, claim["of"]
     wanted(known == sum(c for _, c in counts) and of in CLAIMS if counts else known >= 0 and of == "mean")
     wanted(all(least <= v <= greatest for v, _ in counts))
+    # Values that are sums along paths are of so many times, and a mean is that at one of them.
+    [times] = whole([row.get("times", 1)], 1)
+    wanted(times == 1 or of == "mean")
     if of == "quantile":
         r, q, j, i = whole([claim[key] for key in ("r", "q", "low", "high")], 1)
         low = ranked(counts[::-1], j, least) if is_binomial(k, j, q - r, q, d) else None
@@ -127,7 +130,7 @@ def interval(row: dict[str, Any], claim: dict[str, Any], d: int) -> list[Fractio
         i = sign * (total - base * known) // unit
         scores = [(sign * (v - base) // unit, c) for v, c in counts] + [(0, lost)] * bool(counts)
         is_right = proof is None or 0 <= i <= z * known and is_proved(proof, k, z, i, scores, q, d)
-        ends.append(base + sign * unit * Fraction(proof["r"] if proof else 0, q) if is_right else None)
+        ends.append((base + sign * unit * Fraction(proof["r"] if proof else 0, q)) / times if is_right else None)
     return ends
 
 

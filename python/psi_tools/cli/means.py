@@ -4,7 +4,7 @@ import argparse
 
 from psi_tools.arguments import LEAST_LEVEL, MOST_LEVEL
 from psi_tools.cli.command import run
-from psi_tools.cli.options import Parser, add_form, add_guaranteed
+from psi_tools.cli.options import Parser, add_form, add_guaranteed, add_program, add_streams, check_last_stream, number
 from psi_tools.draw.reports import read_any
 from psi_tools.errors import PsiError
 from psi_tools.io import tables
@@ -28,9 +28,18 @@ all reports, so one is enough.
     psi-many desk.toml 0 0 100000 --out desk.csv
     psi-means desk.toml.0.0.100000.many
 
+With --paths a network is given instead of reports. From the sample of each stream the network runs
+on for so many steps, and the paths' means are the values to which Student's t applies. They are
+drawn by psi_paths. Each state of a path counts, so a mean takes less time than by samples alone. The
+rates of events are printed, too: how often one changes the state, and how often it is chosen.
+
+    psi-means desk.toml --paths 10000
+
 Where streams weren't coupled this is said first: the means are of the others, and biased. The
 intervals are as wide as the least and the greatest values make them that these streams may have; a
 folder knows them, and of reports --net tells them."""
+# How many paths are drawn where the call doesn't say it.
+PATHS = 100
 
 
 def parse(arguments: list[str]) -> argparse.Namespace:
@@ -40,14 +49,34 @@ def parse(arguments: list[str]) -> argparse.Namespace:
         raise PsiError(f"--level is from {100 * LEAST_LEVEL:g} to {100 * MOST_LEVEL:g}")
     if args.certificate is not None and not args.guaranteed:
         raise PsiError("--certificate goes with --guaranteed")
+    check_paths(args)
     return args
+
+
+def check_paths(args: argparse.Namespace) -> None:
+    """Refuses words that don't go with --paths, or without it, and says what isn't given."""
+    if args.paths is None:
+        for option in ("seed", "first", "count", "total", "pilot", "psi", "jobs"):
+            if getattr(args, option) is not None:
+                raise PsiError(f"--{option} goes with --paths")
+        return
+    if len(args.reports) > 1 or args.net is not None:
+        raise PsiError("--paths is of one network, which is given in the place of reports")
+    if args.pilot is not None and not args.guaranteed:
+        raise PsiError("--pilot goes with --guaranteed")
+    args.seed, args.first = args.seed or 0, args.first or 0
+    args.count = args.count or PATHS
+    check_last_stream(args)
 
 
 def parser() -> Parser:
     """The parser of the arguments."""
     parser = Parser(COMMAND, ABOUT)
     parser.add_argument(
-        "reports", metavar="REPORT", nargs="+", help="reports of psi report, at least 20, or one folder of psi-many"
+        "reports",
+        metavar="REPORT",
+        nargs="+",
+        help="reports of psi report, at least 20, or one folder of psi-many; with --paths a network file",
     )
     parser.add_argument(
         "--level",
@@ -63,6 +92,28 @@ def parser() -> Parser:
     )
     add_form(parser)
     add_guaranteed(parser)
+    parser.add_argument(
+        "--paths",
+        metavar="STEPS",
+        type=number(0, 2**32 - 2**22),
+        help="draw paths of so many steps of the network NET that stands in the place of reports",
+    )
+    add_streams(parser, PATHS)
+    parser.set_defaults(seed=None, first=None, count=None)
+    parser.add_argument(
+        "--total",
+        metavar="TOTAL",
+        type=number(0, 256),
+        help="with --paths, how many customers there are in a closed network; an open one where it isn't given",
+    )
+    parser.add_argument(
+        "--pilot",
+        metavar="N",
+        type=number(0, 2**20),
+        help="with --paths and --guaranteed, how many more paths are drawn that choose the stakes of bets and "
+        "aren't counted; a twentieth of --count where it isn't given, and with 0 the stakes are those of the range",
+    )
+    add_program(parser)
     return parser
 
 
@@ -172,7 +223,12 @@ def work(arguments: list[str]) -> int:
     args = parse(arguments)
     check_writable(args.out)
     check_writable(args.certificate, "--certificate")
-    text, notes = answer(args)
+    if args.paths is None:
+        text, notes = answer(args)
+    else:
+        from psi_tools.cli.path_means import answer as answer_of_paths
+
+        text, notes = answer_of_paths(args)
     write_answer(text, args.out)
     if notes:
         print_note(COMMAND, "; ".join(notes))

@@ -232,7 +232,8 @@ class Pilot:
 @dataclasses.dataclass
 class Guarantee:
     """The claims of a row of `samples` streams, of which `unknown` aren't coupled: by the counts of
-    its values, or by their sum alone. Each end is wrong for at most 1 in `d` lists."""
+    its values, or by their sum alone. Each end is wrong for at most 1 in `d` lists. Values that are
+    sums along paths are of `times` times, so the mean at a time is that of the values, divided."""
 
     name: str
     samples: int
@@ -243,6 +244,7 @@ class Guarantee:
     total: int | None = None
     pilot: Pilot | None = None
     claims: list[dict[str, Any]] = dataclasses.field(default_factory=list)
+    times: int = 1
 
     def __post_init__(self) -> None:
         self.known, self.q = self.samples - self.unknown, parts_of(self.samples)
@@ -335,6 +337,7 @@ class Guarantee:
             "uncoupled": self.unknown,
             "least": least,
             "greatest": greatest,
+            **({"times": self.times} if self.times > 1 else {}),
             **seen,
             "claims": self.claims,
         }

@@ -1,8 +1,9 @@
-"""Rows of answers whose intervals carry a theorem: of a distribution, and of the means of batches.
+"""Rows of answers whose intervals carry a theorem: of a distribution, and of the means of batches and paths.
 
 Apart from `law` and `means`, since what it stands on takes a while to be read.
 """
 
+import collections
 import dataclasses
 from collections.abc import Iterator, Sequence
 
@@ -20,9 +21,10 @@ from psi_tools.stats.guaranteed import (
     shown_out,
     written_out,
 )
-from psi_tools.stats.intervals import LEVEL, Mean, quantile
+from psi_tools.stats.intervals import LEVEL, Mean, Span, quantile
 from psi_tools.stats.law import RECORD, SHARES, Law, Quantile
 from psi_tools.stats.means import record
+from psi_tools.stats.paths import ITEMS, QUEUE, REWARD, PathRow, Paths
 from psi_tools.stats.text import figures
 
 
@@ -82,3 +84,29 @@ def guaranteed_means(batches: Batches, level: float) -> tuple[list[Guarantee], l
         ends = mean_between(mean, own.mean())
         records.append(record(f"{row.kind}mean", row.name, ends, row.least, row.greatest))
     return rows, records
+
+
+def guaranteed_paths(
+    paths: Paths, pilot: Paths | None, first: int, level: float
+) -> tuple[list[Guarantee], list[Record]]:
+    """The claims of all queues and rewards along paths, and the rows of the answer. `pilot` has paths that
+    aren't counted, from the stream `first` on. The theorem is one about states, so events have none."""
+    claims, records = [], []
+    for place, row in enumerate(paths.rows):
+        if row.kind not in (QUEUE, REWARD):
+            continue
+        seen = None if pilot is None else Pilot(counts_of(pilot.rows[place]), pilot.lost, first, pilot.count)
+        least, greatest = (row.times * end for end in row.span.ends)
+        span = Span(least, greatest, least, greatest, row.span.two and row.times == 1)
+        name, d = f"{row.kind} {row.name}", one_in(level)
+        own = Guarantee(name, paths.count, paths.lost, span, d, counts_of(row), pilot=seen, times=row.times)
+        low, high = (end / row.times for end in own.mean())
+        mean = mean_between(sum(row.sums) / (row.times * len(row.sums)), (low, high))
+        claims.append(own)
+        records.append(record(ITEMS[row.kind], row.name, mean, None, None))
+    return claims, records
+
+
+def counts_of(row: PathRow) -> list[tuple[int, int]]:
+    """How many paths have each sum, ascending."""
+    return sorted(collections.Counter(row.sums).items())

@@ -1,0 +1,129 @@
+"""psi-means --paths: the means of queues and rewards along paths, and the rates of events, with intervals."""
+
+import argparse
+
+from psi_tools.arguments import GREATEST
+from psi_tools.draw.blocks import digest_of
+from psi_tools.draw.paths import paths_of
+from psi_tools.draw.program import Program
+from psi_tools.draw.reports import blocks_of, size_of
+from psi_tools.errors import PsiError
+from psi_tools.io import tables
+from psi_tools.io.output import write
+from psi_tools.io.tables import Record
+from psi_tools.io.terminal import Progress
+from psi_tools.model.networks import Network, checked
+from psi_tools.stats.intervals import LEAST_BATCHES, read_ahead
+from psi_tools.stats.means import mean_of
+from psi_tools.stats.paths import Paths, paths_of_rows, records_of
+from psi_tools.stats.text import ends_shown, figures, half_shown
+
+COMMAND = "psi-means"
+SORTS = {"mean": "queue", "reward-mean": "reward", "moved-rate": "moved", "chosen-rate": "chosen"}
+RATES = "rates of events, in the unit of the file: how often one changes the state, and how often it is chosen"
+
+
+def drawn(psi: Program, net: Network, args: argparse.Namespace, first: int, count: int) -> Paths:
+    """The paths of some streams, drawn in blocks."""
+    blocks = blocks_of(first, count, size_of(count))
+    bar = Progress(COMMAND, len(blocks), "blocks")
+    try:
+        return paths_of_rows(net, args.paths, paths_of(psi, net, args.seed, blocks, args.paths, args.total, bar.show))
+    finally:
+        bar.end()
+
+
+def notes_of(paths: Paths) -> list[str]:
+    """What has to be known before a mean is read."""
+    if not paths.lost:
+        return []
+    return [
+        f"NOT COUPLED: {paths.lost:,} of {paths.count:,} streams; the means are of the others, and biased; "
+        "the intervals hold what they may change"
+    ]
+
+
+def head_of(paths: Paths, level: float, kind: str = "intervals") -> str:
+    """The line of how many paths there are, and of what sort and level the intervals are."""
+    state = f"{paths.count - paths.lost:,} of them coupled" if paths.lost else "all coupled"
+    return f"{paths.count:,} paths of {paths.steps:,} steps, {state}; {kind} of {level:g} %"
+
+
+def text_of(paths: Paths, records: list[Record], level: float) -> str:
+    """The answer for people."""
+    lines = [*notes_of(paths), head_of(paths, level)]
+    means: list[tuple[object, ...]] = [("", "", "mean", "", "from", "to")]
+    rates: list[tuple[object, ...]] = [("", "", "rate", "", "from", "to")]
+    for each in records:
+        mean = mean_of(each)
+        rows = rates if each["item"].endswith("rate") else means
+        rows.append(
+            (SORTS[each["item"]], each["name"], figures(mean.mean, mean.half), half_shown(mean), *ends_shown(mean))
+        )
+    lines.append(tables.aligned(means, right=(2, 4, 5)).rstrip("\n"))
+    if paths.steps:
+        lines += [RATES, tables.aligned(rates, right=(2, 4, 5)).rstrip("\n")]
+    lines += paths.carried()
+    return "".join(f"{line}\n" for line in lines)
+
+
+def guaranteed_text_of(paths: Paths, records: list[Record], level: float, remarks: list[str]) -> str:
+    """The answer for people where the intervals carry a theorem; ends are rounded outwards."""
+    from psi_tools.stats.guaranteed import shown_out
+
+    rows: list[tuple[object, ...]] = [("", "", "mean", "from", "to")]
+    for each in records:
+        mean = mean_of(each)
+        rows.append((SORTS[each["item"]], each["name"], figures(mean.mean, mean.half), *shown_out(mean)))
+    table = tables.aligned(rows, right=(2, 3, 4)).rstrip("\n")
+    lines = [*notes_of(paths), head_of(paths, level, "guaranteed intervals"), table, *remarks]
+    return "".join(f"{line}\n" for line in lines)
+
+
+def guaranteed_answer(psi: Program, net: Network, args: argparse.Namespace, paths: Paths) -> tuple[str, list[str]]:
+    """The text of the answer whose intervals carry a theorem: of queues and rewards alone."""
+    from psi_tools.stats.guaranteed import ASSUMED, file_of, misses, pilots_of
+    from psi_tools.stats.guaranteed_rows import guaranteed_paths
+
+    pilots = pilots_of(args.count) if args.pilot is None else args.pilot
+    begin, pilot = args.first + args.count, None
+    if pilots:
+        if begin + pilots - 1 > GREATEST:
+            raise PsiError(f"the last pilot stream would be above {GREATEST}; --pilot 0 wants none")
+        pilot = drawn(psi, net, args, begin, pilots)
+    rows, records = guaranteed_paths(paths, pilot, begin, args.level / 100)
+    if args.certificate:
+        streams = {"seed": args.seed, "first": args.first, "count": args.count, "steps": args.paths}
+        of = {"network": digest_of(net.data), **streams, "total": args.total}
+        more = {"pilot": pilot and {"first": begin, "count": pilots}}
+        write(args.certificate, tables.as_json(file_of(rows, {**of, **more})).encode())
+    remarks = [*rows[0].ways(), misses(rows[0].d), ASSUMED]
+    if args.format == "text":
+        return guaranteed_text_of(paths, records, args.level, remarks), []
+    return in_form(paths, records, args, [*notes_of(paths), *remarks])
+
+
+def in_form(paths: Paths, records: list[Record], args: argparse.Namespace, notes: list[str]) -> tuple[str, list[str]]:
+    """The answer for programs, and what is to be noted beside it."""
+    if args.format == "csv":
+        return tables.as_csv(records), notes
+    heads = {"paths": paths.count, "coupled": len(paths.horizons), "steps": paths.steps}
+    return tables.as_json({**heads, "level": args.level / 100, "notes": notes, "rows": records}), notes
+
+
+def answer(args: argparse.Namespace) -> tuple[str, list[str]]:
+    """The text of the answer, and what is to be noted beside it."""
+    if args.count < LEAST_BATCHES and not args.guaranteed:
+        raise PsiError(f"{args.count} paths are drawn, and {LEAST_BATCHES} are wanted for an interval")
+    read_ahead()
+    psi = Program(args.psi, args.jobs)
+    net = checked(psi, args.reports[0])
+    paths = drawn(psi, net, args, args.first, args.count)
+    if not paths.horizons:
+        raise PsiError(f"none of {paths.count:,} streams is coupled; psi-why tells what may help", 1)
+    if args.guaranteed:
+        return guaranteed_answer(psi, net, args, paths)
+    records = records_of(paths, args.level / 100)
+    if args.format == "text":
+        return text_of(paths, records, args.level), []
+    return in_form(paths, records, args, [*notes_of(paths), *paths.carried()])

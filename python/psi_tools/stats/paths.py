@@ -1,0 +1,173 @@
+"""Means and rates along paths, with intervals over independent streams.
+
+A path begins in a sample, so each of its states has the stationary distribution, and its mean has the
+stationary mean. The states of one path depend on each other; paths of different streams do not. So the paths
+are the values: an interval is that of Student's t over their means, however long they are.
+
+Each end also reckons with what did not come, in one of all paths. Where the values above the least one come
+in a few separate visits, the paths' means are skewed, and Student's t alone is too narrow: if all visits were
+alike, one would add the variance of the mean, divided by the mean above the least value. It is reckoned as
+larger the fewer visits there are, and at most as the greatest value for as many steps as the longest horizon
+of the samples, after which the states at its beginning are forgotten. Of paths of no step that is one sample.
+"""
+
+import dataclasses
+import math
+
+from psi_tools.draw.paths import events_of, header_of, modulus_of
+from psi_tools.io.tables import Record
+from psi_tools.model.networks import Network
+from psi_tools.stats.intervals import (
+    FEW,
+    LEVEL,
+    NO_MEAN,
+    Mean,
+    Span,
+    Spread,
+    between,
+    mean_of_two,
+    probability,
+    spread_of,
+    student_and_unseen,
+)
+from psi_tools.stats.means import record
+from psi_tools.stats.spans import Spans
+
+# The sorts of rows: means of states, and rates of events.
+QUEUE, REWARD, CHOSEN, MOVED = "queue", "reward", "chosen", "moved"
+ITEMS = {QUEUE: "mean", REWARD: "reward-mean", CHOSEN: "chosen-rate", MOVED: "moved-rate"}
+
+
+@dataclasses.dataclass(frozen=True)
+class PathRow:
+    """A number that is summed along paths, over `times` times of each: its sums along the coupled ones,
+    what it may be at a time, and by what a mean is multiplied: 1, or of events the unit of rates."""
+
+    kind: str
+    name: str
+    sums: list[int]
+    span: Span
+    times: int
+    unit: int = 1
+
+
+@dataclasses.dataclass(frozen=True)
+class Paths:
+    """Paths of `steps` steps of a network's streams: the horizons of those that are coupled, how many
+    aren't, and the rows."""
+
+    steps: int
+    horizons: list[int]
+    lost: int
+    rows: list[PathRow]
+
+    @property
+    def count(self) -> int:
+        """How many streams there are."""
+        return len(self.horizons) + self.lost
+
+    def mean(self, row: PathRow, level: float = LEVEL) -> Mean:
+        """The mean of a row at a time, or the rate of an event, over the paths that are coupled."""
+        if not row.times or not self.horizons:
+            return NO_MEAN
+        mean = self.share(row, level) if row.kind == CHOSEN else self.own_mean(row, level)
+        if row.unit == 1 or mean.mean is None:
+            return mean
+        assert mean.ends is not None
+        return between(row.unit * mean.mean, *(row.unit * end for end in mean.ends))
+
+    def share(self, row: PathRow, level: float) -> Mean:
+        """The share of the steps in which an event is chosen. Its random words are no words of the
+        samples, so all are independent, also of which streams are coupled."""
+        count, many = sum(row.sums), row.times * len(row.sums)
+        return between(count / many, *probability(count, many, level=level))
+
+    def own_mean(self, row: PathRow, level: float) -> Mean:
+        """The mean of a row, whose interval counts each stream that isn't coupled as the least value
+        at all times for the lower end, and as the greatest for the upper one."""
+        if row.times == 1 and row.span.two:
+            return mean_of_two(row.sums, [1] * len(row.sums), row.span, [0] * len(row.sums) + [self.lost], level)
+        mean = sum(row.sums) / (row.times * len(row.sums))
+        low, high = (self.end(row, is_high, level) for is_high in (False, True))
+        if low is None or high is None:
+            return Mean(mean, None)
+        return between(mean, row.span.clipped(low), row.span.clipped(high))
+
+    def spread(self, row: PathRow, value: int) -> Spread | None:
+        """The mean over all paths and its error, where streams that aren't coupled have a value."""
+        sums = row.sums + [value * row.times] * self.lost
+        return spread_of(sums, [row.times] * len(sums))
+
+    def end(self, row: PathRow, is_high: bool, level: float) -> float | None:
+        """An end of the interval of a mean; none of a single path."""
+        least, greatest = row.span.ends
+        spread = self.spread(row, greatest if is_high else least)
+        if spread is None or spread.error is None:
+            return None
+        below, above = spread.mean - least, greatest - spread.mean
+        if not is_high:
+            below, above = above, below
+        far = min(row.times, max(self.horizons)) * above / spread.many
+        sign = 1 if is_high else -1
+        if not spread.error:
+            # All paths are alike: what didn't come in any comes in so few of all.
+            return spread.mean - sign * math.log((1 - level) / 2) * far
+        one = visit_of(spread.error, below)
+        unseen = min(far, one * (2 + (FEW * one / below) ** 3)) if below > 0 else far
+        return spread.mean + sign * spread.error * student_and_unseen(spread.batches - 1, unseen / spread.error, level)
+
+    def carried(self) -> list[str]:
+        """The lines that tell of which rows few visits to other values carry the mean."""
+        lines = []
+        for row in self.rows:
+            spread = self.spread(row, row.span.ends[0]) if row.kind != CHOSEN and row.times else None
+            if spread is None or not spread.error:
+                continue
+            number = ((spread.mean - row.span.ends[0]) / spread.error) ** 2
+            if number < FEW:
+                lines.append(
+                    f"few visits carry the mean of {row.name}: as if {max(1, round(number))} had the whole sum; "
+                    "more streams, or longer paths, make its interval narrower"
+                )
+        return lines
+
+
+def visit_of(error: float, below: float) -> float:
+    """What a visit to other values adds to a mean over all paths that is so far from the value at which
+    there is none, where its error is that of visits which are alike and come by chance."""
+    return error * error / below if below > 0 else 0.0
+
+
+def paths_of_rows(net: Network, steps: int, rows: list[str | None]) -> Paths:
+    """The paths of a network, by the rows of tables as draw.paths has them."""
+    numbers = [[int(value) for value in row.split(",")] for row in rows if row is not None]
+    columns = [list(column) for column in zip(*numbers)] or [[] for _ in header_of(net)[1:]]
+    spans = Spans(net, {})
+    found = []
+    for kind, name, places in columns_of(net):
+        sums = [sum(values) for values in zip(*(columns[2 + place] for place in places))]
+        if kind in (QUEUE, REWARD):
+            span = spans.of_queue(name) if kind == QUEUE else spans.of_reward(name)
+            found.append(PathRow(kind, name, sums, span, steps + 1))
+        else:
+            found.append(PathRow(kind, name, sums, Span(0, 1, 0, 1, True), steps, modulus_of(net)))
+    return Paths(steps, columns[0], rows.count(None), found)
+
+
+def columns_of(net: Network) -> list[tuple[str, str, list[int]]]:
+    """The sort and the name of each row, and the places of its columns: of an event one for each server."""
+    found: list[tuple[str, str, list[int]]] = []
+    states = [(QUEUE, name) for name in net.queues] + [(REWARD, name) for name in net.rewards]
+    found += [(kind, name, [place]) for place, (kind, name) in enumerate(states)]
+    places: dict[str, list[int]] = {}
+    for place, (name, _) in enumerate(events_of(net)):
+        places.setdefault(name, []).append(len(states) + 2 * place)
+    for name, own in places.items():
+        found += [(MOVED, name, [place + 1 for place in own]), (CHOSEN, name, own)]
+    return found
+
+
+def records_of(paths: Paths, level: float) -> list[Record]:
+    """The rows of the answer, each with its item, its name, its mean, and the ends of its interval."""
+    rows = [row for row in paths.rows if row.times]
+    return [record(ITEMS[row.kind], row.name, paths.mean(row, level), None, None) for row in rows]
