@@ -104,7 +104,7 @@ def test_sums_of_any_size_are_exact(psi, tmp_path):
     net.heads["limit"] = 14
     assert (2_000 * BILLION) * 5_000_001 > 2**63 > (2_000 * BILLION) * 101
     table = psi.paths(net, count=2, steps=100)
-    assert [str(kind) for kind in table.dtypes] == ["uint64", *8 * ["Int64"]]
+    assert [str(kind) for kind in table.dtypes] == ["uint64", *9 * ["Int64"]]
     file = tmp_path / "net.toml"
     net.write(file)
     assert rows_in(table) == rows_wanted(file, 0, range(2), 100)[1]
@@ -132,7 +132,7 @@ def test_what_is_refused(psi, tmp_path):
     net = psi.Network().queue("a", 2).event("out", "service", 1, source="b")
     with pytest.raises(psi.Refused) as fault:
         psi.paths(net, count=1)
-    assert (fault.value.status, fault.value.line) == (3, "psi: network refused 10 UnknownQueue event 1 from")
+    assert (fault.value.status, fault.value.line) == (3, "psi: network refused 9 UnknownQueue event 1 from")
     opened = EXAMPLES / "tandem-blocking.toml"
     with pytest.raises(psi.Refused) as fault:
         psi.paths(opened, total=3, count=5)

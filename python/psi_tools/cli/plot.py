@@ -9,7 +9,7 @@ from typing import TYPE_CHECKING, Any, TypeVar
 
 from psi_tools.arguments import GREATEST, NUMBER
 from psi_tools.cli.command import run
-from psi_tools.cli.options import Parser
+from psi_tools.cli.options import Parser, number
 from psi_tools.draw.program import Program
 from psi_tools.draw.reports import as_printed, read_folder
 from psi_tools.errors import InputError, PsiError, reason, require
@@ -18,6 +18,7 @@ from psi_tools.io.output import check_writable, write
 from psi_tools.model.networks import checked
 from psi_tools.plot.network_scene import NetworkPicture
 from psi_tools.plot.past import Past
+from psi_tools.plot.path import StationaryPath
 from psi_tools.plot.read_log import Coupling, names_of, read_log
 from psi_tools.plot.read_report import Report, Spread, read_report
 from psi_tools.stats.batches import interval_or_none
@@ -30,6 +31,8 @@ if TYPE_CHECKING:
 Value = TypeVar("Value")
 
 COMMAND = "psi-plot"
+# The steps of a path, and the queues that are drawn of it at most, where the call names none.
+STEPS, MOST_QUEUES = 100, 16
 # The most bytes that are read of a file: one more than a log may have.
 LONGEST, MOST_REPORTS, FORMATS = 33_554_433, 8, ("svg", "png", "pdf")
 ABOUT = """Draws what psi prints, and forward runs, as pictures for a lecture or a page.
@@ -46,6 +49,9 @@ psi-plot forward NET [STEPS..] -o FILE a network of one queue: where forward run
                                        they aren't given
 psi-plot past NET SEED STREAM -o FILE  the runs of a sample from 1, 2, 4, .. steps before time zero
                                        until all states have coalesced, those that fail included
+psi-plot path NET SEED STREAM [--steps N] -o FILE
+                                       the path that begins in a sample, a row for each queue, beside
+                                       the run that led to the sample
 psi-plot network NET -o FILE           the network: queues, servers, and events as arrows
 
 The exit status is 0 where the picture is drawn; 2 where a word or an input isn't what it should be,
@@ -64,20 +70,32 @@ def parser() -> Parser:
         "--psi",
         metavar="PSI",
         help="the built program; crates/psi/out/psi, or psi on the PATH, where it isn't given, of "
-        "which forward, past and network ask",
+        "which forward, past, path and network ask",
     )
     parser.add_argument("--legend", action="store_true", help="of network: explain the arrows below the picture")
     parser.add_argument("--tables", action="store_true", help="of network: print the tables of choices by an index")
-    parser.add_argument("--queue", metavar="QUEUE", help="of past: the queue that is drawn; all customers if not given")
+    parser.add_argument(
+        "--queue",
+        metavar="QUEUE",
+        help="of past and path: the queue that is drawn; if not given, of past all customers, and of path each queue",
+    )
+    parser.add_argument(
+        "--steps",
+        metavar="N",
+        type=number(0, 2**32 - 2**22),
+        help="of path: its steps; 100 if not given, 4,096 at most",
+    )
     parser.add_argument(
         "--new-words", action="store_true", help="of past: new random words for each run, the wrong way"
     )
-    parser.add_argument("what", nargs="?", metavar="WHAT", help="coupling, report, exact, forward, past or network")
+    parser.add_argument(
+        "what", nargs="?", metavar="WHAT", help="coupling, report, exact, forward, past, path or network"
+    )
     parser.add_argument(
         "files",
         nargs="*",
         metavar="FILE",
-        help="what psi has printed; of forward NET and STEPS, of past NET SEED STREAM",
+        help="what psi has printed; of forward NET and STEPS, of past and path NET SEED STREAM",
     )
     return parser
 
@@ -89,7 +107,9 @@ def parse(arguments: list[str]) -> argparse.Namespace:
     require(args.files, f"{args.what} is told no file")
     require(args.out.rpartition(".")[2].lower() in FORMATS, "-o names no .svg, .png or .pdf")
     require(args.what == "network" or not (args.legend or args.tables), "--legend and --tables are network's")
-    require(args.what == "past" or not (args.queue or args.new_words), "--queue and --new-words are past's")
+    require(args.what == "past" or not args.new_words, "--new-words is past's")
+    require(args.what in ("past", "path") or not args.queue, "--queue is past's and path's")
+    require(args.what == "path" or args.steps is None, "--steps is path's")
     check_writable(args.out)
     return args
 
@@ -169,21 +189,39 @@ def network(args: argparse.Namespace, path: str, *others: str) -> NetworkPicture
     return NetworkPicture(net, pathlib.Path(path).stem, args.legend, args.tables)
 
 
-def past(args: argparse.Namespace, path: str, *streams: str) -> tuple[Past, int | None]:
-    """The runs of a sample, and the queue that is drawn: none for all customers of several."""
-    from psi_tools.plot.past import past_of
-
-    require(len(streams) == 2, "past is given NET SEED STREAM")
+def streams_of(what: str, streams: tuple[str, ...]) -> tuple[int, int]:
+    """The seed and the stream of a sample."""
+    require(len(streams) == 2, f"{what} is given NET SEED STREAM")
     require(
         all(NUMBER.fullmatch(word) and int(word) <= GREATEST for word in streams),
         "SEED and STREAM are numbers up to 2^64 - 1",
     )
     seed, stream = map(int, streams)
+    return seed, stream
+
+
+def past(args: argparse.Namespace, path: str, *streams: str) -> tuple[Past, int | None]:
+    """The runs of a sample, and the queue that is drawn: none for all customers of several."""
+    from psi_tools.plot.past import past_of
+
+    seed, stream = streams_of("past", streams)
     found = past_of(args.psi, path, seed, stream, args.new_words)
     require(args.queue is None or args.queue in found.queues, f"{path}: there is no queue {args.queue}")
     if args.queue is not None:
         return found, found.queues.index(args.queue)
     return found, 0 if len(found.queues) == 1 else None
+
+
+def path(args: argparse.Namespace, path: str, *streams: str) -> tuple[StationaryPath, list[int]]:
+    """A path, and the queues that are drawn."""
+    from psi_tools.plot.path import path_of
+
+    seed, stream = streams_of("path", streams)
+    found = path_of(args.psi, path, seed, stream, STEPS if args.steps is None else args.steps)
+    queues = found.past.queues
+    require(args.queue is None or args.queue in queues, f"{path}: there is no queue {args.queue}")
+    require(args.queue is not None or len(queues) <= MOST_QUEUES, f"{path}: of more than 16 queues --queue names one")
+    return found, [*range(len(queues))] if args.queue is None else [queues.index(args.queue)]
 
 
 # What reads the files of a command, and what draws it: matplotlib is wanted only for that.
@@ -193,6 +231,7 @@ DRAWN: dict[str, Callable[..., Any]] = {
     "exact": exact,
     "forward": forward,
     "past": past,
+    "path": path,
     "network": network,
 }
 

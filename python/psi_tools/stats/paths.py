@@ -33,6 +33,8 @@ from psi_tools.stats.intervals import (
 from psi_tools.stats.means import record
 from psi_tools.stats.spans import Spans
 
+# A mean of a table's values is carried by few visits where it is that of fewer than so many.
+FEW_OF_TABLE = 4 * FEW
 # The sorts of rows: means of states, and rates of events.
 QUEUE, REWARD, CHOSEN, MOVED = "queue", "reward", "chosen", "moved"
 ITEMS = {QUEUE: "mean", REWARD: "reward-mean", CHOSEN: "chosen-rate", MOVED: "moved-rate"}
@@ -41,7 +43,8 @@ ITEMS = {QUEUE: "mean", REWARD: "reward-mean", CHOSEN: "chosen-rate", MOVED: "mo
 @dataclasses.dataclass(frozen=True)
 class PathRow:
     """A number that is summed along paths, over `times` times of each: its sums along the coupled ones,
-    what it may be at a time, and by what a mean is multiplied: 1, or of events the unit of rates."""
+    what it may be at a time, and by what a mean is multiplied: 1, or of events the unit of rates. Where
+    the sum is that of fewer visits than `few`, visits may be much larger than those that came."""
 
     kind: str
     name: str
@@ -49,6 +52,7 @@ class PathRow:
     span: Span
     times: int
     unit: int = 1
+    few: int = FEW
 
 
 @dataclasses.dataclass(frozen=True)
@@ -113,7 +117,7 @@ class Paths:
             # All paths are alike: what didn't come in any comes in so few of all.
             return spread.mean - sign * math.log((1 - level) / 2) * far
         one = visit_of(spread.error, below)
-        unseen = min(far, one * (2 + (FEW * one / below) ** 3)) if below > 0 else far
+        unseen = min(far, one * (2 + (row.few * one / below) ** 4)) if below > 0 else far
         return spread.mean + sign * spread.error * student_and_unseen(spread.batches - 1, unseen / spread.error, level)
 
     def carried(self) -> list[str]:
@@ -142,13 +146,15 @@ def paths_of_rows(net: Network, steps: int, rows: list[str | None]) -> Paths:
     """The paths of a network, by the rows of tables as draw.paths has them."""
     numbers = [[int(value) for value in row.split(",")] for row in rows if row is not None]
     columns = [list(column) for column in zip(*numbers)] or [[] for _ in header_of(net)[1:]]
-    spans = Spans(net, {})
-    found = []
+    spans, found = Spans(net, {}), []
+    # From one number of customers to the next a table may rise steeply; other values change by single steps.
+    steep = {reward["name"] for reward in net.table["reward"] if reward["kind"] == "table"}
     for kind, name, places in columns_of(net):
         sums = [sum(values) for values in zip(*(columns[2 + place] for place in places))]
         if kind in (QUEUE, REWARD):
             span = spans.of_queue(name) if kind == QUEUE else spans.of_reward(name)
-            found.append(PathRow(kind, name, sums, span, steps + 1))
+            few = FEW_OF_TABLE if name in steep and kind == REWARD else FEW
+            found.append(PathRow(kind, name, sums, span, steps + 1, few=few))
         else:
             found.append(PathRow(kind, name, sums, Span(0, 1, 0, 1, True), steps, modulus_of(net)))
     return Paths(steps, columns[0], rows.count(None), found)
