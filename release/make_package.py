@@ -8,8 +8,8 @@ paths:
   later, psi-sampler-VERSION-linux-x86-64-glibc-GLIBC.tar.xz;
 - SHA256SUMS of both, for `sha256sum --check`.
 
-PSI is the built program, crates/psi/out/psi where it isn't given; psi_merge and psi_states are packed
-too, as psi-merge and psi-states, where they are built beside it or in their crates. Both have the
+PSI is the built program, crates/psi/out/psi where it isn't given; psi_merge, psi_states and psi_paths
+are packed too, as psi-merge, psi-states and psi-paths, where they are built beside it or in their crates. Both have the
 tools psi-many, psi-plot and those of docs/TOOLS.md and what they need, the module psi for Python, man
 pages made by man_pages.py, completion for bash, zsh and fish, the gallery, the documents, and the
 licences. The programs are stripped of their symbols. It wants git, dpkg-deb, strip, and what
@@ -43,7 +43,7 @@ TOP = pathlib.Path(__file__).resolve().parent.parent
 BUILT = "crates/psi/out/psi"
 NAME = "psi-sampler"
 # The other proved programs, each with its crate, that are packed where they are built.
-OTHERS = {"psi-merge": "psi_merge", "psi-states": "psi_states"}
+OTHERS = {"psi-merge": "psi_merge", "psi-states": "psi_states", "psi-paths": "psi_paths"}
 TOOLS = (
     "packaged.py",
     "merge_reports.py",

@@ -63,6 +63,8 @@ OF_SOURCES = (
     " It is built by `rt run` in `crates/psi_merge`, as `crates/psi_merge/out/psi_merge`.",
     " It is built by `rt run` in `crates/psi_states`, as `crates/psi_states/out/psi_states`, and called"
     " by `tools/psi-states`.",
+    " It is built by `rt run` in `crates/psi_paths`, as `crates/psi_paths/out/psi_paths`, and called by"
+    " `tools/psi-paths`.",
 )
 # What stands elsewhere in the package.
 PLACES = (
@@ -73,6 +75,7 @@ PLACES = (
     ("psi_merge FILE", "psi-merge FILE"),
     ("psi_states NET", "psi-states NET"),
     ("psi_states ..", "psi-states .."),
+    ("psi_paths NET", "psi-paths NET"),
     ("tools/", f"{LIBRARY}/tools/"),
     ("examples/", f"{SHARE}/examples/"),
 )
@@ -122,7 +125,7 @@ def inline(text: str) -> str:
 
 def of_package(code: str) -> str:
     """Code as it is written where the package is installed."""
-    if code in ("psi_merge", "psi_states"):
+    if code in ("psi_merge", "psi_states", "psi_paths"):
         return code.replace("_", "-")
     for source, place in PLACES:
         code = code if place in code and source in place else code.replace(source, place)

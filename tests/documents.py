@@ -69,7 +69,8 @@ class Clone:
         subprocess.run(["git", "clone", "-q", str(TOP), str(self.top)], check=True)
         self.answers: dict[str, list[Ran]] = {}
         if program:
-            for name, path in (("psi", program), ("psi_states", beside(program, "psi_states"))):
+            others = ((name, beside(program, name)) for name in ("psi_states", "psi_paths"))
+            for name, path in (("psi", program), *others):
                 if path:
                     built = self.top / "crates" / name / "out" / name
                     built.parent.mkdir(parents=True)

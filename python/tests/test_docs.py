@@ -6,6 +6,8 @@ import subprocess
 import pytest
 from conftest import SECONDS, TOP
 
+from psi_tools.draw.program import companion_of
+
 BLOCK = re.compile(r"^```(\w*)\n(.*?)^```\n", re.M | re.S)
 
 
@@ -27,12 +29,14 @@ RUNS = [*shown("TOOLS.md")]
 
 
 def test_there_are_runs():
-    assert len([text for *_, text in RUNS if text is not None]) == 8
+    assert len([text for *_, text in RUNS if text is not None]) == 9
     assert all(text != "" for *_, text in RUNS)
 
 
 @pytest.mark.parametrize("files, commands, text", RUNS, ids=[run[1].split()[0] for run in RUNS])
-def test_a_run_of_the_document(environment, tmp_path, files, commands, text):
+def test_a_run_of_the_document(program, environment, tmp_path, files, commands, text):
+    if "--paths" in commands and companion_of(program, "psi_paths") is None:
+        pytest.skip("psi_paths isn't built")
     for name in ("tools", "examples"):
         (tmp_path / name).symlink_to(TOP / name)
     for name, data in files.items():

@@ -24,7 +24,7 @@ NAMES_OF = (
 # The arguments of a command beside its options: by their place those that can stand there, or the
 # sections of the network in the first word whose names can.
 WORDS: dict[str, dict[int, tuple[str, ...]]] = {
-    "plot": {1: ("coupling", "report", "exact", "forward", "past", "network")}
+    "plot": {1: ("coupling", "report", "exact", "forward", "past", "path", "network")}
 }
 SECTIONS = {"law": {2: "queue|reward"}, "sweep": {2: "queue|event"}}
 
