@@ -199,6 +199,28 @@ def cases() -> list[Case]:
     ]
 
 
+def walked() -> list[Case]:
+    """The networks on which paths are compared with the plain chain: three of the gallery, two lines that
+    can't be solved, and a queue that forgets slowly."""
+
+    def example(name: str, about: str, queue: str, samples: int) -> Case:
+        net = Network.read(on_path.TOP / "examples" / f"{name}.toml").copy()
+        net.table["reward"].clear()
+        return Case(name, about, watching(net, queue), queue, samples, 0)
+
+    slow = "M/M/1/1000, load 0.99"
+    return [
+        example("tandem-blocking", "3 queues with blocking, 60 states", "cut", 10_000),
+        example("shortest-queue", "3 queues, join the shortest, 216 states", "left", 10_000),
+        example("fork-join", "fork and join, 144 states", "half-a", 5_000),
+        Case("line-8x20", "8 queues of 20, load 0.9", watching(line(8, 20, 1, 9, 10, "stay", 20), "q8"), "q8", 500, 0),
+        Case(
+            "line-20x10", "20 queues of 10, load 1", watching(line(20, 10, 1, 1, 1, "stay", 20), "q20"), "q20", 250, 0
+        ),
+        Case("one-queue-1000", slow, watching(one_queue(1_000, 99, 100, 22), "desk"), "desk", 500, 0),
+    ]
+
+
 def growing() -> dict[str, dict[str, Case]]:
     """The families: what grows, and for each value of that its network."""
     lines = {count: watching(line(count, 20, 1, 4, 5, "stay", 20), f"q{count}") for count in (4, 8, 16, 32)}

@@ -8,8 +8,14 @@ import texts
 from networks import Case
 from rivals import Bias, Found
 
-METHODS = "chain", "simpy", "scipy", "octave"
-CALLED = {"chain": "plain chain", "simpy": "SimPy", "scipy": "scipy.sparse", "octave": "octave-queueing"}
+METHODS = "paths", "chain", "simpy", "scipy", "octave"
+CALLED = {
+    "paths": "PSI by paths",
+    "chain": "plain chain",
+    "simpy": "SimPy",
+    "scipy": "scipy.sparse",
+    "octave": "octave-queueing",
+}
 
 
 @dataclasses.dataclass
@@ -43,6 +49,16 @@ class Comparison:
 
 
 @dataclasses.dataclass
+class Walk:
+    """What samples, paths and the plain chain come to for a network; no chain where it isn't built."""
+
+    case: Case
+    psi: Found
+    paths: Found
+    chain: Found | None
+
+
+@dataclasses.dataclass
 class Measured:
     """All that the page shows."""
 
@@ -50,6 +66,7 @@ class Measured:
     samplings: list[Sampling]
     families: dict[str, dict[str, Sampling]]
     comparisons: list[Comparison]
+    walks: list[Walk]
     exact: float
     biases: list[Bias]
     bias_steps: int
@@ -137,6 +154,25 @@ def time_table(comparisons: list[Comparison]) -> str:
     return table(["network", *(CALLED[method] for method in METHODS), "PSI, seconds"], rows)
 
 
+def walk_table(walks: list[Walk]) -> str:
+    """The table of paths beside samples and the plain chain."""
+    rows = []
+    for one in walks:
+        chain = one.chain
+        step = chain and chain.step
+        rows.append(
+            [
+                one.case.about,
+                *(shown(found and found.seconds) for found in (one.psi, one.paths, chain)),
+                "-" if chain is None else shown(one.paths.seconds / chain.seconds),
+                *(shown(number) for number in (one.paths.step, step)),
+                shown(one.paths.step / step) if step else "-",
+            ]
+        )
+    head = ["network", "samples, s", "paths, s", "plain chain, s", "ratio", "paths, ns a step", "chain, ns a step"]
+    return table([*head, "ratio of steps"], rows)
+
+
 def estimate(found: Found | None) -> str:
     """An estimate, with half its interval where it has one."""
     if found is None:
@@ -187,7 +223,7 @@ def where_right(comparisons: list[Comparison]) -> str:
     return "\n".join(items)
 
 
-def page(found: Measured, rounds: int, batches: int, most: int) -> str:
+def page(found: Measured, rounds: int, batches: int, paths: int, most: int) -> str:
     """The whole page."""
     start = min(one.start for one in found.samplings) * 1_000
     rows = [sampling_row(one) for one in found.samplings]
@@ -198,6 +234,9 @@ def page(found: Measured, rounds: int, batches: int, most: int) -> str:
         "## PSI beside other methods\n",
         wrapped(texts.COMPARED.format(batches=batches, most=most)),
         time_table(found.comparisons),
+        "## Paths beside the plain chain\n",
+        wrapped(texts.WALKS.format(paths=paths)),
+        walk_table(found.walks),
         "## Which method to choose\n",
         wrapped(where_right(found.comparisons)),
         wrapped(texts.PSI),

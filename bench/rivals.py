@@ -5,7 +5,9 @@ What a run of moderate length comes to is scaled: the half-width of an interval 
 square root of the work. Times are processor times of whole processes, their start included.
 """
 
+import csv
 import dataclasses
+import io
 import math
 import os
 import pathlib
@@ -22,6 +24,8 @@ from networks import SQUARED, WATCHED, Case, one_queue
 TARGET, SEED = 0.01, 1
 # Student's t for 19 degrees of freedom, and the normal quantile, both for 95 %.
 BATCHES, T_QUANTILE, Z_QUANTILE = 20, 2.093, 1.96
+# How many paths there are, and Student's t for 29 degrees of freedom.
+PATHS, PATHS_QUANTILE = 30, 2.045
 HERE = pathlib.Path(__file__).resolve().parent
 PYTHON = "/usr/bin/python3" if os.access("/usr/bin/python3", os.X_OK) else sys.executable
 
@@ -29,12 +33,13 @@ PYTHON = "/usr/bin/python3" if os.access("/usr/bin/python3", os.X_OK) else sys.e
 @dataclasses.dataclass
 class Found:
     """A method's estimate of the mean, half of its 95 % interval (0 where it is exact), the seconds
-    until the target, and the seconds that were measured."""
+    until the target, the seconds that were measured and, of a simulation, the nanoseconds a step."""
 
     mean: float
     half: float
     seconds: float
     measured: float
+    step: float | None = None
 
 
 def scaled(mean: float, half: float, start: float, seconds: float) -> float:
@@ -67,6 +72,21 @@ def by_closed(program: str, file: str, case: Case, samples: int) -> Found:
     return Found(mean, half, scaled(mean, half, 0, seconds), seconds)
 
 
+def by_paths(program: str, file: str, case: Case, steps: int) -> Found:
+    """The mean over paths that begin in samples, of so many steps in all. The samples are drawn for each
+    precision; what is scaled is the rest."""
+    closed = [] if case.total is None else ["closed", str(case.total)]
+    each, call = max(1, steps // PATHS), [program, file, "0", "0", str(PATHS)]
+    start = min(run([*call, "0", *closed]).seconds for _ in range(3))
+    done = run([*call, str(each), *closed])
+    rows = csv.DictReader(io.StringIO(done.out))
+    means = [int(row[f"queue.{case.watched}"]) / (each + 1) for row in rows]
+    mean = statistics.fmean(means)
+    half = PATHS_QUANTILE * statistics.stdev(means) / math.sqrt(PATHS)
+    step = max(done.seconds - start, 0) / (PATHS * each) * 1e9
+    return Found(mean, half, scaled(mean, half, start, done.seconds), done.seconds, step)
+
+
 def batch_means(done: Run) -> list[float]:
     """The means that the plain chain printed."""
     return [float(line) for line in done.out.splitlines()]
@@ -80,7 +100,8 @@ def by_chain(chain: str, file: str, steps: int) -> Found:
     means = batch_means(done)
     mean = statistics.fmean(means)
     half = T_QUANTILE * statistics.stdev(means) / math.sqrt(BATCHES)
-    return Found(mean, half, scaled(mean, half, start, done.seconds), done.seconds)
+    step = max(done.seconds - start, 0) / ((BATCHES + 1) * (steps // BATCHES)) * 1e9
+    return Found(mean, half, scaled(mean, half, start, done.seconds), done.seconds, step)
 
 
 def by_simpy(file: str, case: Case, time: float, needed: float) -> Found:

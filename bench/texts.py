@@ -22,6 +22,8 @@ means that the method does not apply, or that it was not measured. Times are pro
 whole processes.
 
 - PSI: independent samples, until the confidence interval is that narrow.
+- PSI by paths: `psi_paths` lets the network run on from samples, and every step counts. The paths are
+the values of the interval.
 - Plain chain: `bench/chain`, a forward simulation of the uniformized chain in plain Rust. It is one
 long run, whose interval comes from {batches} batches, after one batch of warm-up.
 - SimPy: `bench/forward_simpy.py`, with a process for each event. It simulates the model time that
@@ -33,16 +35,24 @@ PSI, the plain chain and SimPy run for a part of the time, which is scaled: the 
 confidence interval falls with the square root of the work. A closed network has no report: each of
 its samples is a process of its own, so the start of the program is part of the time of each.
 """
+WALKS = """
+A path begins in a sample, so it needs no warm-up, and its interval takes nothing for independent but
+the streams. Here {paths} samples are drawn, and from each a path, until the mean of one queue is known
+within 1 % at a confidence level of 95 %. The plain chain has a warm-up of a twentieth of its run, which
+its user has to know. A step of a path is one random word, idle or not; the sums of all queues and all
+counts of events are part of it. A step of the plain chain is an event, and sums one queue.
+"""
 PSI = """
 PSI is the tool where a chain is too large to be solved, has no product form, and nobody knows how
 long a warm-up has to be. It is also the tool where samples have to be independent, have to be the
 same again from a seed and a stream, or have to be certified by a log.
 
-It is not the tool for more than some figures of a mean, since its time grows with the square of the
-precision; for long averages of a chain whose warm-up is known; nor for the mean of a closed
-network.
+For a mean take paths: each step after a sample counts. Samples are for distributions, joint events and
+certificates. PSI is not the tool for many figures of a mean, since its time grows with the square of the
+precision, nor for the mean of a closed network with product form.
 """
 ADVICE = {
+    "paths": "It is the tool for means and rates of a chain whose warm-up nobody knows: there is none.",
     "chain": "It is the tool for long averages, where you know a warm-up that is long enough: all "
     "states of one run count, and a step costs little. Its intervals take batches for independent, "
     "and nothing in its output shows a warm-up that was too short.",

@@ -21,6 +21,7 @@ import page
 import rivals
 import solve
 import solving
+from psi_tools.draw.program import companion_of
 from psi_tools.model.networks import Network
 
 HAS_SIMPY = subprocess.run([rivals.PYTHON, "-c", "import SimPy.Simulation"], capture_output=True).returncode == 0
@@ -202,12 +203,35 @@ def found(seconds):
 
 
 def test_the_page_names_where_a_method_takes_less_time():
-    others = {"chain": found(1), "simpy": found(40), "scipy": None, "octave": None}
+    others = {"paths": None, "chain": found(1), "simpy": found(40), "scipy": None, "octave": None}
     one = page.Comparison(CASES["open"], 48, found(2), others)
     said = page.where_right([one])
     assert "**plain chain**: less time than PSI on small. " in said
     assert "**SimPy**: more on small. " in said and "**octave-queueing**: not measured" in said
-    assert page.time_table([one]).splitlines()[-1] == "| small | 0.50 | 20.0 | - | - | 2.00 |"
+    assert page.time_table([one]).splitlines()[-1] == "| small | - | 0.50 | 20.0 | - | - | 2.00 |"
+
+
+def test_the_page_has_the_paths_beside_the_chain():
+    one = page.Walk(CASES["open"], found(20), found(3), found(2))
+    one.paths.step, one.chain.step = 4.0, 3.2
+    assert page.walk_table([one]).splitlines()[-1] == "|  | 20.0 | 3.00 | 2.00 | 1.50 | 4.00 | 3.20 | 1.25 |"
+    alone = page.Walk(CASES["open"], found(20), found(3), None)
+    assert page.walk_table([alone]).splitlines()[-1] == "|  | 20.0 | 3.00 | - | - | - | - | - |"
+
+
+def test_paths_have_the_mean(case, program, tmp_path):
+    paths = companion_of(program, "psi_paths")
+    if paths is None:
+        pytest.skip("psi_paths isn't built")
+    found = rivals.by_paths(paths, written(case, tmp_path)[0], case, 300_000)
+    assert abs(found.mean - exact(case)) < 3 * found.half / rivals.PATHS_QUANTILE * 1.5
+    assert found.half < 0.05 * exact(case) and found.step > 0
+
+
+def test_the_networks_of_paths_are_those_that_the_chain_has():
+    for case in networks.walked():
+        assert events.text_of(case.net, case.watched, case.total)
+        assert [reward["kind"] for reward in case.net.table["reward"]] == ["linear", "table"]
 
 
 def test_numbers_are_shown_in_two_or_three_figures():

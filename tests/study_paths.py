@@ -1,0 +1,148 @@
+"""/usr/bin/python3 -m tests.study_paths [PSI] [--repetitions N] [--count N] [--least N] [--only NAME]
+
+Counts how often the 95 % intervals of `psi-means --paths` hold what they are of, over repetitions with other
+streams, at several lengths of paths: on networks that are solved, open, closed and cut short by a limit, with
+rewards that are rare and rewards that rise steeply; on M/M/1/1000 at a load of 0.99; and on lines of 8 and of
+20 queues, which are too large to be solved, so that their means come from 20 times as many other streams. A
+repetition has --count paths, 20 where it isn't given, which is the least. PSI is the built program, beside
+which psi_paths is looked for; crates/psi/out/psi where it isn't given.
+
+For each length and row a line says how many of all repetitions held, and how wide the intervals are in the
+middle. The exit status is 1 where fewer than --least of 100 held, which is 93 where it isn't given.
+"""
+
+import argparse
+import os
+import pathlib
+import statistics
+import sys
+
+TOP = pathlib.Path(__file__).resolve().parent.parent
+READER = argparse.ArgumentParser()
+READER.add_argument("psi", nargs="?", default=str(TOP / "crates/psi/out/psi"))
+READER.add_argument("--repetitions", type=int, default=400)
+READER.add_argument("--count", type=int, default=20)
+READER.add_argument("--least", type=float, default=93)
+READER.add_argument("--only")
+WORDS = READER.parse_args()
+sys.path[:0] = [str(TOP / "python"), str(TOP / "python/tests")]
+sys.dont_write_bytecode = True
+
+import numpy
+from solving import law_of
+
+from oracle.plain_network import Network as Plain
+from psi_tools.draw.paths import paths_of
+from psi_tools.draw.program import Program
+from psi_tools.draw.reports import blocks_of
+from psi_tools.model.networks import Network
+from psi_tools.stats.paths import MOVED, paths_of_rows
+
+SEED, OTHER, LENGTHS, TIMES = 57, 58, (0, 30, 300, 3_000), 20
+
+
+def queue_of(arrival, service, capacity, limit=None, *rewards):
+    """The network of a queue, with rewards by the number of its customers."""
+    net = Network(limit=limit).queue("q", capacity)
+    net.event("come", "arrival", arrival, to=["q"]).event("serve", "service", service, source="q")
+    for name, table in rewards:
+        net.reward(name, "table", ["q"], table=[table])
+    return net
+
+
+def line_of(count, capacity, arrival, service):
+    """Queues in a row, where a customer who finds the next one full stays."""
+    net, names = Network(limit=20), [f"q{number}" for number in range(1, count + 1)]
+    for name in names:
+        net.queue(name, capacity)
+    net.event("come", "arrival", arrival, to=names[:1])
+    for name, following in zip(names, names[1:]):
+        net.event(f"serve-{name}", "service", service, source=name, to=[following], full="stay")
+    return net.event(f"serve-{names[-1]}", "service", service, source=names[-1])
+
+
+def example(name, **heads):
+    """A network of the gallery."""
+    net = Network.read(TOP / "examples" / f"{name}.toml").copy()
+    net.heads.update(heads)
+    return net
+
+
+def steep(capacity):
+    """Rewards that are rare, and one that rises steeply."""
+    rare = [0] * capacity + [1]
+    return ("rare", rare), ("rare-1000", [1_000 * x for x in rare]), ("fours", [4**x for x in range(capacity + 1)])
+
+
+# A name, the network, its customers where it is closed, the lengths, and whether it can be solved.
+CASES = [
+    ("tandem-blocking", example("tandem-blocking"), None, LENGTHS, True),
+    ("shortest-queue", example("shortest-queue"), None, LENGTHS, True),
+    ("fork-join", example("fork-join"), None, LENGTHS, True),
+    ("central-server", example("central-server"), 6, LENGTHS, True),
+    ("short-past", example("short-past", limit=6), None, LENGTHS, True),
+    ("load 0.5, steep", queue_of(30, 60, 10, None, *steep(10)), None, LENGTHS, True),
+    ("load 0.3, steep", queue_of(18, 60, 8, None, *steep(8)), None, LENGTHS, True),
+    ("M/M/1/1000, load 0.99", queue_of(99, 100, 1_000, 22), None, (0, 1_000, 10_000, 100_000), True),
+    ("8 queues of 20, load 0.9", line_of(8, 20, 9, 10), None, (0, 1_000, 10_000), False),
+    ("20 queues of 10, load 1", line_of(20, 10, 1, 1), None, (0, 1_000, 10_000), False),
+]
+
+
+def drawn(psi, net, total, seed, steps, count):
+    """The rows of the paths of some streams, none where one isn't coupled."""
+    return paths_of(psi, net, seed, blocks_of(0, count, max(1, count // 40)), steps, total)
+
+
+def solved(net, total):
+    """What each row is of, by its sort and its name."""
+    states, law = law_of(net, total)
+    plain, numbers = Plain({**net.heads, **net.table}), numpy.array(states)
+    found = {("queue", name): float(law @ numbers[:, place]) for place, name in enumerate(net.queues)}
+    for reward in plain.rewards:
+        found["reward", reward.name] = float(law @ [reward.value(state) for state in states])
+    for event in plain.events:
+        moves = float(law @ [event.after(state) != state for state in states])
+        found[MOVED, event.name] = found.get((MOVED, event.name), 0.0) + event.rate * moves
+        found["chosen", event.name] = found.get(("chosen", event.name), 0.0) + event.rate
+    return found
+
+
+def estimated(psi, net, total):
+    """As `solved`, from other streams of a network that is too large."""
+    steps = 20_000
+    paths = paths_of_rows(net, steps, drawn(psi, net, total, OTHER, steps, WORDS.count * TIMES))
+    return {(row.kind, row.name): paths.mean(row).mean for row in paths.rows}
+
+
+def tried(psi, name, net, total, lengths, is_solved):
+    """The lines of a network; whether enough of its intervals held."""
+    wanted, is_well = solved(net, total) if is_solved else estimated(psi, net, total), True
+    for steps in lengths:
+        rows = drawn(psi, net, total, SEED, steps, WORDS.repetitions * WORDS.count)
+        lost, held, widths = rows.count(None) / len(rows), {}, {}
+        for begin in range(0, len(rows), WORDS.count):
+            paths = paths_of_rows(net, steps, rows[begin : begin + WORDS.count])
+            for row in (row for row in paths.rows if row.times):
+                mean, key = paths.mean(row), (row.kind, row.name)
+                is_held = mean.low is not None and mean.low - 1e-9 <= wanted[key] <= mean.high + 1e-9
+                held[key] = held.get(key, 0) + (is_held or mean.mean is None)
+                widths.setdefault(key, []).append(mean.high - mean.low if mean.mean is not None else numpy.inf)
+        for key, count in held.items():
+            share, width = 100 * count / WORDS.repetitions, statistics.median(widths[key])
+            cut = f", {100 * lost:.0f} % uncoupled" if lost else ""
+            print(
+                f"{share:6.2f} of 100  width {width:10.4g}  {name}{cut}, {steps:,} steps: {' '.join(key)}", flush=True
+            )
+            is_well = is_well and share >= WORDS.least
+    return is_well
+
+
+def main():
+    psi = Program(os.path.abspath(WORDS.psi))
+    cases = [case for case in CASES if WORDS.only in (None, case[0])]
+    return 0 if all([tried(psi, *case) for case in cases]) else 1
+
+
+if __name__ == "__main__":
+    sys.exit(main())
