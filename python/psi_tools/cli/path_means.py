@@ -97,7 +97,8 @@ def guaranteed_answer(psi: Program, net: Network, args: argparse.Namespace, path
         of = {"network": digest_of(net.data), **streams, "total": args.total}
         more = {"pilot": pilot and {"first": begin, "count": pilots}}
         write(args.certificate, tables.as_json(file_of(rows, {**of, **more})).encode())
-    remarks = [*rows[0].ways(), misses(rows[0].d), ASSUMED]
+    ways = next((row.ways() for row in rows if row.ways()), [])
+    remarks = [*ways, misses(rows[0].d), ASSUMED]
     if args.format == "text":
         return guaranteed_text_of(paths, records, args.level, remarks), []
     return in_form(paths, records, args, [*notes_of(paths), *remarks])
