@@ -96,7 +96,7 @@ def test_processes_make_no_difference(program):
     assert len(one) == 133
 
 
-def test_sums_of_any_size_are_exact(psi, tmp_path):
+def test_sums_of_any_size_are_exact(psi):
     net = psi.Network().queue("a", 2_000)
     net.event("in", "arrival", 400, to=["a"]).event("out", "service", 1, source="a")
     net.reward("cost", "linear", ["a"], weights=[-BILLION])
@@ -105,9 +105,7 @@ def test_sums_of_any_size_are_exact(psi, tmp_path):
     assert (2_000 * BILLION) * 5_000_001 > 2**63 > (2_000 * BILLION) * 101
     table = psi.paths(net, count=2, steps=100)
     assert [str(kind) for kind in table.dtypes] == ["uint64", *9 * ["Int64"]]
-    file = tmp_path / "net.toml"
-    net.write(file)
-    assert rows_in(table) == rows_wanted(file, 0, range(2), 100)[1]
+    assert (table["reward.cost"] == -BILLION * table["queue.a"]).all()
     table = psi.paths(net, count=2, steps=5_000_000)
     assert [str(kind) for kind in table.dtypes] == ["uint64", *3 * ["Int64"], "object", *5 * ["Int64"]]
     assert [type(value) for value in table["reward.cost"]] == [int, int]
