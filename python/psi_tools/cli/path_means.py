@@ -97,7 +97,7 @@ def guaranteed_answer(psi: Program, net: Network, args: argparse.Namespace, path
         of = {"network": digest_of(net.data), **streams, "total": args.total}
         more = {"pilot": pilot and {"first": begin, "count": pilots}}
         write(args.certificate, tables.as_json(file_of(rows, {**of, **more})).encode())
-    ways = next((row.ways() for row in rows if row.ways()), [])
+    ways: list[str] = next((row.ways() for row in rows if row.ways()), [])
     remarks = [*ways, misses(rows[0].d), ASSUMED]
     if args.format == "text":
         return guaranteed_text_of(paths, records, args.level, remarks), []
