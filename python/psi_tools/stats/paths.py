@@ -33,8 +33,8 @@ from psi_tools.stats.intervals import (
 from psi_tools.stats.means import record
 from psi_tools.stats.spans import Spans
 
-# A mean of a table's values is carried by few visits where it is that of fewer than so many.
-FEW_OF_TABLE = 4 * FEW
+# Visits may be much larger than those that came where there are fewer than so many, of a table far more.
+FEW_VISITS, FEW_OF_TABLE = FEW + FEW // 2, 4 * FEW
 # The sorts of rows: means of states, and rates of events.
 QUEUE, REWARD, CHOSEN, MOVED = "queue", "reward", "chosen", "moved"
 ITEMS = {QUEUE: "mean", REWARD: "reward-mean", CHOSEN: "chosen-rate", MOVED: "moved-rate"}
@@ -52,7 +52,7 @@ class PathRow:
     span: Span
     times: int
     unit: int = 1
-    few: int = FEW
+    few: int = FEW_VISITS
 
 
 @dataclasses.dataclass(frozen=True)
@@ -153,7 +153,7 @@ def paths_of_rows(net: Network, steps: int, rows: list[str | None]) -> Paths:
         sums = [sum(values) for values in zip(*(columns[2 + place] for place in places))]
         if kind in (QUEUE, REWARD):
             span = spans.of_queue(name) if kind == QUEUE else spans.of_reward(name)
-            few = FEW_OF_TABLE if name in steep and kind == REWARD else FEW
+            few = FEW_OF_TABLE if name in steep and kind == REWARD else FEW_VISITS
             found.append(PathRow(kind, name, sums, span, steps + 1, few=few))
         else:
             found.append(PathRow(kind, name, sums, Span(0, 1, 0, 1, True), steps, modulus_of(net)))
