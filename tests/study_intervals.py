@@ -14,6 +14,8 @@ which is 92 where it isn't given.
 """
 
 import argparse
+import collections
+import itertools
 import os
 import pathlib
 import re
@@ -37,13 +39,14 @@ from solving import law_of
 from psi_tools.stats import law as laws
 from psi_tools.stats.batches import Batches, Row, batches_of
 from psi_tools.model.designs import aligned, designs_of
+from psi_tools.draw.law import Counters
 from psi_tools.draw.reports import blocks_of, reports_of
 from psi_tools.stats.intervals import difference_of_batches
+from psi_tools.stats.spans import Spans
 from psi_tools.model.networks import Network
 from psi_tools.draw.program import Program
 
 BATCHES, FEW_BATCHES = 40, 20
-HAS_SPANS = hasattr(Batches, "of_network")
 
 
 def queue_of(load, capacity, reward=None):
@@ -113,7 +116,7 @@ def batches_from(net, columns, lost=None):
         rows.append(Row(kind, name, sums, int(seen.min()), int(seen.max())))
     met = [int(x) for x in known.sum(axis=1)]
     found = Batches([known.shape[1]] * known.shape[0], met, [{}] * known.shape[0], rows)
-    return found.of_network(net) if HAS_SPANS else found
+    return found.of_network(net)
 
 
 def law_from(net, name, values, lost=None):
@@ -121,12 +124,7 @@ def law_from(net, name, values, lost=None):
     numbers, counts = numpy.unique(values if lost is None else values[~lost], return_counts=True)
     unknown = 0 if lost is None else int(lost.sum())
     pairs = [(int(number), int(count)) for number, count in zip(numbers, counts)]
-    if not HAS_SPANS:
-        return laws.Law(name, "value", pairs, unknown)
-    from psi_tools.stats.spans import Spans
-
-    spans = Spans(net, {})
-    return laws.Law(name, "value", pairs, unknown, spans_of_name(spans, name))
+    return laws.Law(name, "value", pairs, unknown, spans_of_name(Spans(net, {}), name))
 
 
 def spans_of_name(spans, name):
@@ -148,11 +146,8 @@ def single(draw, name, load, capacity, reward):
         tallies[0].take(batches.mean(batches.rows[-1]))
         row = "r" if reward else "q"
         found = law_from(net, row, values)
-        if HAS_SPANS:
-            from psi_tools.stats.spans import Spans
-
-            spans = Spans(net, {"q": (int(numbers.min()), int(numbers.max()))})
-            found.span = spans_of_name(spans, row)
+        spans = Spans(net, {"q": (int(numbers.min()), int(numbers.max()))})
+        found.span = spans_of_name(spans, row)
         tallies[1].take(found.mean())
     return tallies
 
@@ -174,11 +169,8 @@ def difference(draw, name, plus, minus, both):
 def difference_of(one, other):
     """The difference of the last rows of two designs, as psi-sweep tells it."""
     rows = one.rows[-1], other.rows[-1]
-    words = rows[0].sums, rows[1].sums, one.met, other.met, 0.95
-    if HAS_SPANS:
-        more = (one.span(rows[0]), other.span(rows[1])), (one.lost, other.lost)
-        return difference_of_batches(*words, *more)
-    return difference_of_batches(*words)
+    spans = one.span(rows[0]), other.span(rows[1])
+    return difference_of_batches(rows[0].sums, rows[1].sums, one.met, other.met, 0.95, spans, (one.lost, other.lost))
 
 
 def uncoupled(draw):
@@ -245,46 +237,69 @@ def with_rewards(load, capacity):
 
 def by_psi(path):
     """The tallies of cases that the built program draws."""
-    psi, net = Program(path), with_rewards(0.25, 5)
-    tallies = [
-        Tally(f"psi, {name}: batches", wanted) for name, wanted in zip(["a single row", *net.rewards], solved(net))
-    ]
-    for batches in grouped(reports_from(psi, net)):
-        batches = batches.of_network(net) if HAS_SPANS else batches
-        for tally, row in zip(tallies, batches.rows):
-            tally.take(batches.mean(row))
-    yield from tallies
+    psi, net = Program(path), with_rewards(16 / 60, 5)
+    yield from each_row(psi, net, ["a single row", *net.rewards])
     yield swept(psi)
-    yield cut_short(psi)
+    yield from cut_short(psi)
+
+
+def each_row(psi, net, titles):
+    """The tallies of all rows of a network of one queue, by batches and by values."""
+    names = ["q", *net.rewards]
+    tallies = [
+        [Tally(f"psi, {title}: {way}", wanted) for way in ("batches", "values")]
+        for title, wanted in zip(titles, solved(net))
+    ]
+    for batches, law in zip(grouped(reports_from(psi, net)), laws_from(psi, net)):
+        batches = batches.of_network(net)
+        for name, row, (by_batches, by_values) in zip(names, batches.rows, tallies):
+            by_batches.take(batches.mean(row))
+            by_values.take(law_of_row(net, name, *law).mean())
+    return itertools.chain.from_iterable(tallies)
+
+
+def laws_from(psi, net):
+    """How many samples of each repetition have each number of customers, and how many aren't coupled."""
+    counters = Counters(net, "q", WORDS.count // 5 // FEW_BATCHES)
+    assert counters.has_tables and counters.width >= len(counters.whole)
+    for batches in grouped(reports_from(psi, counters.network(counters.whole))):
+        rows = batches.rows[len(net.queues) :]
+        yield counters.counts(counters.whole, rows, sum(batches.met)), batches.uncoupled
+
+
+def law_of_row(net, name, numbers, unknown):
+    """The law that psi-law has of a row, by how many samples hold each number of customers."""
+    tables = {reward["name"]: reward["table"][0] for reward in net.table["reward"]}
+    counts = collections.Counter()
+    for number, count in numbers.items():
+        counts[tables[name][number] if name in tables else number] += count
+    seen = [number for number, count in numbers.items() if count]
+    spans = Spans(net, {"q": (min(seen), max(seen))})
+    pairs = [(value, count) for value, count in sorted(counts.items()) if count]
+    return laws.Law(name, "value", pairs, unknown, spans_of_name(spans, name))
 
 
 def swept(psi):
     """The tally of a difference of two designs, of whether a queue is full, which is rare."""
-    net = queue_of(0.25, 4, rare(4, 1))
-    _, designs, _, _ = designs_of(["come.rate=15,13"], net)
+    net = queue_of(0.2, 4, rare(4, 1))
+    _, designs, _, _ = designs_of(["come.rate=12,10"], net)
     wanted = solved(designs[0].net)[1] - solved(designs[1].net)[1]
     designs, why = aligned(designs)
     assert why is None
     tally = Tally("psi, difference of rare rows: batches", wanted)
     both = [grouped(reports_from(psi, design.net)) for design in designs]
     for pair in zip(*both):
-        if HAS_SPANS:
-            pair = [own.of_network(design.net) for own, design in zip(pair, designs)]
-        tally.take(difference_of(*pair))
+        tally.take(difference_of(*(own.of_network(design.net) for own, design in zip(pair, designs))))
     return tally
 
 
 def cut_short(psi):
-    """The tally where a limit leaves some of the streams uncoupled."""
-    net = queue_of(0.75, 10)
+    """The tallies where a limit leaves some of the streams uncoupled."""
+    net = queue_of(43 / 60, 10)
     net.heads["limit"] = 6
     reports = reports_from(psi, net)
     lost = 1 - sum(report.met for report in reports) / sum(report.samples for report in reports)
-    tally = Tally(f"psi, {100 * lost:.0f} % uncoupled: batches", solved(net)[0])
-    for batches in grouped(reports):
-        batches = batches.of_network(net) if HAS_SPANS else batches
-        tally.take(batches.mean(batches.rows[0]))
-    return tally
+    return each_row(psi, net, [f"{100 * lost:.0f} % uncoupled"])
 
 
 def main():

@@ -7,7 +7,17 @@ from collections.abc import Iterator
 
 import pytest
 
-from gate import crates, definition_kinds, edges, graph, house_words, lemma_files, make_statement, versions
+from gate import (
+    crates,
+    definition_kinds,
+    edges,
+    graph,
+    house_words,
+    lemma_files,
+    make_statement,
+    memory_calls,
+    versions,
+)
 from tests.support import TOP
 
 # What shares nothing with the program and the tools, by the rule that it imports nothing of ours.
@@ -19,15 +29,16 @@ APART = [
 OURS = {"bench", "gate", "generate", "psi", "psi_tools", "release", "tests", "tools"}
 
 
-PARTS = crates, edges, graph, lemma_files, make_statement, definition_kinds, house_words, versions
+PARTS = crates, edges, graph, lemma_files, make_statement, definition_kinds, house_words, memory_calls, versions
 
 
 @pytest.mark.parametrize("part", PARTS, ids=[part.__name__ for part in PARTS])
 def test_part(part: types.ModuleType) -> None:
     """Each crate says what it is for, stands on what it names alone, and has its lemmas in files of
     lemmas; the page of the whole statement is what the definitions say, and these are marked as such
-    where they are told in words; the pages that a newcomer reads first are in this project's English;
-    all places that have the version have the same."""
+    where they are told in words; the pages that a newcomer reads first are in this project's English; each
+    public call that may not allocate is made by psi_test_memory, or listed with what leads to it; all
+    places that have the version have the same."""
     assert [*part.faults()] == []
 
 

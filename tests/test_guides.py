@@ -163,11 +163,14 @@ def test_what_is_not_coupled(clone: Clone) -> None:
 
 
 def test_the_network_of_psi_new(clone: Clone) -> None:
-    """START's call of psi-new writes the network that the page shows, with rates of its proportion."""
+    """START's call of psi-new writes the network that the page shows, with rates of its proportion; its reward
+    tells whether the first queue is full."""
     text = text_of("docs/START.md")
     call = re.search(r"`(tools/psi-new line [^`]*)`", " ".join(text.split()))
     shown = next(block[2] for block in BLOCK.finditer(text) if block[1] == "toml")
     assert call and shape_of(clone.execute(call[1])[1]) == shape_of(shown)
+    net = tomllib.loads(shown)
+    assert net["reward"][0]["level"] == net["queue"][0]["capacity"] - 1
 
 
 def shape_of(text: str) -> tuple[list[tuple[int, int]], list[float]]:

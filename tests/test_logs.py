@@ -54,7 +54,7 @@ def test_changed_logs(program: str, hold: Held) -> None:
         changed = [*changed_logs([log for log in found if log])]
         answers = [*pool.map(lambda log: both_answers(program, *log[1:]), changed)]
     absent = {*CAUSES.strip().split("\n")}
-    for (name, net, text), (found, wanted) in zip(changed, answers):
-        absent.discard(cause_of(found))
-        hold(found == wanted, f"{name}: psi says {found}, the checker {wanted}\n{net}\n{text}")
+    for (name, net, text), (ended, wanted) in zip(changed, answers):
+        absent.discard(cause_of(ended))
+        hold(ended == wanted, f"{name}: psi says {ended}, the checker {wanted}\n{net}\n{text}")
     hold(not absent, f"no log is {absent}")

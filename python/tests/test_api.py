@@ -47,6 +47,8 @@ def test_the_examples_run(program, environment, monkeypatch, name):
     if name == "paths" and companion_of(program, "psi_paths") is None:
         pytest.skip("psi_paths isn't built")
     monkeypatch.setenv("PATH", environment["PATH"])
+    if name == "states" and not module.Program().has_states():
+        pytest.skip("psi_states isn't beside psi")
     runner = doctest.DocTestRunner(optionflags=doctest.REPORT_NDIFF)
     tests = doctest.DocTestFinder().find(getattr(module, name), name)
     assert sum(len(test.examples) for test in tests) > 0

@@ -13,20 +13,20 @@ from psi_tools.cli.options import Parser, number
 from psi_tools.draw.program import Program
 from psi_tools.draw.reports import as_printed, read_folder
 from psi_tools.errors import InputError, PsiError, reason, require
-from psi_tools.io.exact import Shrinking, read_exact
 from psi_tools.io.output import check_writable, write
 from psi_tools.model.networks import checked
-from psi_tools.plot.network_scene import NetworkPicture
-from psi_tools.plot.past import Past
-from psi_tools.plot.path import StationaryPath
-from psi_tools.plot.read_log import Coupling, names_of, read_log
 from psi_tools.plot.read_report import Report, Spread, read_report
 from psi_tools.stats.batches import interval_or_none
 from psi_tools.stats.intervals import LEAST_BATCHES
 
+# Each kind of picture imports its own modules.
 if TYPE_CHECKING:
-    # It imports numpy, which only a picture of forward runs needs.
+    from psi_tools.io.exact import Shrinking
     from psi_tools.plot.forward import Forward
+    from psi_tools.plot.network_scene import NetworkPicture
+    from psi_tools.plot.past import Past
+    from psi_tools.plot.path import StationaryPath
+    from psi_tools.plot.read_log import Coupling
 
 Value = TypeVar("Value")
 
@@ -125,8 +125,10 @@ def read(reader_of: Callable[[bytes], Value], path: str) -> Value:
         raise InputError(f"{path}: {why}") from None
 
 
-def coupling(args: argparse.Namespace, path: str, *net: str) -> Coupling:
+def coupling(args: argparse.Namespace, path: str, *net: str) -> "Coupling":
     """The log, named by the network file if there is one."""
+    from psi_tools.plot.read_log import names_of, read_log
+
     require(len(net) <= 1, "coupling is told one LOG, and one NET at most")
     log = read(read_log, path)
     for file in net:
@@ -161,8 +163,10 @@ def report_of(path: str) -> Report:
     return Report(sum(batches.samples), batches.uncoupled, horizons, *spreads.values())
 
 
-def exact(args: argparse.Namespace, path: str, *others: str) -> Shrinking:
+def exact(args: argparse.Namespace, path: str, *others: str) -> "Shrinking":
     """The text of exact."""
+    from psi_tools.io.exact import read_exact
+
     require(not others, "exact is told more than one file")
     return read(read_exact, path)
 
@@ -179,8 +183,10 @@ def forward(args: argparse.Namespace, path: str, *steps: str) -> "Forward":
         raise InputError(f"{path}: {error}") from None
 
 
-def network(args: argparse.Namespace, path: str, *others: str) -> NetworkPicture:
+def network(args: argparse.Namespace, path: str, *others: str) -> "NetworkPicture":
     """The network of a file that psi accepts, and what is to stand below its picture."""
+    from psi_tools.plot.network_scene import NetworkPicture
+
     require(not others, "network is given more than one file")
     try:
         net = checked(Program(args.psi), path)
@@ -200,7 +206,7 @@ def streams_of(what: str, streams: tuple[str, ...]) -> tuple[int, int]:
     return seed, stream
 
 
-def past(args: argparse.Namespace, path: str, *streams: str) -> tuple[Past, int | None]:
+def past(args: argparse.Namespace, path: str, *streams: str) -> "tuple[Past, int | None]":
     """The runs of a sample, and the queue that is drawn: none for all customers of several."""
     from psi_tools.plot.past import past_of
 
@@ -212,7 +218,7 @@ def past(args: argparse.Namespace, path: str, *streams: str) -> tuple[Past, int 
     return found, 0 if len(found.queues) == 1 else None
 
 
-def path(args: argparse.Namespace, path: str, *streams: str) -> tuple[StationaryPath, list[int]]:
+def path(args: argparse.Namespace, path: str, *streams: str) -> "tuple[StationaryPath, list[int]]":
     """A path, and the queues that are drawn."""
     from psi_tools.plot.path import path_of
 

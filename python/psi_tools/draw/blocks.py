@@ -62,11 +62,12 @@ def digest_in(file: pathlib.Path) -> str | None:
     return found[2] if found else None
 
 
-def write_whole(path: pathlib.Path, text: bytes) -> None:
-    """Writes a file under another name first, so that under its own it is never cut short."""
+def write_whole(path: pathlib.Path, text: bytes, is_synced: bool = True) -> None:
+    """Writes a file under another name first, so that under its own it is never cut short; after a loss of
+    power only where it is synced, which takes a while."""
     front = f"part.{os.uname().nodename}.{os.getpid()}."
     try:
-        files.replace(str(path), [text], front, f".{path.name}")
+        files.replace(str(path), [text], front, f".{path.name}", is_synced)
     except OSError as fault:
         # Folder.tidy removes what a kill leaves of it.
         raise PsiError(f"{path} can't be written: {reason(fault)}", UNWRITTEN) from None
@@ -231,8 +232,8 @@ class Folder:
     def write_bound(self, bound: dict[str, Any]) -> None:
         """Writes what the folder is bound to, and a copy for the case that the file is damaged."""
         lines = sealed("".join(f"{key} {value}\n" for key, value in bound.items()))
-        for name in ("bound", "bound.copy"):
-            write_whole(self.path / name, lines.encode())
+        write_whole(self.path / "bound", lines.encode())
+        write_whole(self.path / "bound.copy", lines.encode(), is_synced=False)
 
     def read_bound(self) -> None:
         """Reads what the folder is bound to; where the file is damaged, the copy has it."""

@@ -69,4 +69,5 @@ class Kept:
             raise PsiError(f"{fault.filename or self.path} can't be written: {reason(fault)}", 7) from None
         lines = "".join(f"{key} {bound[key]}\n" for key in (*self.wanted, "block"))
         if not (self.path / MARK).exists() or read_sealed(self.path / MARK) is None:
-            write_whole(self.path / MARK, sealed(lines).encode())
+            # Where it is lost, the folders of the designs say the same.
+            write_whole(self.path / MARK, sealed(lines).encode(), is_synced=False)

@@ -82,9 +82,9 @@ def open_new(folder: str, front: str, ending: str = "") -> tuple[int, str]:
     raise FileExistsError(errno.EEXIST, os.strerror(errno.EEXIST), path)
 
 
-def replace(target: str, pieces: Iterable[bytes], front: str, ending: str = "") -> None:
-    """Writes a plain file piece by piece under a temporary name, flushes it, and gives it its own name. Where that
-    fails the temporary file is removed, and the old one is as it was."""
+def replace(target: str, pieces: Iterable[bytes], front: str, ending: str = "", is_synced: bool = True) -> None:
+    """Writes a plain file piece by piece under a temporary name, flushes it, to the disk where it is synced, and
+    gives it its own name. Where that fails the temporary file is removed, and the old one is as it was."""
     mode = mode_of(target)
     number, part = open_new(os.path.dirname(target) or ".", front, ending)
     try:
@@ -92,7 +92,8 @@ def replace(target: str, pieces: Iterable[bytes], front: str, ending: str = "") 
             os.fchmod(file.fileno(), mode)
             file.writelines(pieces)
             file.flush()
-            os.fsync(file.fileno())
+            if is_synced:
+                os.fsync(file.fileno())
         os.replace(part, target)
     except BaseException:
         with contextlib.suppress(OSError):

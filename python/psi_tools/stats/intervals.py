@@ -26,8 +26,10 @@ from typing import Any
 # So many batches are asked for at least, and what an interval holds of all repetitions.
 LEAST_BATCHES, LEVEL = 20, 0.95
 # Steps of a bisection and of a false position, and of the rule by which the exponential part is
-# integrated, and how near a probability has to be met.
-HALVINGS, STEPS, NODES, NEAR = 60, 40, 64, 2e-6
+# integrated, and how near a probability, and a quantile, have to be met.
+HALVINGS, STEPS, NODES, NEAR, NEAREST = 60, 40, 64, 2e-6, 1e-9
+# A quantile of the standard normal distribution that no level reaches.
+FARTHEST = 10.0
 # A mean is carried by few samples where its sum is that of fewer than so many of equal size.
 FEW = 30
 # Both halves of an interval are equal for a reader where they differ by less than this share.
@@ -159,6 +161,16 @@ def crossing(rise: Callable[[float], float], low: float, high: float) -> float:
     return middle
 
 
+@functools.cache
+def exponential_nodes() -> tuple[Any, Any]:
+    """Values of an exponential variable of mean 1, and the weights by which its distribution is integrated."""
+    import numpy
+
+    # The substitution u = v^2 has most nodes where the exponential variable, -log u, is large.
+    places = (numpy.arange(NODES) + 0.5) / NODES
+    return -2 * numpy.log(places), 2 * places / NODES
+
+
 def student_and_unseen(degrees: int, ratio: float, level: float = LEVEL) -> float:
     """The quantile of Student's t plus `ratio` times an exponential variable of mean 1: how far an
     end is from the mean, in standard errors, where the value that did not come would add `ratio`
@@ -168,12 +180,8 @@ def student_and_unseen(degrees: int, ratio: float, level: float = LEVEL) -> floa
     middle = float(special().stdtrit(degrees, share))
     if ratio <= 0:
         return middle
-    import numpy
-
-    # The substitution u = v^2 has most nodes where the exponential variable, -log u, is large.
-    places = (numpy.arange(NODES) + 0.5) / NODES
-    parts, weights = -2 * ratio * numpy.log(places), 2 * places / NODES
-    stdtr = special().stdtr
+    logs, weights = exponential_nodes()
+    parts, stdtr = ratio * logs, special().stdtr
 
     def rise(x: float) -> float:
         return float(weights @ stdtr(degrees, x - parts)) - share
@@ -379,13 +387,29 @@ def upper_end(counts: Sequence[tuple[float, int]], far: float, tail: float) -> f
     if scale == 0:
         return float(centre)
     values = values / scale
-    x = bisected(lambda x: chance_below(values, shapes, x)[1] < 1 - tail, 0.0, 1 / values.max())
-    return float(centre + scale * chance_below(values, shapes, x)[0])
+    return float(centre + scale * quantile_of_mean(values, shapes, float(special().ndtri(1 - tail))))
 
 
-def chance_below(values: Any, shapes: Any, x: float) -> tuple[float, float]:
-    """For values whose weighted mean is 0: the t that belongs to the parameter x, and the
-    probability that the randomly weighted mean is at most t."""
+def quantile_of_mean(values: Any, shapes: Any, wanted: float) -> float:
+    """For values whose weighted mean is 0: the quantile of the randomly weighted mean that is this many standard
+    deviations of the normal distribution up, by secants from the normal approximation on."""
+    low, high = 0.0, 1 / float(values.max())
+    x = min(wanted / math.sqrt((shapes * values**2).sum()), high / 2)
+    before, missed, t = 0.0, -wanted, 0.0
+    for _ in range(HALVINGS):
+        t, found = deviate(values, shapes, x)
+        miss = found - wanted
+        if abs(miss) < NEAREST:
+            break
+        low, high = (low, x) if miss > 0 else (x, high)
+        after = x - miss * (x - before) / (miss - missed) if miss != missed else low
+        before, missed, x = x, miss, after if low < after < high else (low + high) / 2
+    return t
+
+
+def deviate(values: Any, shapes: Any, x: float) -> tuple[float, float]:
+    """For values whose weighted mean is 0: the t that belongs to the parameter x, and the quantile of the standard
+    normal distribution at the probability that the randomly weighted mean is at most t."""
     import numpy
 
     weights = shapes / (1 - x * values)
@@ -393,12 +417,12 @@ def chance_below(values: Any, shapes: Any, x: float) -> tuple[float, float]:
     s = x / (1 - x * t)
     rest = 1 - s * (values - t)
     if rest.min() <= 0 or s <= 0:
-        return t, 1.0 if s > 0 else 0.5
+        return t, FARTHEST if s > 0 else 0.0
     root = math.sqrt(max(0.0, 2 * (shapes * numpy.log(rest)).sum()))
     other = s * math.sqrt((shapes * ((values - t) / rest) ** 2).sum())
     if root < 1e-6 or other <= 0:
-        return t, 0.5
-    return t, float(special().ndtr(root + math.log(other / root) / root))
+        return t, 0.0
+    return t, min(FARTHEST, root + math.log(other / root) / root)
 
 
 def carriers(mean: float, error: float | None, many: int, base: float) -> float:
