@@ -39,7 +39,6 @@ from solving import law_of
 from psi_tools.stats import law as laws
 from psi_tools.stats.batches import Batches, Row, batches_of
 from psi_tools.model.designs import aligned, designs_of
-from psi_tools.draw.law import Counters
 from psi_tools.draw.reports import blocks_of, reports_of
 from psi_tools.stats.intervals import difference_of_batches
 from psi_tools.stats.spans import Spans
@@ -260,11 +259,12 @@ def each_row(psi, net, titles):
 
 def laws_from(psi, net):
     """How many samples of each repetition have each number of customers, and how many aren't coupled."""
-    counters = Counters(net, "q", WORDS.count // 5 // FEW_BATCHES)
-    assert counters.has_tables and counters.width >= len(counters.whole)
-    for batches in grouped(reports_from(psi, counters.network(counters.whole))):
-        rows = batches.rows[len(net.queues) :]
-        yield counters.counts(counters.whole, rows, sum(batches.met)), batches.uncoupled
+    size = WORDS.count // 5 // FEW_BATCHES * FEW_BATCHES
+    for repetition in range(WORDS.repetitions):
+        _, *lines = psi.states(net.data, 51, repetition * size, size).splitlines()
+        numbers = collections.Counter(line.split(",")[2] for line in lines)
+        unknown = numbers.pop("", 0)
+        yield {int(number): count for number, count in numbers.items()}, unknown
 
 
 def law_of_row(net, name, numbers, unknown):
