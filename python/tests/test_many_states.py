@@ -32,7 +32,7 @@ def table(states, *words):
 
 
 def lines_of(error):
-    """What is told beside how far it is."""
+    """What is printed beside the progress."""
     return [line for line in error.splitlines() if "so far" not in line]
 
 

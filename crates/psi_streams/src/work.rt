@@ -28,7 +28,7 @@ use psi_reply::{Ending, closed_plan, has_room, moves_of, plan_for};
 use psi_run::network_at;
 use std::alloc::Global;
 
-// The table of a network's samples or of their paths, written, or what is told in its place.
+// Writes the table of a network's samples or of their paths, or reports why there is none.
 fn write_open<O: Sink, E: Sink>(
     alloc: Global,
     net: &Net,
@@ -57,7 +57,7 @@ fn write_open<O: Sink, E: Sink>(
     table_status(written)
 }
 
-// The same of a closed network of these moves, written, or what is told in its place.
+// As `write_open`, for a closed network of these moves.
 fn write_moves<O: Sink, E: Sink>(
     alloc: Global,
     net: &Net,
@@ -91,7 +91,7 @@ fn write_moves<O: Sink, E: Sink>(
     table_status(written)
 }
 
-// The same of a closed network, written, or what is told in its place.
+// As `write_open`, for a closed network, whose events have to be moves.
 fn write_closed<O: Sink, E: Sink>(
     alloc: Global,
     net: &Net,
@@ -120,7 +120,7 @@ fn write_closed<O: Sink, E: Sink>(
     write_moves(alloc, net, moves.as_slice(), task, total, out, err)
 }
 
-// The same of a network, closed or not, written, or what is told in its place.
+// As `write_open` or `write_closed`, as the arguments ask.
 fn write_states<O: Sink, E: Sink>(
     alloc: Global,
     net: &Net,

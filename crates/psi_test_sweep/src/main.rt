@@ -58,7 +58,7 @@ fn try_table(rt: &(impl Files + Print + Alloc<A = Global>), name: &str) -> anyho
     compare_all(rt, name, &table, &net)
 }
 
-// Compares a table with its network, prints what comes of it, and returns whether all agrees.
+// Compares a table with its network, prints what differs and how much agrees, and returns whether all agrees.
 fn agrees(rt: &(impl Files + Print + Alloc<A = Global>), name: &str) -> anyhow::Result<bool> {
     match try_table(rt, name) {
         Ok(counts) => {
