@@ -6,7 +6,7 @@ index events without a source whose rows are 0, 1, 2, .., which join the shortes
 
 import dataclasses
 
-from psi_tools.model.networks import Network
+from psi_tools.model.networks import Network, Table
 
 
 @dataclasses.dataclass(frozen=True)
@@ -31,13 +31,13 @@ class Event:
         return self.takes + self.targets
 
 
-def is_shortest(table: dict) -> bool:
+def is_shortest(table: Table) -> bool:
     """Whether an entry is an index event that joins the shortest queue."""
     rows = table.get("table", [])
     return table["kind"] == "index" and all(row == list(range(len(row))) for row in rows)
 
 
-def expanded(net: Network, table: dict) -> list[Event]:
+def expanded(net: Network, table: Table) -> list[Event]:
     """The events of one entry of a network: one for each server of its source."""
     place = {name: number for number, name in enumerate(net.queues)}
     source, to = table.get("from", []), table.get("to", [])

@@ -10,6 +10,7 @@ after WARM units from the first state, and how many times a process acted.
 import argparse
 import random
 import sys
+from collections.abc import Iterator
 
 import on_path  # noqa: F401
 from events import Event, events_of, first_state
@@ -21,7 +22,7 @@ from SimPy.Simulation import Process, Simulation, hold, passivate
 class Model(Simulation):
     """The network while it is simulated: its state, and the length of a queue over time."""
 
-    def __init__(self, net: Network, total: int | None, watched: int, seed: int):
+    def __init__(self, net: Network, total: int | None, watched: int, seed: int) -> None:
         super().__init__()
         self.initialize()
         self.state, self.capacities = first_state(net, total), net.capacities
@@ -61,7 +62,7 @@ class Model(Simulation):
 class Warm(Process):
     """The end of the warm-up: what was added up until then is dropped."""
 
-    def run(self, time: float):
+    def run(self, time: float) -> Iterator[tuple[object, ...]]:
         """Waits for the end of the warm-up."""
         yield hold, self, time
         self.sim.since, self.sim.area = self.sim.now(), 0.0
@@ -70,7 +71,7 @@ class Warm(Process):
 class Actor(Process):
     """The process of an event."""
 
-    def __init__(self, model: Model, event: Event):
+    def __init__(self, model: Model, event: Event) -> None:
         super().__init__(sim=model)
         self.model, self.event = model, event
 
@@ -102,7 +103,7 @@ class Actor(Process):
         for queue in targets:
             self.model.change(queue, 1)
 
-    def run(self):
+    def run(self) -> Iterator[tuple[object, ...]]:
         """Acts again and again, as long as the simulation lasts."""
         while True:
             if not self.is_able():

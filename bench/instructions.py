@@ -95,9 +95,9 @@ def compare(counts: dict[str, int], level: str, bounds: Bounds) -> int:
     """Prints each run with its verdict; returns how many are above their bounds or have none."""
     faults = 0
     for name, count in counts.items():
-        said = verdict(count, bounds.get((level, name)))
-        faults += said.startswith(("above", "no"))
-        print(f"{level} {name} {count}" + (f": {said}" if said else ""))
+        found = verdict(count, bounds.get((level, name)))
+        faults += found.startswith(("above", "no"))
+        print(f"{level} {name} {count}" + (f": {found}" if found else ""))
     print(f"{len(counts) - faults} runs within their bounds, {faults} above")
     return faults
 
@@ -117,7 +117,8 @@ def main() -> int:
         print(f"there is no bound of {kit or 'a kit that is not here'} for {level}: nothing is compared")
         return 0
     with tempfile.TemporaryDirectory() as folder:
-        counts = measure.all_instructions(calls_of(program, pathlib.Path(folder)))
+        counted = measure.all_instructions(calls_of(program, pathlib.Path(folder)))
+    counts = {name: count for name, count in counted.items() if count is not None}
     if given.write:
         write_bounds(bounds | {(kit, level, name): count for name, count in counts.items()})
         return 0

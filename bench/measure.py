@@ -8,13 +8,18 @@ import re
 import shutil
 import subprocess
 import time
+from typing import TypeVar
 
+# What a run is named by.
+Name = TypeVar("Name")
 COLLECTED, PEAK = re.compile(r"Collected : (\d+)"), re.compile(r"VmHWM:\s+(\d+) kB")
 HORIZON = re.compile(r"^horizon,(\d+),(\d+)$", re.M)
 ITEM = re.compile(r"^([\w-]+),([\w-]+),(\d+)$", re.M)
 # Instructions that a program for x86-64-v3 has in number, and one for x86-64 nowhere.
 THIRD_LEVEL = re.compile(r"\b(?:shlx|shrx|sarx|rorx|mulx)\b")
 JOBS = len(os.sched_getaffinity(0))
+# How many runs show how much memory one takes.
+RUNS = 5
 
 
 @dataclasses.dataclass
@@ -29,6 +34,7 @@ def run(words: list[str]) -> Run:
     """Runs a program, which has to end with 0 and to print little to standard error."""
     pipe = subprocess.PIPE
     with subprocess.Popen(words, stdin=subprocess.DEVNULL, stdout=pipe, stderr=pipe, text=True) as one:
+        assert one.stdout is not None and one.stderr is not None
         out, line = one.stdout.read(), one.stderr.read()
         _, end, used = os.wait4(one.pid, 0)
         one.returncode = os.waitstatus_to_exitcode(end)
@@ -37,11 +43,11 @@ def run(words: list[str]) -> Run:
     return Run(out, used.ru_utime + used.ru_stime)
 
 
-def least_seconds(calls: dict[str, list[list[str]]], rounds: int) -> dict[str, float]:
-    """The least processor time of each list of calls, over rounds that run all lists in turn. What
-    else the machine does slows all down, but not in all rounds alike."""
-    found = dict.fromkeys(calls, float("inf"))
-    for _ in range(rounds):
+def least_seconds(calls: dict[str, list[list[str]]], known: dict[str, float]) -> dict[str, float]:
+    """The least processor time of each list of calls, of those that are known and of two more runs of
+    all lists in turn. What else the machine does slows all down, but not each time alike."""
+    found = dict.fromkeys(calls, float("inf")) | known
+    for _ in range(2):
         for name, lists in calls.items():
             found[name] = min(found[name], sum(run(words).seconds for words in lists))
     return found
@@ -60,21 +66,23 @@ def instructions(words: list[str]) -> int | None:
     return int(found[1])
 
 
-def all_instructions(calls: dict[str, list[str]]) -> dict[str, int | None]:
+def all_instructions(calls: dict[Name, list[str]]) -> dict[Name, int | None]:
     """The instructions of some runs, counted side by side: what else runs does not change them."""
     with concurrent.futures.ThreadPoolExecutor(JOBS) as pool:
         return dict(zip(calls, pool.map(instructions, calls.values())))
 
 
 def peak_bytes(words: list[str]) -> int:
-    """The most memory that a run has resident, as Linux reports it while the run lasts."""
+    """The most memory that a run has resident, as Linux reports it while the run lasts. A short run
+    may be over before it is seen, so that there are several."""
     nowhere = subprocess.DEVNULL
     peak = 0
-    with subprocess.Popen(words, stdin=nowhere, stdout=nowhere) as one:
-        while one.poll() is None:
-            found = PEAK.search(pathlib.Path(f"/proc/{one.pid}/status").read_text())
-            peak = max(peak, int(found[1]) << 10 if found else 0)
-            time.sleep(0.0002)
+    for _ in range(RUNS):
+        with subprocess.Popen(words, stdin=nowhere, stdout=nowhere) as one:
+            while one.poll() is None:
+                found = PEAK.search(pathlib.Path(f"/proc/{one.pid}/status").read_text())
+                peak = max(peak, int(found[1]) << 10 if found else 0)
+                time.sleep(0.0002)
     return peak
 
 

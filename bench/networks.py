@@ -6,7 +6,7 @@ give its length and the square of that, so a report has what a confidence interv
 
 import dataclasses
 
-import on_path  # noqa: F401
+import on_path
 from psi_tools.model.networks import Network
 
 WATCHED, SQUARED = "watched", "watched-squared"
@@ -148,7 +148,7 @@ def cases() -> list[Case]:
             "3 queues of 12 places, customers leave where the next is full",
             watching(line(3, 12, 1, 5, 6, "lost"), "q3"),
             "q3",
-            10_000,
+            20_000,
             500,
         ),
         Case(
@@ -180,21 +180,26 @@ def cases() -> list[Case]:
             "32 queues of 20 places, join the shortest, load 0.9",
             watching(shortest(32, 20, 9 * 32, 10), "q1"),
             "q1",
-            100,
+            200,
             4,
         ),
         Case(
-            "forks", "6 queues of 3 places, fork and join, 4,096 states followed", watching(forks(), "e"), "e", 500, 20
+            "forks",
+            "6 queues of 3 places, fork and join, 4,096 states followed",
+            watching(forks(), "e"),
+            "e",
+            5_000,
+            20,
         ),
         Case(
             "assembly",
             "8 queues of 40 places, fork and two joins, split late",
             watching(assembly(), "q4"),
             "q4",
-            500,
+            2_000,
             30,
         ),
-        Case("central-server", "closed, 3 queues, 6 customers", central_server(6), "cpu", 100, 8, 6, True),
+        Case("central-server", "closed, 3 queues, 6 customers", central_server(6), "cpu", 200, 8, 6, True),
         Case("ring", "closed, 20 queues of 10 places, 40 customers, blocking", ring(20, 10), "q0", 4, 1, 40),
     ]
 
@@ -204,7 +209,7 @@ def walked() -> list[Case]:
     can't be solved, and a queue that forgets slowly."""
 
     def example(name: str, about: str, queue: str, samples: int) -> Case:
-        net = Network.read(on_path.TOP / "examples" / f"{name}.toml").copy()
+        net = Network.read(f"{on_path.TOP}/examples/{name}.toml").copy()
         net.table["reward"].clear()
         return Case(name, about, watching(net, queue), queue, samples, 0)
 
@@ -217,18 +222,18 @@ def walked() -> list[Case]:
         Case(
             "line-20x10", "20 queues of 10, load 1", watching(line(20, 10, 1, 1, 1, "stay", 20), "q20"), "q20", 250, 0
         ),
-        Case("one-queue-1000", slow, watching(one_queue(1_000, 99, 100, 22), "desk"), "desk", 500, 0),
+        Case("one-queue-1000", slow, watching(one_queue(1_000, 99, 100, 22), "desk"), "desk", 100, 0),
     ]
 
 
 def growing() -> dict[str, dict[str, Case]]:
     """The families: what grows, and for each value of that its network."""
     lines = {count: watching(line(count, 20, 1, 4, 5, "stay", 20), f"q{count}") for count in (4, 8, 16, 32)}
-    capacities = {10: (8_000, 800), 100: (1_000, 50), 1_000: (100, 6), 10_000: (10, 1)}
-    loads = {50: (2_000, 100), 90: (500, 20), 99: (200, 10)}
+    capacities = {10: (40_000, 800), 100: (4_000, 50), 1_000: (400, 6), 10_000: (40, 1)}
+    loads = {50: (4_000, 100), 90: (1_000, 20), 99: (800, 10)}
     return {
         "queues": {
-            f"{count}": Case(f"line-{count}", "", net, f"q{count}", 6_400 // count, 320 // count)
+            f"{count}": Case(f"line-of-{count}", "", net, f"q{count}", 12_800 // count, 320 // count)
             for count, net in lines.items()
         },
         "capacity": {
@@ -236,7 +241,7 @@ def growing() -> dict[str, dict[str, Case]]:
             for capacity, counts in capacities.items()
         },
         "events": {
-            f"{10 * copies:,}": Case(f"events-{10 * copies}", "", copied(copies), "q0", 1_000, 50)
+            f"{10 * copies:,}": Case(f"events-{10 * copies}", "", copied(copies), "q0", 4_000, 50)
             for copies in (1, 10, 100)
         },
         "load": {

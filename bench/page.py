@@ -6,7 +6,7 @@ import textwrap
 
 import texts
 from networks import Case
-from rivals import Bias, Found
+from rivals import ENOUGH, Bias, Found
 
 METHODS = "paths", "chain", "simpy", "scipy", "octave"
 CALLED = {
@@ -74,12 +74,13 @@ class Measured:
 
 
 def shown(value: float | None) -> str:
-    """A number in two or three figures."""
+    """A number in three figures."""
     if value is None or math.isnan(value):
         return "-"
-    if value >= 100:
-        return f"{float(f'{value:.2g}'):,.0f}"
-    return f"{value:.1f}" if value >= 10 else f"{value:.2f}" if value >= 0.1 else f"{value:.1g}"
+    rounded = float(f"{value:.3g}")
+    if rounded >= 100 or not rounded:
+        return f"{rounded:,.0f}"
+    return f"{rounded:.{2 - math.floor(math.log10(rounded))}f}"
 
 
 def ratio(other: Found | None, psi: Found) -> str:
@@ -159,14 +160,14 @@ def walk_table(walks: list[Walk]) -> str:
     rows = []
     for one in walks:
         chain = one.chain
-        step = chain and chain.step
+        step = chain.step if chain else None
         rows.append(
             [
                 one.case.about,
-                *(shown(found and found.seconds) for found in (one.psi, one.paths, chain)),
+                *(shown(found.seconds if found else None) for found in (one.psi, one.paths, chain)),
                 "-" if chain is None else shown(one.paths.seconds / chain.seconds),
                 *(shown(number) for number in (one.paths.step, step)),
-                shown(one.paths.step / step) if step else "-",
+                shown(one.paths.step / step) if one.paths.step and step else "-",
             ]
         )
     head = ["network", "samples, s", "paths, s", "plain chain, s", "ratio", "paths, ns a step", "chain, ns a step"]
@@ -211,7 +212,7 @@ def where_right(comparisons: list[Comparison]) -> str:
     """For each method, on which networks it takes less and more time than PSI."""
     items = []
     for method in METHODS:
-        both = [(one, one.others[method]) for one in comparisons if one.others[method]]
+        both = [(one, other) for one in comparisons if (other := one.others[method])]
         less = [one.case.name for one, other in both if other.seconds < one.psi.seconds]
         more = [one.case.name for one, other in both if other.seconds >= one.psi.seconds]
         lacks = len(comparisons) - len(both)
@@ -230,7 +231,7 @@ def page(found: Measured, rounds: int, batches: int, paths: int, most: int) -> s
     head = ["network", "steps a sample", "samples a second", "ns a step", "instructions a step", "MB"]
     parts = [
         "# Performance\n",
-        wrapped(texts.HEAD.format(rounds=rounds)),
+        wrapped(texts.HEAD.format(rounds=rounds, enough=ENOUGH)),
         "## PSI beside other methods\n",
         wrapped(texts.COMPARED.format(batches=batches, most=most)),
         time_table(found.comparisons),

@@ -2,7 +2,8 @@
 
 The target is the mean length of the watched queue within 1 % of itself, at a confidence of 95 %.
 What a run of moderate length comes to is scaled: the half-width of an interval falls with the
-square root of the work. Times are processor times of whole processes, their start included.
+square root of the work. Times are processor times of whole processes, their start included, and the
+least of several runs.
 """
 
 import csv
@@ -15,6 +16,7 @@ import shutil
 import statistics
 import subprocess
 import sys
+from collections.abc import Callable
 
 import solve
 from events import events_of, text_of
@@ -26,6 +28,8 @@ TARGET, SEED = 0.01, 1
 BATCHES, T_QUANTILE, Z_QUANTILE = 20, 2.093, 1.96
 # How many paths there are, and Student's t for 29 degrees of freedom.
 PATHS, PATHS_QUANTILE = 30, 2.045
+# The seconds in all from which on a run is not repeated.
+ENOUGH = 30
 HERE = pathlib.Path(__file__).resolve().parent
 PYTHON = "/usr/bin/python3" if os.access("/usr/bin/python3", os.X_OK) else sys.executable
 
@@ -33,31 +37,69 @@ PYTHON = "/usr/bin/python3" if os.access("/usr/bin/python3", os.X_OK) else sys.e
 @dataclasses.dataclass
 class Found:
     """A method's estimate of the mean, half of its 95 % interval (0 where it is exact), the seconds
-    until the target, the seconds that were measured and, of a simulation, the nanoseconds a step."""
+    of its start and of the whole run, how many times that run's work the target takes and, of a
+    simulation, the steps of the run."""
 
     mean: float
     half: float
-    seconds: float
+    start: float
     measured: float
-    step: float | None = None
+    times: float = 1.0
+    steps: int | None = None
+
+    @property
+    def work(self) -> float:
+        """The seconds of the run without its start."""
+        return max(self.measured - self.start, 0)
+
+    @property
+    def seconds(self) -> float:
+        """The seconds until the target: the start, and the rest of the run scaled."""
+        return self.start + self.work * self.times
+
+    @property
+    def step(self) -> float | None:
+        """The nanoseconds a step."""
+        return None if self.steps is None else self.work / self.steps * 1e9
 
 
-def scaled(mean: float, half: float, start: float, seconds: float) -> float:
-    """The time until the target: the start, and the rest of the run scaled."""
-    return start + max(seconds - start, 0) * (half / (TARGET * mean)) ** 2
+class Least:
+    """The least times of each method on each network, over runs that are repeated."""
+
+    def __init__(self) -> None:
+        self.found: dict[tuple[str, str], Found | None] = {}
+        self.spent: dict[tuple[str, str], float] = {}
+
+    def of(self, network: str, method: str, measure: Callable[[], Found | None]) -> Found | None:
+        """Measures a method on a network again, unless its runs took long enough, and returns what it
+        found, with the least start and the least time so far."""
+        key, known = (network, method), self.found.get((network, method))
+        if self.spent.get(key, 0) >= ENOUGH:
+            return known
+        found = self.found[key] = measure()
+        if found:
+            self.spent[key] = self.spent.get(key, 0) + found.measured
+        if found and known:
+            found.start, found.measured = min(found.start, known.start), min(found.measured, known.measured)
+        return found
+
+
+def times_of(mean: float, half: float) -> float:
+    """How many times the work of an estimate the target takes."""
+    return (half / (TARGET * mean)) ** 2
 
 
 def by_psi(program: str, file: str, case: Case, samples: int) -> Found:
     """The mean over samples, which are independent."""
-    start = min(run([program, "check", file]).seconds for _ in range(3))
     if case.total is not None:
         return by_closed(program, file, case, samples)
+    start = run([program, "check", file]).seconds
     done = run([program, "report", file, "0", "0", str(samples)])
     sums = sums_of(done.out)
     mean = sums["reward-sum", WATCHED] / samples
     squares = sums["reward-sum", SQUARED] / samples
     half = Z_QUANTILE * math.sqrt((squares - mean * mean) / (samples - 1))
-    return Found(mean, half, scaled(mean, half, start, done.seconds), done.seconds)
+    return Found(mean, half, start, done.seconds, times_of(mean, half))
 
 
 def by_closed(program: str, file: str, case: Case, samples: int) -> Found:
@@ -69,22 +111,21 @@ def by_closed(program: str, file: str, case: Case, samples: int) -> Found:
         seconds += done.seconds
     mean = statistics.fmean(values)
     half = Z_QUANTILE * statistics.stdev(values) / math.sqrt(samples)
-    return Found(mean, half, scaled(mean, half, 0, seconds), seconds)
+    return Found(mean, half, 0, seconds, times_of(mean, half))
 
 
 def by_paths(program: str, file: str, case: Case, steps: int) -> Found:
-    """The mean over paths that begin in samples, of so many steps in all. The samples are drawn for each
+    """The mean over paths that begin in samples, of that many steps in all. The samples are drawn for each
     precision; what is scaled is the rest."""
     closed = [] if case.total is None else ["closed", str(case.total)]
     each, call = max(1, steps // PATHS), [program, file, "0", "0", str(PATHS)]
-    start = min(run([*call, "0", *closed]).seconds for _ in range(3))
+    start = run([*call, "0", *closed]).seconds
     done = run([*call, str(each), *closed])
     rows = csv.DictReader(io.StringIO(done.out))
     means = [int(row[f"queue.{case.watched}"]) / (each + 1) for row in rows]
     mean = statistics.fmean(means)
     half = PATHS_QUANTILE * statistics.stdev(means) / math.sqrt(PATHS)
-    step = max(done.seconds - start, 0) / (PATHS * each) * 1e9
-    return Found(mean, half, scaled(mean, half, start, done.seconds), done.seconds, step)
+    return Found(mean, half, start, done.seconds, times_of(mean, half), PATHS * each)
 
 
 def batch_means(done: Run) -> list[float]:
@@ -100,8 +141,7 @@ def by_chain(chain: str, file: str, steps: int) -> Found:
     means = batch_means(done)
     mean = statistics.fmean(means)
     half = T_QUANTILE * statistics.stdev(means) / math.sqrt(BATCHES)
-    step = max(done.seconds - start, 0) / ((BATCHES + 1) * (steps // BATCHES)) * 1e9
-    return Found(mean, half, scaled(mean, half, start, done.seconds), done.seconds, step)
+    return Found(mean, half, start, done.seconds, times_of(mean, half), (BATCHES + 1) * (steps // BATCHES))
 
 
 def by_simpy(file: str, case: Case, time: float, needed: float) -> Found:
@@ -112,9 +152,7 @@ def by_simpy(file: str, case: Case, time: float, needed: float) -> Found:
     more += [] if case.total is None else ["--total", str(case.total)]
     start = run([*words, "0.001", "0", *more]).seconds
     done = run([*words, str(time), "0", *more])
-    mean = float(done.out.split()[0])
-    seconds = start + max(done.seconds - start, 0) * needed / time
-    return Found(mean, math.nan, seconds, done.seconds)
+    return Found(float(done.out.split()[0]), math.nan, start, done.seconds, needed / time)
 
 
 def by_solving(file: str, case: Case) -> Found | None:
@@ -123,7 +161,7 @@ def by_solving(file: str, case: Case) -> Found | None:
         return None
     more = [] if case.total is None else ["--total", str(case.total)]
     done = run([PYTHON, str(HERE / "solve.py"), file, case.watched, *more])
-    return Found(float(done.out.split()[0]), 0.0, done.seconds, done.seconds)
+    return Found(float(done.out.split()[0]), 0.0, 0.0, done.seconds)
 
 
 def by_product_form(case: Case) -> Found | None:
@@ -133,7 +171,7 @@ def by_product_form(case: Case) -> Found | None:
     if not case.has_product_form or not octave:
         return None
     done = run([octave, "--no-gui", "--quiet", "--eval", octave_text(case)])
-    return Found(float(done.out.split()[-1]), 0.0, done.seconds, done.seconds)
+    return Found(float(done.out.split()[-1]), 0.0, 0.0, done.seconds)
 
 
 def octave_text(case: Case) -> str:

@@ -10,6 +10,7 @@ until one changes the distribution by less than 1e-9.
 import argparse
 import math
 import sys
+from typing import Any
 
 import numpy
 import on_path  # noqa: F401
@@ -18,15 +19,16 @@ import scipy.sparse.linalg
 from events import Event, events_of
 from psi_tools.model.networks import Network
 
+Array = numpy.ndarray[Any, Any]
 DIRECT, MOST_STATES, TOLERANCE, STRETCH = 3_000, 1_000_000, 1e-9, 50
 
 
-def states_of(capacities: list[int], total: int | None) -> numpy.ndarray:
+def states_of(capacities: list[int], total: int | None) -> Array:
     """All states, or those of a total, a row for each, in the order of their ranks."""
     sizes = [capacity + 1 for capacity in capacities]
     if total is None:
         return numpy.indices(sizes).reshape(len(sizes), -1).T
-    rows = [((), total)]
+    rows: list[tuple[tuple[int, ...], int]] = [((), total)]
     for capacity in capacities:
         rows = [((*state, number), left - number) for state, left in rows for number in range(min(capacity, left) + 1)]
     return numpy.array([state for state, left in rows if left == 0])
@@ -45,7 +47,7 @@ def count_of(capacities: list[int], total: int | None) -> int:
     return sum(counts) if total is None else counts[total] if total < len(counts) else 0
 
 
-def chosen(event: Event, states: numpy.ndarray, has_space: numpy.ndarray) -> numpy.ndarray:
+def chosen(event: Event, states: Array, has_space: Array) -> Array:
     """For each state the target of a route, and -1 where none has space."""
     target = numpy.full(len(states), -1)
     fewest = numpy.full(len(states), numpy.iinfo(numpy.int64).max)
@@ -57,7 +59,7 @@ def chosen(event: Event, states: numpy.ndarray, has_space: numpy.ndarray) -> num
     return target
 
 
-def images(event: Event, states: numpy.ndarray, capacities: numpy.ndarray) -> numpy.ndarray:
+def images(event: Event, states: Array, capacities: Array) -> Array:
     """What an event makes of each state."""
     after, has_space = states.copy(), states < capacities
     able = numpy.ones(len(states), dtype=bool)
@@ -70,12 +72,12 @@ def images(event: Event, states: numpy.ndarray, capacities: numpy.ndarray) -> nu
         after[moves, target[moves]] += 1
     else:
         able &= has_space[:, list(event.targets)].all(axis=1)
-        after[numpy.ix_(numpy.flatnonzero(able), event.targets)] += 1
-    after[numpy.ix_(numpy.flatnonzero(able), event.takes)] -= 1
+        after[numpy.ix_(numpy.flatnonzero(able), numpy.array(event.targets, int))] += 1
+    after[numpy.ix_(numpy.flatnonzero(able), numpy.array(event.takes, int))] -= 1
     return after
 
 
-def generator(net: Network, states: numpy.ndarray) -> scipy.sparse.csc_matrix:
+def generator(net: Network, states: Array) -> scipy.sparse.csc_matrix:
     """The transposed generator: the rate from state j to state i at row i and column j."""
     capacities, count = numpy.array(net.capacities), len(states)
     weights = numpy.append(numpy.cumprod((capacities + 1)[::-1])[-2::-1], 1)
@@ -92,26 +94,28 @@ def generator(net: Network, states: numpy.ndarray) -> scipy.sparse.csc_matrix:
     return matrix
 
 
-def iterated(matrix: scipy.sparse.csc_matrix) -> numpy.ndarray:
+def iterated(matrix: scipy.sparse.csc_matrix) -> Array:
     """The stationary distribution by steps of the uniformized chain, until one changes it by less
     than the tolerance."""
     rows, rate = matrix.tocsr(), -1.001 * matrix.diagonal().min()
-    found = numpy.full(rows.shape[0], 1 / rows.shape[0])
+    found: Array = numpy.full(rows.shape[0], 1 / rows.shape[0])
     change = math.inf
     while change > TOLERANCE:
         for _ in range(STRETCH):
             found += rows @ found / rate
         change = abs(rows @ found).sum() / rate
-    return found / found.sum()
+    law: Array = found / found.sum()
+    return law
 
 
-def stationary(matrix: scipy.sparse.csc_matrix) -> numpy.ndarray:
+def stationary(matrix: scipy.sparse.csc_matrix) -> Array:
     """The stationary distribution. Solved directly, the first state has the weight 1."""
     if matrix.shape[0] > DIRECT:
         return iterated(matrix)
     inner, right = matrix[1:, 1:].tocsc(), -matrix[1:, 0].toarray().ravel()
     weights = numpy.append(1.0, scipy.sparse.linalg.spsolve(inner, right))
-    return weights / weights.sum()
+    law: Array = weights / weights.sum()
+    return law
 
 
 def mean_of(net: Network, watched: str, total: int | None) -> tuple[float, int]:

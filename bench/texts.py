@@ -6,12 +6,8 @@ the same answer. Read it before you choose a method. `bench/run` measures everyt
 page.
 
 Compare ratios, not seconds. The machine may have been busy, as its load at the end of this page
-shows. Two kinds of times stand here:
-
-- The times of samples, and of how they grow, are the least processor times of {rounds} runs. The
-runs of all networks of a table take turns.
-- The times beside other methods are of single runs. On a busy machine read those ratios as orders
-of magnitude.
+shows. So each time is the least processor time of {rounds} runs or more, in which all networks and
+all methods take turns. A method whose runs took {enough} seconds in all is not run again.
 
 Instructions are counted by callgrind, and hardly depend on what else runs.
 """
