@@ -1,30 +1,15 @@
 -- What a move makes of the arcs of a state.
-use Rattle.std.specs.Prelude.{◌≡◌, ◌≢◌, ℕ, zero, suc, ◌+◌, ◌-◌, ◌<◌, ◌≤◌, List, [], ◌∷◌, length, take, slice_index, slice_set, nat_lt, nat_le, cond}
+use Rattle.std.specs.Prelude.{◌≡◌, ℕ, zero, suc, ◌+◌, ◌-◌, ◌<◌, ◌≤◌, List, [], ◌∷◌, length, take, slice_index, slice_set, nat_lt, nat_le, cond}
 use Rattle.std.proofs.Common.{inl, inr, ap, sym, ◌∙◌, subst, arith, get_or-set_same, get_or-set_other, length-set}
 use Rattle.std.proofs.lemmas.List.{take-set-le}
-use Rattle.std.proofs.lemmas.Bool.{cases_lt, lt-ltb, le-leb, le-ltb, lt-leb, and_left, and_right, and_from, eq-eqb, ne_eqb, cases_eq}
+use Rattle.std.proofs.lemmas.Bool.{cases_lt, lt-ltb, le-leb, le-ltb, lt-leb, and_left, and_right, and_from, cases_eq}
 use Rattle.psi_state.proofs.BoxesLemmas.{set-below}
 use Rattle.psi_closed_arcs.specs.Walks.{customers}
 use Rattle.psi_closed_arcs.specs.Joining.{past, here}
+use Rattle.psi_closed_arcs.proofs.MarkedLemmas.{past-yes, past-no, here-yes, here-no}
 use Rattle.psi_kinds.specs.declared.moves.Move.{Move}
 use Rattle.psi_kinds.specs.Moves.{moved, IsMove}
 use Rattle.psi_closed.specs.Closed.{IsOfTotal}
-
-pub past-yes : (i l : ℕ) → i < l → past i l ≡ 1
-unfolding past
-past-yes i l h = ap (λ b. cond b 1 0) (lt-ltb i l h)
-
-pub past-no : (i l : ℕ) → l ≤ i → past i l ≡ 0
-unfolding past
-past-no i l h = ap (λ b. cond b 1 0) (le-ltb i l h)
-
-pub here-yes : (i l : ℕ) → i ≡ l → here i l ≡ 1
-unfolding here
-here-yes i l h = ap (λ b. cond b 1 0) (eq-eqb i l h)
-
-pub here-no : (i l : ℕ) → i ≢ l → here i l ≡ 0
-unfolding here
-here-no i l h = ap (λ b. cond b 1 0) (ne_eqb i l h)
 
 -- the sum of the first places, where one of them is given another number
 pub total-set : (x : List ℕ) (i v l : ℕ) → i < length x → i < l → customers (take l (slice_set x i v)) + slice_index x i ≡ customers (take l x) + v

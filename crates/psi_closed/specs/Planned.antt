@@ -6,13 +6,13 @@ use Rattle.psi_kinds.specs.declared.moves.Move.{Move}
 use Rattle.psi_kinds.specs.Moves.{moved, IsMove}
 use Rattle.psi_rate.specs.Composition.{Functions, function_at}
 use Rattle.psi_rate.specs.Outcomes.{IsOutcome, ReachesFrom}
-use Rattle.psi_rate.specs.declared.numbers.Numbers.{Numbers}
+use Rattle.psi_rate.specs.declared.numbers.EventNumbers.{EventNumbers}
 use Rattle.psi_rate.specs.Keeping.{KeepsNumbers}
 use Rattle.psi_closed.specs.Closed.{IsOfTotal, closed_ending, DecidesRuns, MeetsOfTotal}
 use Rattle.psi_closed.specs.Diagram.{Shown, IsTotal}
 
 -- a closed network: capacities, the number of customers in all, moves, their rates, and the greatest horizon's exponent
-pub record Network : Type 0 where
+pub record ClosedNetwork : Type 0 where
   pub caps : List ℕ
   pub total : ℕ
   pub moves : List Move
@@ -20,13 +20,13 @@ pub record Network : Type 0 where
   pub limit : ℕ
 
 -- a closed network with the past that its samples are drawn from
-pub record Planned (P : Type 0) : Type 0 where
-  pub network : Network
+pub record ClosedPlanned (P : Type 0) : Type 0 where
+  pub network : ClosedNetwork
   pub past : P
 
 -- a closed network with the words that its samples are drawn from
-pub record Drawn : Type 0 where
-  pub network : Network
+pub record ClosedDrawn : Type 0 where
+  pub network : ClosedNetwork
   pub words : ℕ → ℕ
 
 -- the functions of moves by the time before zero, under these words; idle changes nothing
@@ -34,7 +34,7 @@ abbrev pub closed_functions : List ℕ → List Move → List ℕ → (ℕ → �
 closed_functions caps moves rates words = function_at (map (λ m. moved caps m) moves) rates words
 
 -- those of a network's moves
-abbrev pub network_functions : Network → (ℕ → ℕ) → Functions
+abbrev pub network_functions : ClosedNetwork → (ℕ → ℕ) → Functions
 network_functions network words = closed_functions network.caps network.moves network.rates words
 
 -- each is a move within the capacities
@@ -42,7 +42,7 @@ abbrev pub AreMoves : List ℕ → List Move → Type 0
 AreMoves caps moves = All (λ m. IsMove caps m) moves
 
 -- what every plan keeps: its parts fit each other, there is room for the numbers of the events of the greatest horizon, and those that are kept are those of the words
-pub record IsPlan (diagram : Shown) (events : List Move) (rates : List ℕ) (limit : ℕ) (words : ℕ → ℕ) (numbers : Numbers) : Type 0 where
+pub record IsPlan (diagram : Shown) (events : List Move) (rates : List ℕ) (limit : ℕ) (words : ℕ → ℕ) (numbers : EventNumbers) : Type 0 where
   pub valid : AreCapacities diagram.caps
   pub fits : IsTotal diagram.caps diagram.total
   pub moves : AreMoves diagram.caps events

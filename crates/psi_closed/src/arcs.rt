@@ -61,7 +61,6 @@ pub(crate) fn is_walk(arcs: &Arcs, state: &State) -> bool
     requires { length state.now ≡ arcs.now.levels }
     ensures { IsTrue result ↔ Held (Listed arcs.now.arcs) arcs.now.levels arcs.now.total state.now }
 {
-    // Called for its clause: each arc is in range.
     let total = arcs.total();
     let mut before = 0;
     for level in 0..state.len() {
@@ -96,8 +95,6 @@ pub(crate) fn only_state(arcs: &Arcs, caps: &State) -> Option<State>
     ensures value { result ≡ single (held_states caps.now arcs.now.total arcs.now.arcs) }
     ensures more { result ≡ None → 2 ≤ length (held_states caps.now arcs.now.total arcs.now.arcs) }
 {
-    // Called for its clause: sums are small.
-    let _total = arcs.total();
     let mut state = *caps;
     let mut before = 0;
     for level in 0..caps.len() {
@@ -116,6 +113,7 @@ fn only_value(arcs: &Arcs, level: u8, before: u16) -> Option<u16>
     requires some { IsLeft arcs.now.arcs level before }
     ensures value { MatchOption result (IsForked arcs.now.arcs level before) (λ v. IsOnly arcs.now.arcs level before v) }
     ensures sum { MatchOption result (Unit {0}) (λ v. before + v ≤ arcs.now.total) }
+    ensures small { arcs.now.total ≤ 256 }
 {
     // Called for its clause: each arc is in range.
     let _total = arcs.total();

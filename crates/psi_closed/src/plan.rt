@@ -11,7 +11,7 @@ use crate::runs::ending;
 use crate::{Diagram, OutOfMemory};
 use psi_kinds::Move;
 use psi_past::Past;
-use psi_rate::{Answers, Numbers, Wheel, first_answer, outcome_of};
+use psi_rate::{Answers, EventNumbers, Wheel, first_answer_near, outcome_of};
 use psi_state::{Outcome, State};
 use std::alloc::Global;
 use std::marker::Model;
@@ -27,13 +27,15 @@ pub struct ClosedPlan<'n, P: Past + Drop> {
     limit: u8,
     past: P,
     // The numbers of the events of the words, as far as they were picked.
-    numbers: Numbers,
+    numbers: EventNumbers,
+    // The exponent of the horizon with which the next sample begins.
+    guess: u8,
 }
 
 impl<'n, P: Past + Drop> Model for ClosedPlan<'n, P> {
-    ghost use Rattle.psi_closed.specs.Planned.{Planned, IsPlan};
+    ghost use Rattle.psi_closed.specs.Planned.{ClosedPlanned, IsPlan};
 
-    ghost Value = { Planned P };
+    ghost Value = { ClosedPlanned P };
 
     ghost view = { λ p. record {
       network = record { caps = p.diagram.caps; total = p.diagram.total; moves = p.moves.now; rates = p.wheel.now; limit = p.limit };
@@ -53,8 +55,28 @@ impl<'n, P: Past + Drop> Drop for ClosedPlan<'n, P> {
             limit: _,
             past: _,
             numbers: _,
+            guess: _,
         } = self;
     }
+}
+
+// How many customers queues of these capacities have room for.
+fn room(caps: &State) -> u32 {
+    let mut places = 0u32;
+    for queue in 0..caps.len() {
+        places = places.saturating_add(u32::from(caps.get(queue)));
+    }
+    places
+}
+
+// The exponent of the horizon with which the first sample begins: about as many steps as there are queues, times the
+// customers, or the free places where these are fewer. States may differ by where all of these are, and a step moves one
+// from one queue, if any; so most shorter runs end with more states than one.
+fn first_guess(caps: &State, total: u16) -> u8 {
+    let customers = u32::from(total);
+    let free = room(caps).saturating_sub(customers);
+    let bits = 8 - caps.len().leading_zeros() + (32 - customers.min(free).leading_zeros());
+    bits.saturating_sub(2) as u8
 }
 
 impl<'n, P: Past + Drop> ClosedPlan<'n, P> {
@@ -85,8 +107,9 @@ impl<'n, P: Past + Drop> ClosedPlan<'n, P> {
           past = past;
         }) }
     {
-        let numbers = Numbers::reserve(alloc, 1 << limit)?;
+        let numbers = EventNumbers::reserve(alloc, 1 << limit)?;
         let diagram = Diagram::reserve(alloc, caps, total)?;
+        let guess = first_guess(&caps, total);
         Ok(ClosedPlan {
             diagram,
             moves,
@@ -94,6 +117,7 @@ impl<'n, P: Past + Drop> ClosedPlan<'n, P> {
             limit,
             past,
             numbers,
+            guess,
         })
     }
 
@@ -114,6 +138,11 @@ impl<'n, P: Past + Drop> ClosedPlan<'n, P> {
     /// step, the move of its word makes of the states the arc hull of their image; an idle step changes nothing. The
     /// same words are used for the same time at each horizon (Propp and Wilson 1996), so the states of a longer run
     /// are among those of a shorter one.
+    ///
+    /// The first sample begins with about as many steps as there are queues, times the customers or the free places,
+    /// whichever are fewer. Each other one begins with half the horizon of the one before, or with the greatest where that
+    /// isn't met. So most samples take fewer steps: a run that ends with one state does so at each longer horizon, and the
+    /// least one may be looked for from any.
     pub fn sample(&mut self) -> Outcome
         ensures outcome { let f = network_functions self.old.network (P.words self.old.past) in
             result ≡ outcome_within (closed_ending self.old.network.caps self.old.network.total f) self.old.network.limit }
@@ -125,7 +154,21 @@ impl<'n, P: Past + Drop> ClosedPlan<'n, P> {
         ensures words { P.words self.new.past ≡ P.words self.old.past }
     {
         let limit = self.limit;
-        outcome_of(limit, first_answer(self, limit))
+        let guess = self.guess;
+        let outcome = outcome_of(limit, first_answer_near(self, limit, guess));
+        self.guess_by(&outcome);
+        outcome
+    }
+
+    // The next sample begins with half the horizon of this one, since most have this horizon or the one above or
+    // below; where this one isn't met, with the greatest horizon, since most of the next ones aren't met either.
+    fn guess_by(&mut self, outcome: &Outcome)
+        ensures { self.new ≡ self.old }
+    {
+        self.guess = match outcome {
+            Outcome::Met { horizon, .. } => horizon.trailing_zeros().saturating_sub(1) as u8,
+            Outcome::NotMet { limit } => *limit,
+        };
     }
 }
 
@@ -134,11 +177,11 @@ impl<'n, P: Past + Drop> ClosedPlan<'n, P> {
 impl<'n, P: Past + Drop> Answers for ClosedPlan<'n, P> {
     ghost use Rattle.std.specs.Prelude.{◌≤◌, ◌^◌};
     ghost use Rattle.psi_closed.specs.Closed.{closed_ending};
-    ghost use Rattle.psi_closed.specs.Planned.{Drawn, network_functions};
+    ghost use Rattle.psi_closed.specs.Planned.{ClosedDrawn, network_functions};
 
     type Answer = State;
 
-    ghost Standing = { Drawn };
+    ghost Standing = { ClosedDrawn };
 
     ghost standing = { λ plan. record { network = plan.network; words = P.words plan.past } };
 

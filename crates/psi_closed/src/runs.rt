@@ -11,7 +11,7 @@ use crate::Diagram;
 use crate::walking::walk;
 use psi_kinds::Move;
 use psi_past::Past;
-use psi_rate::{Numbers, Wheel};
+use psi_rate::{EventNumbers, Wheel};
 use psi_state::State;
 
 // The one state with which the closed run of a horizon ends, if it ends with one. The diagram goes through the numbers
@@ -20,7 +20,7 @@ pub(crate) fn ending<P: Past>(
     moves: &[Move],
     wheel: &Wheel,
     past: &mut P,
-    numbers: &mut Numbers,
+    numbers: &mut EventNumbers,
     diagram: &mut Diagram,
     horizon: u32,
 ) -> Option<State>

@@ -2,5 +2,5 @@
 pub mod WalksLemmas
 mod SumsLemmas
 mod RowsLemmas
-mod MarkedLemmas
+pub mod MarkedLemmas
 mod PuttingLemmas

@@ -9,10 +9,10 @@ use Rattle.psi_closed_arcs.specs.declared.windows.Rule.{Rule}
 use Rattle.psi_closed_arcs.specs.Sums.{has, Leads}
 use Rattle.psi_closed_arcs.specs.Walks.{customers, Walk, Before, After, Useful}
 use Rattle.psi_closed_arcs.specs.Held.{Listed, AreRanged}
-use Rattle.psi_closed_arcs.specs.RowsKept.{sums_at}
+use Rattle.psi_closed_arcs.specs.Inner.RowsKept.{sums_at}
 use Rattle.psi_closed_arcs.specs.Joining.{past, here, Only, IsChanging, IsShiftable}
 use Rattle.psi_closed_arcs.specs.Windows.{IsWithin, window_at, Allows, is_marked, Enters, EntersBelow, Exits, MarkBefore, MarkAfter}
-use Rattle.psi_closed_arcs.specs.MarksKept.{AreMarked, IsReached, Keeps, TellsUseful, Shifts}
+use Rattle.psi_closed_arcs.specs.Inner.MarksKept.{AreMarked, IsReached, Keeps, TellsUseful, Shifts}
 use Rattle.psi_closed_arcs.proofs.RowsLemmas.{arc_of, read-own, read-other}
 use Rattle.psi_closed_arcs.proofs.WalksLemmas.{walk-at, walk-sum, before-more, before-split, after-more, after-split, useful-map}
 

@@ -12,8 +12,8 @@ use Rattle.psi_closed_arcs.specs.Sums.{has, Leads}
 use Rattle.psi_closed_arcs.specs.Walks.{Walk, Held, Useful}
 use Rattle.psi_closed_arcs.specs.Held.{Listed, IsThis, IsFirst}
 use Rattle.psi_closed_arcs.specs.Joining.{past, here, Only, IsChanging, IsShort, IsFull, IsShiftable, IsOutside, Joined}
-use Rattle.psi_closed_arcs.specs.SpansKept.{IsSpan}
-use Rattle.psi_closed_arcs.specs.MarksKept.{IsReached, Keeps, TellsUseful, Shifts, Gives}
+use Rattle.psi_closed_arcs.specs.Inner.SpansKept.{IsSpan}
+use Rattle.psi_closed_arcs.specs.Inner.MarksKept.{IsReached, Keeps, TellsUseful, Shifts, Gives}
 use Rattle.psi_closed_arcs.proofs.WalksLemmas.{held-useful, useful-held}
 use Rattle.psi_closed_arcs.proofs.MarkedLemmas.{past-small, past-yes, past-no, here-no}
 

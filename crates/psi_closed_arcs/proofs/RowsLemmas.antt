@@ -9,7 +9,7 @@ use Rattle.psi_closed_arcs.specs.declared.ends.Arc.{Arc}
 use Rattle.psi_closed_arcs.specs.declared.sums.Sums.{Sums}
 use Rattle.psi_closed_arcs.specs.Sums.{has, Leads}
 use Rattle.psi_closed_arcs.specs.Held.{ArcList, Listed, AreRanged}
-use Rattle.psi_closed_arcs.specs.RowsKept.{sums_at, row_of, arc_number, keeps, arcs_below, arcs_of, AreRows, AreEmpty}
+use Rattle.psi_closed_arcs.specs.Inner.RowsKept.{sums_at, row_of, arc_number, keeps, arcs_below, arcs_of, AreRows, AreEmpty}
 
 -- an arc of these numbers
 abbrev pub arc_of : ℕ → ℕ → ℕ → Arc

@@ -3,7 +3,5 @@ pub mod Walks
 pub mod Joining
 pub mod Sums
 pub mod Held
-pub mod RowsKept
+pub mod Inner
 pub mod Windows
-pub mod SpansKept
-pub mod MarksKept

@@ -7,7 +7,7 @@ use Rattle.psi_closed_arcs.specs.declared.windows.Rule.{Rule}
 use Rattle.psi_closed_arcs.specs.Walks.{Before, After}
 use Rattle.psi_closed_arcs.specs.Held.{Listed}
 use Rattle.psi_closed_arcs.specs.Sums.{has}
-use Rattle.psi_closed_arcs.specs.RowsKept.{sums_at}
+use Rattle.psi_closed_arcs.specs.Inner.RowsKept.{sums_at}
 
 -- the number of customers is in the window
 pub record IsWithin (window : Window) (v : ℕ) : Type 0 where

@@ -5,7 +5,7 @@ ghost use Rattle.psi_state.specs.Members.{In};
 ghost use Rattle.psi_state.specs.Ascending.{IsDistinct};
 ghost use Rattle.psi_closed_arcs.specs.Sums.{has, Leads};
 ghost use Rattle.psi_closed_arcs.specs.Held.{Listed, AreRanged, IsThis, IsFirst};
-ghost use Rattle.psi_closed_arcs.specs.RowsKept.{keeps, arc_number, arcs_below, AreEmpty};
+ghost use Rattle.psi_closed_arcs.specs.Inner.RowsKept.{keeps, arc_number, arcs_below, AreEmpty};
 
 use crate::OutOfMemory;
 use crate::ends::{ARCS, Arc, ENDS, end_of};
@@ -30,7 +30,7 @@ impl Model for Arcs {
 
     ghost Value = { ArcList };
 
-    ghost use Rattle.psi_closed_arcs.specs.RowsKept.{arcs_of, AreRows};
+    ghost use Rattle.psi_closed_arcs.specs.Inner.RowsKept.{arcs_of, AreRows};
 
     ghost view = { λ a. record {
       levels = a.levels;

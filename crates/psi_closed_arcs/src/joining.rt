@@ -4,10 +4,10 @@ ghost use Rattle.std.specs.Prelude.{◌≡◌, ◌≢◌, ℕ, suc, ◌+◌, ◌
 ghost use Rattle.psi_closed_arcs.specs.Sums.{has, Leads};
 ghost use Rattle.psi_closed_arcs.specs.Walks.{Useful};
 ghost use Rattle.psi_closed_arcs.specs.Held.{Listed};
-ghost use Rattle.psi_closed_arcs.specs.RowsKept.{sums_at};
+ghost use Rattle.psi_closed_arcs.specs.Inner.RowsKept.{sums_at};
 ghost use Rattle.psi_closed_arcs.specs.Joining.{past, IsShiftable, Joined};
-ghost use Rattle.psi_closed_arcs.specs.MarksKept.{IsReached, Keeps, Shifts, Gives, AreAt, AreOf};
-ghost use Rattle.psi_closed_arcs.specs.SpansKept.{IsSpan};
+ghost use Rattle.psi_closed_arcs.specs.Inner.MarksKept.{IsReached, Keeps, Shifts, Gives, AreAt, AreOf};
+ghost use Rattle.psi_closed_arcs.specs.Inner.SpansKept.{IsSpan};
 
 use crate::arcs::Arcs;
 use crate::marks::{LevelReach, Marks, Reach};
@@ -178,6 +178,8 @@ impl Arcs {
     /// The useful arcs of the states that it changes are shifted, and those of the states whose source is short, or
     /// whose target is full, stay. Only the move's queues and those between them are looked at: the arcs of the others
     /// stay as they are.
+    // Kept out of the loop over the steps of a run: the loops of a step then have more registers.
+    #[inline(never)]
     pub fn step(&mut self, from: u8, k: u16, to: u8, room: u16, reach: &mut Reach)
         requires source { from < self.old.levels }
         requires target { to < self.old.levels }

@@ -6,9 +6,9 @@ ghost use Rattle.psi_closed_arcs.specs.Walks.{Before, After, Useful};
 ghost use Rattle.psi_closed_arcs.specs.Held.{Listed, IsSized};
 ghost use Rattle.psi_closed_arcs.specs.Windows.{IsWithin, Allows, Enters, EntersBelow, Exits, MarkBefore, MarkAfter};
 ghost use Rattle.psi_closed_arcs.specs.Joining.{Only, IsChanging, IsShort, IsFull};
-ghost use Rattle.psi_closed_arcs.specs.SpansKept.{IsSpan, AreSpans, IsStretch};
-ghost use Rattle.psi_closed_arcs.specs.RowsKept.{sums_at};
-ghost use Rattle.psi_closed_arcs.specs.MarksKept.{AreMarked, IsReached, Keeps, TellsUseful, AreAt, AreOf};
+ghost use Rattle.psi_closed_arcs.specs.Inner.SpansKept.{IsSpan, AreSpans, IsStretch};
+ghost use Rattle.psi_closed_arcs.specs.Inner.RowsKept.{sums_at};
+ghost use Rattle.psi_closed_arcs.specs.Inner.MarksKept.{AreMarked, IsReached, Keeps, TellsUseful, AreAt, AreOf};
 
 use crate::OutOfMemory;
 use crate::arcs::Arcs;
@@ -151,12 +151,7 @@ fn mark_before(
     marks: &mut [Sums],
 )
     requires room { length marks.old ≡ 33 }
-    requires span_room { length spans.now ≡ 32 }
-    requires spans { AreSpans of.now.arcs of.now.total stretch.low stretch.high spans.now }
-    requires start { stretch.low ≤ stretch.start }
-    requires order { stretch.start ≤ stretch.high }
-    requires inside { stretch.high < of.now.levels }
-    requires sized { IsSized of.now }
+    requires stretch { IsStretch of.now spans.now stretch }
     requires begin { (l s v : ℕ) → stretch.low ≤ l → l ≤ stretch.start → Listed of.now.arcs l s v → (has first s ≡ true) ↔ Before (Only (Listed of.now.arcs) (Allows rule.now)) l s }
     ensures { MarkBefore (Listed of.now.arcs) (Only (Listed of.now.arcs) (Allows rule.now)) stretch.low stretch.high marks.new }
 {
@@ -179,12 +174,7 @@ fn mark_after(
     marks: &mut [Sums],
 )
     requires room { length marks.old ≡ 33 }
-    requires span_room { length spans.now ≡ 32 }
-    requires spans { AreSpans of.now.arcs of.now.total stretch.low stretch.high spans.now }
-    requires order { stretch.low ≤ stretch.stop }
-    requires stop { stretch.stop ≤ stretch.high }
-    requires inside { stretch.high < of.now.levels }
-    requires sized { IsSized of.now }
+    requires stretch { IsStretch of.now spans.now stretch }
     requires begin { (l s v : ℕ) → stretch.stop ≤ l → l ≤ stretch.high → Listed of.now.arcs l s v
         → (has last (s + v) ≡ true) ↔ After (Only (Listed of.now.arcs) (Allows rule.now)) of.now.levels of.now.total (suc l) (s + v) }
     ensures { MarkAfter (Listed of.now.arcs) (Only (Listed of.now.arcs) (Allows rule.now)) of.now.levels of.now.total stretch.low stretch.high marks.new }

@@ -2,7 +2,7 @@
 
 ghost use Rattle.std.specs.Prelude.{◌≡◌, ℕ, ◌+◌, ◌-◌, ◌<◌, ◌≤◌, IfOk, length, min};
 ghost use Rattle.psi_closed_arcs.specs.Held.{Listed};
-ghost use Rattle.psi_closed_arcs.specs.SpansKept.{IsSpan, AreSpans};
+ghost use Rattle.psi_closed_arcs.specs.Inner.SpansKept.{IsSpan, AreSpans};
 
 use crate::arcs::Arcs;
 use std::alloc::{AllocError, Global};

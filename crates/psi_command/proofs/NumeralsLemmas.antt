@@ -1,11 +1,11 @@
 -- Numbers as words.
-use Rattle.std.specs.Prelude.{◌≡◌, ◌⊎◌, ℕ, zero, suc, ◌<◌, ◌≤◌, ◌^◌, List, length, slice_index, true, false, not, ◌&&◌, ◌||◌, ◌==◌, nat_lt, nat_le, Bool, Option, if◌then◌else◌, Some, None, Result, Ok, Err, refl}
+use Rattle.std.specs.Prelude.{◌≡◌, ◌⊎◌, ℕ, zero, suc, ◌<◌, ◌≤◌, ◌^◌, List, length, slice_index, true, false, not, ◌&&◌, ◌||◌, ◌==◌, nat_lt, nat_le, Option, if◌then◌else◌, Some, None, Result, Ok, Err, refl}
 use Rattle.std.specs.List.{list_all}
 use Rattle.std.specs.Result.{result_ok, OkIff}
 use Rattle.std.specs.Fmt.{decimal}
 use Rattle.std.specs.Str.Parse.{ParsesUnsigned, digits_value}
 use Rattle.std.proofs.Common.{rules, arith, ap, sym, ◌∙◌, inl, inr}
-use Rattle.std.proofs.lemmas.Bool.{and_parts, cases_lt, le-leb, lt-leb, lt-ltb, ltb-true, ne_eqb}
+use Rattle.std.proofs.lemmas.Bool.{and_parts, cases_Bool, cases_lt, le-leb, lt-leb, lt-ltb, ltb-true, ne_eqb}
 use Rattle.std.proofs.lemmas.Fmt.{decimal_nonempty, first_decimal, length-decimal-le, digits_decimal, digits_value-decimal}
 use Rattle.std.proofs.lemmas.Str.Parse.{IsNumeralModel, numerals_by_value, parse_digits}
 use Rattle.psi_command.specs.Words.{is_digit, is_numeral, greatest_number, number_up_to}
@@ -83,44 +83,24 @@ number_written n small =
     let value : digits_value 10 (decimal n) ≡ n = digits_value-decimal own n small in
     rw (decimal-numeral n small, value, le-leb n greatest_number (omega arith)) refl
 
--- a number of 64 bits is one of at most so many where it isn't greater
-pub number_less : (word : List ℕ) (most n : ℕ) (read : Option ℕ) → read ≡ number_up_to greatest_number word → read ≡ Some n → n ≤ most
-    → Some n ≡ number_up_to most word
-unfolding number_up_to
-number_less word most n read is found few = cases (is_numeral word) (nat_le (digits_value 10 word) greatest_number) (sym is ∙ found)
-  where
-    cases : (numeral within : Bool) → (if numeral && within then Some (digits_value 10 word) else None) ≡ Some n
-        → Some n ≡ (if numeral && nat_le (digits_value 10 word) most then Some (digits_value 10 word) else None)
-    cases true true is = (let e : digits_value 10 word ≡ n = cc in rw (le-leb (digits_value 10 word) most (omega arith)) (sym is))
-    cases true false is = absurd cc
-    cases false within is = absurd cc
+-- the number that is read, where it is at most so many
+abbrev pub at_most : ℕ → Option ℕ → Option ℕ
+at_most most None = None
+at_most most (Some n) = if nat_le n most then Some n else None
 
--- where it is greater, there is none of at most so many
-pub number_greater : (word : List ℕ) (most n : ℕ) (read : Option ℕ) → read ≡ number_up_to greatest_number word → read ≡ Some n → most < n
-    → None ≡ number_up_to most word
+-- a number of at most so many is one of 64 bits
+pub number_at_most : (word : List ℕ) (most : ℕ) → most ≤ greatest_number → number_up_to most word ≡ at_most most (number_up_to greatest_number word)
 unfolding number_up_to
-number_greater word most n read is found many = cases (is_numeral word) (nat_le (digits_value 10 word) greatest_number) (sym is ∙ found)
-  where
-    cases : (numeral within : Bool) → (if numeral && within then Some (digits_value 10 word) else None) ≡ Some n
-        → None ≡ (if numeral && nat_le (digits_value 10 word) most then Some (digits_value 10 word) else None)
-    cases true true is = (let e : digits_value 10 word ≡ n = cc in rw (lt-leb (digits_value 10 word) most (omega arith)) refl)
-    cases true false is = absurd cc
-    cases false within is = absurd cc
+number_at_most word most small =
+    elim (cases_Bool (is_numeral word)) [
+      | inl numeral ↦ elim (cases_lt greatest_number (digits_value 10 word)) [
+        | inl many ↦ rw (numeral, lt-leb (digits_value 10 word) greatest_number many, lt-leb (digits_value 10 word) most (omega arith)) refl
+        | inr few ↦ rw (numeral, le-leb (digits_value 10 word) greatest_number few) refl
+      ]
+      | inr other ↦ rw other refl
+    ]
 
--- a word that is no number of 64 bits is no smaller one
+-- and none where there is none of 64 bits
 pub number_unread : (word : List ℕ) (most : ℕ) (read : Option ℕ) → most ≤ greatest_number → read ≡ number_up_to greatest_number word → read ≡ None
     → None ≡ number_up_to most word
-unfolding number_up_to
-number_unread word most read small is none = elim (cases_lt greatest_number (digits_value 10 word)) [
-  | inl many ↦ rest (is_numeral word) (lt-leb (digits_value 10 word) most (omega arith))
-  | inr few ↦ nothing (is_numeral word) (rw (le-leb (digits_value 10 word) greatest_number few) at (sym is ∙ none))
-]
-  where
-    rest : (numeral : Bool) → nat_le (digits_value 10 word) most ≡ false → None ≡ (if numeral && nat_le (digits_value 10 word) most then Some (digits_value 10 word) else None)
-    rest true more = rw more refl
-    rest false more = refl
-
-    nothing : (numeral : Bool) → (if numeral && true then Some (digits_value 10 word) else None) ≡ None
-        → None ≡ (if numeral && nat_le (digits_value 10 word) most then Some (digits_value 10 word) else None)
-    nothing true is = absurd cc
-    nothing false is = refl
+number_unread word most read small is none = sym (number_at_most word most small ∙ ap (at_most most) (sym is ∙ none))

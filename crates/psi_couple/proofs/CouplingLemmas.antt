@@ -1,5 +1,5 @@
 -- A run that ends with one state makes each longer run end with it, so halving finds the least one.
-use Rattle.std.specs.Prelude.{◌≡◌, ℕ, zero, suc, ◌/◌, ◌^◌, ◌≤◌, List, true, false, Option, Some, None}
+use Rattle.std.specs.Prelude.{◌≡◌, ℕ, zero, suc, ◌/◌, ◌^◌, ◌≤◌, List, true, false, Option, Some, None, refl}
 use Rattle.std.specs.Option.{is_some}
 use Rattle.std.proofs.Common.{ap, sym, ◌∙◌, subst, arith}
 use Rattle.std.proofs.lemmas.Bool.{true≢false, false≢true}
@@ -7,8 +7,8 @@ use Rattle.psi_state.specs.declared.Outcome.TheVariants.{NotMet}
 use Rattle.psi_state.specs.Sets.{single}
 use Rattle.psi_rate.specs.Composition.{AreClosed}
 use Rattle.psi_rate.specs.Doubling.{HasNone, IsFirst}
-use Rattle.psi_rate.specs.Least.{HasNoneBelow, IsLeast}
-use Rattle.psi_rate.proofs.LeastLemmas.{has_none_below-one, least_answer-found, least_answer-none}
+use Rattle.psi_rate.specs.Least.{least_answer, HasNoneBelow, IsLeast, TellsLeast}
+use Rattle.psi_rate.proofs.LeastLemmas.{has_none_below-one, least_answer-found, least_answer-none, least_answer-tells}
 use Rattle.psi_rate.proofs.PowersLemmas.{pow-double, pow-order}
 use Rattle.psi_horizon.specs.Runs.{ending_at, DecidesRuns}
 use Rattle.psi_horizon.proofs.RunsLemmas.{met-later}
@@ -83,6 +83,15 @@ coupled_within-none run limit none = ap (λ found. coupled_of limit found) (sym 
 pub coupled_within-only : (run : ℕ → Option (List ℕ)) (limit : ℕ) (c : Coupled) → IsCoupled run limit c → c ≡ coupled_within run limit
 coupled_within-only run limit (At t s) is = coupled_within-at run limit t s is
 coupled_within-only run limit (NotAt l) is = ap (λ n. NotAt n) is.0 ∙ coupled_within-none run limit is.1
+
+-- and the least coupling of a run is one in these words
+coupled_of-is : (run : ℕ → Option (List ℕ)) (limit : ℕ) (found : Option (ℕ × List ℕ)) → TellsLeast run (2 ^ limit) found → IsCoupled run limit (coupled_of limit found)
+coupled_of-is run limit None tells = (refl, tells)
+coupled_of-is run limit (Some found) tells = tells
+
+pub coupled_within-is : (run : ℕ → Option (List ℕ)) (limit : ℕ) → IsCoupled run limit (coupled_within run limit)
+unfolding coupled_within
+coupled_within-is run limit = coupled_of-is run limit (least_answer run (2 ^ limit)) (least_answer-tells run (2 ^ limit))
 
 -- where a sample isn't met, there is no coupling
 pub none_below-not_met : (split : ℕ) (caps : List ℕ) (f : ℕ → List ℕ → List ℕ) (limit l : ℕ) → DecidesRuns split f caps limit (NotMet l)

@@ -13,8 +13,8 @@ use Rattle.psi_state.proofs.MembersLemmas.{In-map}
 use Rattle.psi_reward.specs.Ranges.{least, greatest, IsReached}
 use Rattle.psi_region.specs.Followed.{AreEnds}
 use Rattle.psi_rate.specs.Composition.{compose, AreClosed}
-use Rattle.psi_rate.specs.Doubling.{HasNone, IsFirst}
-use Rattle.psi_rate.proofs.DoublingLemmas.{first_answer-found, first_answer-none}
+use Rattle.psi_rate.specs.Doubling.{first_answer, HasNone, IsFirst, TellsFirst}
+use Rattle.psi_rate.proofs.DoublingLemmas.{first_answer-found, first_answer-none, first_answer-tells}
 use Rattle.psi_horizon.specs.Runs.{region_at}
 use Rattle.psi_horizon.proofs.RunsLemmas.{run-area, run-among, run-has}
 use Rattle.psi_couple.proofs.OptionLemmas.{none-without}
@@ -101,14 +101,11 @@ pub common_value-two : (value : List ℕ → ℤ) (xs : List (List ℕ)) (low hi
 common_value-two value xs low high first last two =
     sym (common_value-apart value xs first.0 last.0 first.1 last.1 (λ tied. two (sym first.2 ∙ (tied ∙ last.2))))
 
--- where the least and the greatest value between the ends of a list are one, it is the common value of the list
-pub ends-one : (value : List ℕ → ℤ) (b : Corners) (xs : List (List ℕ)) (low high : ℤ) → AreEnds b xs → low ≡ least (map value (box b.lo b.hi))
-    → high ≡ greatest (map value (box b.lo b.hi)) → low ≡ high → Some low ≡ common_value value xs
-ends-one value b xs low high ends first last one =
-    sym (common_value-same value low xs b.lo ends.low (λ x member.
-    (let here = ends.between x member in
-    let between = value-between value x (box b.lo b.hi) (In-box b.lo b.hi x here.low here.high) in
-    let under = between.0 in let over = between.1 in omega (arith, ints))))
+-- where the states between the ends of a list have one value, it is the common value of the list
+pub ends-one : (value : List ℕ → ℤ) (b : Corners) (xs : List (List ℕ)) (v : ℤ) → AreEnds b xs → Some v ≡ common_value value (box b.lo b.hi) → Some v ≡ common_value value xs
+ends-one value b xs v ends one =
+    sym (common_value-same value v xs b.lo ends.low (λ x member.
+    (let here = ends.between x member in common_value-each value v (box b.lo b.hi) x (sym one) (In-box b.lo b.hi x here.low here.high))))
 
 -- and where the ends have two values, there is none
 pub ends-two : (value : List ℕ → ℤ) (b : Corners) (xs : List (List ℕ)) → AreEnds b xs → (value b.lo ≡ value b.hi → ⊥) → None ≡ common_value value xs
@@ -140,6 +137,15 @@ valued_within-none run limit none = ap (λ found. valued_of limit found) (sym (f
 pub valued_within-only : (run : ℕ → Option ℤ) (limit : ℕ) (o : Valued) → IsValued run limit o → o ≡ valued_within run limit
 valued_within-only run limit (At t v) is = valued_within-at run limit t v is
 valued_within-only run limit (NotAt l) is = ap (λ n. NotAt n) is.0 ∙ valued_within-none run limit is.1
+
+-- and the first value of a run is one in these words
+valued_of-is : (run : ℕ → Option ℤ) (limit : ℕ) (found : Option (ℕ × ℤ)) → TellsFirst run limit found → IsValued run limit (valued_of limit found)
+valued_of-is run limit None tells = (refl, tells)
+valued_of-is run limit (Some found) tells = tells
+
+pub valued_within-is : (run : ℕ → Option ℤ) (limit : ℕ) → IsValued run limit (valued_within run limit)
+unfolding valued_within
+valued_within-is run limit = valued_of-is run limit (first_answer run limit) (first_answer-tells run limit)
 
 -- every state has the value with which a run ends, from its horizon on: a longer run's states are among a shorter run's
 pub value-reached : (value : List ℕ → ℤ) (split : ℕ) (caps : List ℕ) (f : ℕ → List ℕ → List ℕ) (t : ℕ) (v : ℤ) → AreClosed caps f

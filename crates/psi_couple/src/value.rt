@@ -89,7 +89,7 @@ fn value_after<E: EventLaw, P: Past + Drop, F: Follower + Drop>(
     }
 }
 
-// The same by the least and the greatest state with which the run ends, where the plan's follower finds them and they
+// As `value_after`, by the least and the greatest state with which the run ends, where the plan's follower finds them and they
 // decide. Where they didn't for a run of some length they aren't asked again: the region is followed anyway.
 fn value_by_ends<E: EventLaw, P: Past + Drop, F: Follower + Drop>(
     plan: &mut Plan<'_, E, P, F>,
@@ -109,38 +109,21 @@ fn value_by_ends<E: EventLaw, P: Past + Drop, F: Follower + Drop>(
     if !*by_ends {
         return None;
     }
-    let found = value_of_ends(plan, reward, horizon);
+    let ends = plan.ends(horizon);
+    let found = value_between(reward, ends);
     *by_ends = found.is_some() || horizon < SHORT;
     found
 }
 
-// The same whatever was decided before.
-fn value_of_ends<E: EventLaw, P: Past + Drop, F: Follower + Drop>(
-    plan: &mut Plan<'_, E, P, F>,
-    reward: &Reward,
-    horizon: u32,
-) -> Option<Option<i64>>
-    requires caps { reward_caps reward.now ≡ plan.old.system.caps }
-    requires some { 1 ≤ horizon }
-    requires most { horizon ≤ 2 ^ plan.old.system.limit }
-    ensures value { let f = system_functions E.function plan.old.system (P.words plan.old.past) in
-        IfSome result (λ found. found ≡ value_at (worth_of (reward_kind reward.now)) plan.old.system.split f plan.old.system.caps horizon) }
-    ensures system { plan.new.system ≡ plan.old.system }
-    ensures words { P.words plan.new.past ≡ P.words plan.old.past }
-    ensures over { IsOver plan.new.run }
+// The value that all states of a list have, if they have one, where its ends decide: `None` where they don't, or there are
+// none.
+fn value_between(reward: &Reward, ends: Option<Bounds>) -> Option<Option<i64>>
+    requires { IfSome ends (λ b. IsBelow b.hi (reward_caps reward.now)) }
+    ensures { (states : List (List ℕ)) → IfSome ends (λ b. AreEnds b states) → IfSome result (λ found. found ≡ common_value (worth_of (reward_kind reward.now)) states) }
 {
-    let ends = plan.ends(horizon)?;
-    value_between(reward, &ends)
-}
-
-// The value that all states of a list have, if they have one, where its ends decide: `None` where they don't.
-fn value_between(reward: &Reward, ends: &Bounds) -> Option<Option<i64>>
-    requires { IsBelow ends.now.hi (reward_caps reward.now) }
-    ensures { (states : List (List ℕ)) → AreEnds ends.now states → IfSome result (λ found. found ≡ common_value (worth_of (reward_kind reward.now)) states) }
-{
-    let (least, greatest) = reward.range(ends);
-    if least == greatest {
-        return Some(Some(least));
+    let ends = ends?;
+    if let Some(value) = value_on_box(reward, &ends) {
+        return Some(Some(value));
     }
     let lo = ends.lo();
     let hi = ends.hi();
@@ -150,7 +133,7 @@ fn value_between(reward: &Reward, ends: &Bounds) -> Option<Option<i64>>
     None
 }
 
-// The same by the region of the run.
+// As `value_after`, by the region of the run.
 fn value_by_region<E: EventLaw, P: Past + Drop, F: Follower + Drop>(
     plan: &mut Plan<'_, E, P, F>,
     reward: &Reward,

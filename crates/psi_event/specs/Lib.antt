@@ -3,6 +3,5 @@ pub mod Law
 pub mod Numbers
 pub mod Choice
 pub mod Idle
-pub mod IdleLaws
-pub mod SidesKept
+pub mod Inner
 pub mod Piecewise

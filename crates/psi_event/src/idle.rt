@@ -6,7 +6,7 @@ ghost use Rattle.psi_state.specs.Sets.{image};
 ghost use Rattle.psi_state.specs.Hull.{corners, IsTight};
 ghost use Rattle.psi_event.specs.Law.{IsClosed, IsMonotone, ShowsUpset};
 ghost use Rattle.psi_event.specs.Idle.{unchanged};
-ghost use Rattle.psi_event.specs.IdleLaws.{unchanged-closed};
+ghost use Rattle.psi_event.specs.Inner.IdleLaws.{unchanged-closed};
 
 use crate::law::EventLaw;
 use psi_state::{Bounds, State};

@@ -28,7 +28,7 @@ impl Model for Sides {
     ghost use Rattle.std.specs.Prelude.{◌≡◌, ◌-◌, ◌≤◌, ◌++◌, List, length, take, drop, replicate};
     ghost use Rattle.psi_event.specs.declared.sides.Side.{Side};
     ghost use Rattle.psi_event.specs.declared.sides.Side.TheVariants.{Any};
-    ghost use Rattle.psi_event.specs.SidesKept.{padded};
+    ghost use Rattle.psi_event.specs.Inner.SidesKept.{padded};
 
     ghost Value = { List Side };
 

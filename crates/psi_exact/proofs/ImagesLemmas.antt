@@ -10,7 +10,7 @@ use Rattle.std.proofs.Math.Nat.{mul-le-mul_right}
 use Rattle.psi_state.specs.State.{all_states}
 use Rattle.psi_exact.specs.Ranks.{AreRanksOf}
 use Rattle.psi_exact.specs.declared.learned.LearnedImages.{LearnedImages}
-use Rattle.psi_exact.specs.ImagesKept.{images_at, AreImages, AreLearned, IsSameImages, IsOneMore}
+use Rattle.psi_exact.specs.Inner.ImagesKept.{images_at, AreImages, AreLearned, IsSameImages, IsOneMore}
 
 -- a stretch of a list is the same where more comes after the list
 range-front : (xs ys : List ℕ) (a n : ℕ) → a + n ≤ length xs → slice_range (xs ++ ys) a (a + n) ≡ slice_range xs a (a + n)

@@ -7,7 +7,7 @@ use Rattle.psi_exact.specs.Ranks.{rank_of, state_at}
 use Rattle.psi_exact.proofs.PlacesLemmas.{state_at-below}
 use Rattle.psi_exact.proofs.WalkLemmas.{whole, rank-whole}
 use Rattle.psi_exact.specs.Mapping.{sends}
-use Rattle.psi_exact.specs.TableKept.{table_of, AreRanks}
+use Rattle.psi_exact.specs.Inner.TableKept.{table_of, AreRanks}
 use Rattle.psi_exact.proofs.TablesLemmas.{sends-table_of}
 
 -- what a table has for the rank of a state is the rank of the state that it sends it to

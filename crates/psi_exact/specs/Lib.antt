@@ -2,10 +2,8 @@
 pub mod Ranks
 pub mod Alike
 pub mod Mapping
-pub mod TableKept
+pub mod Inner
 pub mod Distinct
-pub mod ImagesKept
 pub mod Refusal
-pub mod ArraysKept
 pub mod Sizes
 pub mod Surveys

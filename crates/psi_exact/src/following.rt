@@ -7,7 +7,7 @@ ghost use Rattle.psi_rate.specs.Least.{TellsLeast};
 ghost use Rattle.psi_rate.specs.Outcomes.{meeting_at};
 ghost use Rattle.psi_rate.specs.System.{IsSystem};
 ghost use Rattle.psi_exact.specs.Mapping.{map_of};
-ghost use Rattle.psi_exact.specs.ImagesKept.{AreImages, AreLearned};
+ghost use Rattle.psi_exact.specs.Inner.ImagesKept.{AreImages, AreLearned};
 ghost use Rattle.psi_exact.specs.Sizes.{image_sizes};
 ghost use Rattle.psi_exact.specs.Surveys.{meeting_of, meeting_within, IsMeeting, ReachesMeeting, MeetsBelow};
 

@@ -1,7 +1,7 @@
 //! What the first events of a network make of all states, learned once for all steps.
 
 ghost use Rattle.std.specs.Prelude.{◌≡◌, ℕ, ◌+◌, ◌<◌, ◌≤◌, ◌++◌, true, false, length, IfOk};
-ghost use Rattle.psi_exact.specs.ImagesKept.{AreImages, images_at};
+ghost use Rattle.psi_exact.specs.Inner.ImagesKept.{AreImages, images_at};
 
 use psi_state::MOST_EVENTS;
 use std::alloc::{AllocError, Global};

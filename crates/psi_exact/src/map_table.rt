@@ -48,7 +48,7 @@ impl Model for MapTable {
     ghost use Rattle.std.specs.Prelude.{length};
     ghost use Rattle.psi_state.specs.State.{all_states};
     ghost use Rattle.psi_exact.specs.Mapping.{Mapped};
-    ghost use Rattle.psi_exact.specs.ImagesKept.{AreImages};
+    ghost use Rattle.psi_exact.specs.Inner.ImagesKept.{AreImages};
 
     ghost Value = { Mapped };
 

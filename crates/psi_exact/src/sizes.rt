@@ -23,7 +23,7 @@ impl Model for Sizes {
 
     ghost inverse = { λ xs. record { values = xs ++ replicate (13 - length xs) 0; len = length xs } };
 
-    ghost use Rattle.psi_exact.specs.ArraysKept.{padded};
+    ghost use Rattle.psi_exact.specs.Inner.ArraysKept.{padded};
 
     ghost inverse_ok = { λ a h. padded a.values a.len h.1 h.2 h.3 };
 }

@@ -24,7 +24,7 @@ pub(crate) struct Table {
 
 impl Model for Table {
     ghost use Rattle.psi_exact.specs.Mapping.{Mapped};
-    ghost use Rattle.psi_exact.specs.TableKept.{table_of, IsTable};
+    ghost use Rattle.psi_exact.specs.Inner.TableKept.{table_of, IsTable};
 
     ghost Value = { Mapped };
 
@@ -36,8 +36,8 @@ impl Model for Table {
 impl Table {
     ghost use Rattle.psi_exact.specs.Mapping.{map_of, sends};
     ghost use Rattle.psi_exact.specs.Ranks.{AreRanksOf};
-    ghost use Rattle.psi_exact.specs.TableKept.{AreRanks};
-    ghost use Rattle.psi_exact.specs.ImagesKept.{AreImages, IsSameImages, IsOneMore};
+    ghost use Rattle.psi_exact.specs.Inner.TableKept.{AreRanks};
+    ghost use Rattle.psi_exact.specs.Inner.ImagesKept.{AreImages, IsSameImages, IsOneMore};
 
     /// Makes the table of the map that sends each of all states to itself; `states` is their number.
     pub(crate) fn reserve(alloc: Global, caps: State, states: u32) -> Result<Table, AllocError>

@@ -58,9 +58,7 @@ pub fn way_of<'n, E: PiecewiseLaw + RouteLaw>(
 ) -> Result<Way<'n, E>, OutOfMemory>
     ensures { IfOk result (λ way. ⟦<Way<'n, E> as Follower>⟧.stands_for way ≡ network_of E.function system.now) }
 {
-    // Called for its clause: the parts fit each other.
-    let caps = system.caps();
-    let course = Course::new(caps, system.events(), system.split());
+    let course = Course::new(system.caps(), system.events(), system.split());
     if are_monotone(&course) {
         corners_of(alloc, course)
     } else {

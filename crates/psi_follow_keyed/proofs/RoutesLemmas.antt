@@ -6,7 +6,7 @@ use Rattle.psi_state.specs.State.{IsBelow}
 use Rattle.psi_route.specs.declared.parts.Source.{Source}
 use Rattle.psi_route.specs.Routing.{Shape, Routing, routing, weight, source_queue, source_least, taken, moved, routed, IsBest}
 use Rattle.psi_route.specs.Acting.{NoRoom}
-use Rattle.psi_route.specs.ActingLaws.{act-idle, act-serves}
+use Rattle.psi_route.specs.Inner.ActingLaws.{act-idle, act-serves}
 use Rattle.psi_route.specs.Accepted.{IsRouteShape}
 use Rattle.psi_route.proofs.ActingLemmas.{act-some, act-lost, best-none, taken-past}
 use Rattle.psi_follow_keyed.specs.Keys.{Keys, no_key, cap_at, AreRanked, key_in, left, Joins, IsBoardFor}

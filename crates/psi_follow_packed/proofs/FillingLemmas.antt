@@ -15,7 +15,7 @@ use Rattle.psi_state.proofs.BoxesLemmas.{below-head, below-tail, below-cons, bel
 use Rattle.psi_state.proofs.VolumeLemmas.{length-box, volume-some, volume-drop, volume-drop-some}
 use Rattle.psi_follow_packed.specs.Packed.{Packing, IsPacking, packed}
 use Rattle.psi_follow_packed.specs.declared.layout.Packed.{Packed}
-use Rattle.psi_follow_packed.specs.FillingKept.{words_at, words_in, AreSums, AreRepeated, AreBehind}
+use Rattle.psi_follow_packed.specs.Inner.FillingKept.{words_at, words_in, AreSums, AreRepeated, AreBehind}
 use Rattle.psi_follow_packed.proofs.DigitsLemmas.{digits-same, digits-add}
 use Rattle.psi_follow_packed.proofs.WordsLemmas.{fields_of, packed-at, packed-lt, length-packed, below-fit}
 

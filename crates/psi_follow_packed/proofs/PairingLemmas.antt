@@ -1,11 +1,11 @@
 -- Lists of pairs, the lists of their words, and the loops over them.
-use Rattle.std.specs.Prelude.{◌≡◌, ℕ, suc, ◌+◌, ◌-◌, ◌%◌, ◌^◌, ◌<◌, Bool, true, false, ◌&&◌, List, [], length, map, slice_index, slice_index_or, slice_set, nat_eq, bit_and}
-use Rattle.std.proofs.Common.{ap, ap₂, sym, subst, ◌∙◌, arith, below_more, get_or-set_same, get_or-set_other}
+use Rattle.std.specs.Prelude.{◌≡◌, ℕ, suc, ◌+◌, ◌-◌, ◌%◌, ◌^◌, ◌<◌, Bool, true, false, ◌&&◌, List, [], length, map, slice_index, slice_index_or, slice_set, nat_eq, bit_and, bit_or, if◌then◌else◌}
+use Rattle.std.proofs.Common.{refl, ap, ap₂, sym, subst, ◌∙◌, arith, below_more, get_or-set_same, get_or-set_other}
 use Rattle.std.proofs.Math.ListN.{get_or-map}
 use Rattle.std.proofs.lemmas.List.{map-set, length-map}
 use Rattle.std.specs.Int.Bits.{and_zero_l, and_zero_r}
 use Rattle.std.proofs.lemmas.Nat.{and_mask}
-use Rattle.psi_follow_packed.specs.Moves.{Masks, holds}
+use Rattle.psi_follow_packed.specs.Moves.{Masks, holds, same_words}
 use Rattle.psi_follow_packed.specs.Views.{words_by, masks_by, low_word, high_word}
 use Rattle.psi_follow_packed.specs.declared.pairs.Pair.{Pair}
 use Rattle.psi_follow_packed.specs.declared.pairs.PackedPair.{PackedPair}
@@ -89,3 +89,19 @@ pairs-more {K} word event x at first second v pairs p small one two here own cha
     (words_by word event.first.change) (words_by word event.second.change) (words_by word x) l)
     (sym (map-set word pairs at p ∙ ap (λ w. slice_set (map word pairs) at w) made))
     (changed-more K at _ _ first second (words_by word event.first.change) (words_by word event.second.change) (words_by word x) (map word pairs) small one two changed)
+
+-- ones where one of two tests fails
+apart-both : (a b : Bool) → bit_or (if a then 0 else 2 ^ 64 - 1) (if b then 0 else 2 ^ 64 - 1) ≡ (if a && b then 0 else 2 ^ 64 - 1)
+apart-both true true = refl
+apart-both true false = refl
+apart-both false true = refl
+apart-both false false = refl
+
+-- whether one word more is the same
+pub apart-more : (at : ℕ) (x y : List ℕ) (apart own next v w : ℕ) → apart ≡ (if same_words at x y then 0 else 2 ^ 64 - 1) → own ≡ (if nat_eq v w then 0 else 2 ^ 64 - 1)
+    → v ≡ slice_index x at → w ≡ slice_index y at → next ≡ bit_or apart own → next ≡ (if same_words (at + 1) x y then 0 else 2 ^ 64 - 1)
+apart-more at x y apart own next v w before one first second both =
+    let e : suc at ≡ at + 1 = omega arith in
+    both ∙ ap₂ bit_or before (one ∙ ap₂ (λ a b. if nat_eq a b then 0 else 2 ^ 64 - 1) first second)
+    ∙ apart-both (same_words at x y) (nat_eq (slice_index x at) (slice_index y at))
+    ∙ ap (λ n. if same_words n x y then 0 else 2 ^ 64 - 1) e

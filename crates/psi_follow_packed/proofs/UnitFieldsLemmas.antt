@@ -9,7 +9,7 @@ use Rattle.psi_event.specs.declared.sides.Side.{Side}
 use Rattle.psi_event.specs.declared.sides.Side.TheVariants.{Any, AtLeast, Below}
 use Rattle.psi_follow_packed.specs.Packed.{Packing, IsPacking}
 use Rattle.psi_follow_packed.specs.UnitEvents.{IsUnitAt}
-use Rattle.psi_follow_packed.specs.BitsKept.{HasNone, HasOne, HasTwoIn, HasTwoOf, HasSeveral, AreEach, ChoosesAlone}
+use Rattle.psi_follow_packed.specs.Inner.BitsKept.{HasNone, HasOne, HasTwoIn, HasTwoOf, HasSeveral, AreEach, ChoosesAlone}
 use Rattle.psi_follow_packed.proofs.DigitsLemmas.{digits, digits-same, digits-zero, digits-and, digits-lt}
 use Rattle.psi_follow_packed.proofs.WordsLemmas.{twice-guard}
 use Rattle.psi_follow_packed.proofs.LoweringLemmas.{and-same}

@@ -187,67 +187,62 @@ module _ (caps : List ℕ) (p : Piecewise) (f : List ℕ → List ℕ) (does : D
         reached = inr (keeps (h q) (step-at q small).0 (omega arith), ((step-at q small).0, omega arith));
       }
 
+    -- a queue where the event happens with some number of each
+    record IsOpen (q : ℕ) : Type 0 where
+      pub one : u q + d q ≤ 1
+      pub room : u q + d q ≤ c q
+      pub order : l q ≤ h q
+      pub top : h q ≤ c q
+      pub low : l q ≤ c q - u q
+      pub high : d q ≤ h q
+
     module _ (can : CanMoveAll (unit_rule caps p) lo hi) (q : ℕ) (small : q < length caps) where
+      open-at : IsOpen q
+      open-at = record {
+        one = (queue-at q small).one;
+        room = (queue-at q small).room;
+        order = (step-at q small).0;
+        top = (step-at q small).1;
+        low = can.low q small;
+        high = can.high q small;
+      }
+
       -- where no other queue stops it
       module _ (alone : OtherLeaves (unit_rule caps p) lo hi q → ⊥) where
         pub low-alone : IsLow (unit_rule caps p) lo hi q (l q + u q - min (d q) (l q))
         low-alone =
-            let is = queue-at q small in
-            let step = step-at q small in
-            let low = can.low q small in
-            let high = can.high q small in
+            let is = open-at in
             record {
-              moved = λ _. omega (arith, is.one, is.room, step.0, step.1, low, high);
-              kept = λ v from to keep. elim keep [
-                | inl other ↦ absurd (alone other)
-                | inr out ↦ elim out [ inl under ↦ omega (arith, is.one, step.0, step.1, low, from, under) | inr over ↦ omega (arith, is.one, step.0, step.1, low, from, to, over) ]
-              ];
-              reached = inl (can, omega (arith, is.one, is.room, step.0, step.1, low, high));
+              moved = λ _. omega arith;
+              kept = λ v from to keep. elim keep [ inl other ↦ absurd (alone other) | inr out ↦ elim out [ inl under ↦ omega arith | inr over ↦ omega arith ] ];
+              reached = inl (can, omega arith);
             }
 
         pub high-alone : IsHigh (unit_rule caps p) lo hi q (h q + u q - (u q - (c q - h q) + d q))
         high-alone =
-            let is = queue-at q small in
-            let step = step-at q small in
-            let low = can.low q small in
-            let high = can.high q small in
+            let is = open-at in
             record {
-              moved = λ _. omega (arith, is.one, is.room, step.0, step.1, low, high);
-              kept = λ v from to keep. elim keep [
-                | inl other ↦ absurd (alone other)
-                | inr out ↦ elim out [ inl under ↦ omega (arith, is.one, step.0, step.1, high, from, to, under) | inr over ↦ omega (arith, is.one, step.0, step.1, low, from, to, over) ]
-              ];
-              reached = inl (can, omega (arith, is.one, is.room, step.0, step.1, low, high));
+              moved = λ _. omega arith;
+              kept = λ v from to keep. elim keep [ inl other ↦ absurd (alone other) | inr out ↦ elim out [ inl under ↦ omega arith | inr over ↦ omega arith ] ];
+              reached = inl (can, omega arith);
             }
 
       -- where another one may
       module _ (other : OtherLeaves (unit_rule caps p) lo hi q) where
         pub low-kept : IsLow (unit_rule caps p) lo hi q (l q - min (d q) (l q))
         low-kept =
-            let is = queue-at q small in
-            let step = step-at q small in
-            let low = can.low q small in
-            let high = can.high q small in
+            let is = open-at in
             record {
-              moved = λ _. omega (arith, is.one, is.room, step.0, step.1, low, high);
-              kept = λ v from to keep. omega (arith, from);
-              reached = elim (cases_lt 0 (d q)) [
-                | inl some ↦ inl (can, omega (arith, is.one, is.room, step.0, step.1, low, high, some))
-                | inr none ↦ inr (inl other, (omega (arith, none), omega (arith, none, step.0)))
-              ];
+              moved = λ _. omega arith;
+              kept = λ v from to keep. omega arith;
+              reached = elim (cases_lt 0 (d q)) [ inl some ↦ inl (can, omega arith) | inr none ↦ inr (inl other, (omega arith, omega arith)) ];
             }
 
         pub high-kept : IsHigh (unit_rule caps p) lo hi q (h q + u q - (u q - (c q - h q)))
         high-kept =
-            let is = queue-at q small in
-            let step = step-at q small in
-            let low = can.low q small in
-            let high = can.high q small in
+            let is = open-at in
             record {
-              moved = λ _. omega (arith, is.one, is.room, step.0, step.1, low, high);
-              kept = λ v from to keep. omega (arith, to, step.1);
-              reached = elim (cases_lt 0 (u q)) [
-                | inl some ↦ inl (can, omega (arith, is.one, is.room, step.0, step.1, low, high, some))
-                | inr none ↦ inr (inl other, (omega (arith, none, step.0), omega (arith, none)))
-              ];
+              moved = λ _. omega arith;
+              kept = λ v from to keep. omega arith;
+              reached = elim (cases_lt 0 (u q)) [ inl some ↦ inl (can, omega arith) | inr none ↦ inr (inl other, (omega arith, omega arith)) ];
             }

@@ -23,8 +23,8 @@ use Rattle.psi_follow_packed.specs.Packed.{Packing, packed}
 use Rattle.psi_follow_packed.specs.Moves.{guard}
 use Rattle.psi_follow_packed.specs.Boxes.{AreCorners}
 use Rattle.psi_follow_packed.specs.UnitEvents.{UnitMasks, IsUnitFor}
-use Rattle.psi_follow_packed.specs.BitsKept.{ChoosesAlone}
-use Rattle.psi_follow_packed.specs.FillingKept.{AreSums}
+use Rattle.psi_follow_packed.specs.Inner.BitsKept.{ChoosesAlone}
+use Rattle.psi_follow_packed.specs.Inner.FillingKept.{AreSums}
 use Rattle.psi_follow_packed.proofs.DigitsLemmas.{digits, digits-same, digits-zero, digits-add}
 use Rattle.psi_follow_packed.proofs.WordsLemmas.{fields_of, packed-at, length-packed, below-guard, twice-guard}
 use Rattle.psi_follow_packed.proofs.TestingLemmas.{mapped-at, mapped-past}

@@ -4,6 +4,5 @@ pub mod Moves
 pub mod Programs
 pub mod Boxes
 pub mod Views
-pub mod FillingKept
+pub mod Inner
 pub mod UnitEvents
-pub mod BitsKept

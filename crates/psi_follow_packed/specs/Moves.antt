@@ -31,6 +31,11 @@ holds zero offsets m x = true
 holds (suc w) offsets m x =
     holds w offsets m x && nat_eq (bit_and ((slice_index x w + slice_index offsets w) % 2 ^ 64) (slice_index m.guards w)) (slice_index m.wanted w)
 
+-- the first words of two lists are the same
+abbrev pub same_words : ℕ → List ℕ → List ℕ → Bool
+same_words zero x y = true
+same_words (suc w) x y = same_words w x y && nat_eq (slice_index x w) (slice_index y w)
+
 -- y is what a move makes of so many words
 pub record IsMoved (count : ℕ) (m : Moving) (x y : List ℕ) : Type 0 where
   pub long : length y ≡ count

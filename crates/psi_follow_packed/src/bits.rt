@@ -1,7 +1,7 @@
 //! How many bits of some words are one, and the masks that are made of it.
 
 ghost use Rattle.std.specs.Prelude.{◌≡◌, ◌+◌, ℕ, List, slice_index};
-ghost use Rattle.psi_follow_packed.specs.BitsKept.{KnowsBits, ChoosesAlone};
+ghost use Rattle.psi_follow_packed.specs.Inner.BitsKept.{KnowsBits, ChoosesAlone};
 
 use crate::layout::Packed;
 

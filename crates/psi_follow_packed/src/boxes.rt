@@ -8,9 +8,9 @@ ghost use Rattle.psi_follow_packed.specs.Views.{low_words, high_words};
 
 use crate::layout::Packed;
 use crate::pairs::PackedPair;
-use crate::program::Program;
+use crate::program::MaskProgram;
 
-impl<const K: usize> Program<K> {
+impl<const K: usize> MaskProgram<K> {
     /// Returns whether the box between the two packed states, of which the low one is nowhere above the high one, has
     /// at most `most` states.
     pub fn box_has_at_most(&self, x: &PackedPair<K>, most: u32) -> bool

@@ -2,13 +2,13 @@
 
 ghost use Rattle.std.specs.Prelude.{◌≡◌, All, length, map, IfOk, IfSome};
 ghost use Rattle.psi_state.specs.State.{zeros};
-ghost use Rattle.psi_event.specs.Law.{IsMonotone};
+ghost use Rattle.psi_event.specs.Law.{IsClosed, IsMonotone};
 ghost use Rattle.psi_event.specs.Numbers.{follow_numbers, AreEvents};
 ghost use Rattle.psi_follow_packed.specs.Programs.{Prepares};
 ghost use Rattle.psi_region.specs.Followed.{followed, AreEnds, states_of, ending_of};
 
 use crate::layout::Layout;
-use crate::program::Program;
+use crate::program::MaskProgram;
 use psi_event::{EventLaw, PiecewiseLaw};
 use psi_region::{Course, Follower, one_of};
 use psi_state::{Bounds, State};
@@ -20,7 +20,7 @@ use std::marker::Model;
 /// It is seen as the network that it stands for.
 pub struct PackedCorners<'n, const K: usize, E: EventLaw> {
     course: Course<'n, E>,
-    program: Program<K>,
+    program: MaskProgram<K>,
 }
 
 impl<'n, const K: usize, E: EventLaw> Model for PackedCorners<'n, K, E> {
@@ -64,7 +64,7 @@ impl<'n, const K: usize, E: PiecewiseLaw> PackedCorners<'n, K, E> {
         let Some(layout) = Layout::new(course.caps()) else {
             return Ok(None);
         };
-        let Some(program) = Program::new(alloc, layout, course.events())? else {
+        let Some(program) = MaskProgram::new(alloc, layout, course.events())? else {
             return Ok(None);
         };
         Ok(Some(PackedCorners {
@@ -78,15 +78,11 @@ impl<'n, const K: usize, E: EventLaw> Follower for PackedCorners<'n, K, E> {
     ghost stands_for = { λ n. followed E.function n };
 
     fn ending(&mut self, numbers: &[u16]) -> Option<State> {
-        // Called for its clause: each event makes states of states.
-        let _caps = self.course.caps();
         let (least, greatest) = moved_corners(&self.program, &self.course, numbers);
         one_of(least, greatest)
     }
 
     fn ends(&mut self, numbers: &[u16]) -> Option<Bounds> {
-        // Called for its clause: each event makes states of states.
-        let _caps = self.course.caps();
         let (least, greatest) = moved_corners(&self.program, &self.course, numbers);
         Some(Bounds::new(least, greatest))
     }
@@ -94,12 +90,13 @@ impl<'n, const K: usize, E: EventLaw> Follower for PackedCorners<'n, K, E> {
 
 // What the events of the numbers, the last first, make of the least and of the greatest state, on packed states.
 fn moved_corners<const K: usize, E: EventLaw>(
-    program: &Program<K>,
+    program: &MaskProgram<K>,
     course: &Course<'_, E>,
     numbers: &[u16],
 ) -> (State, State)
     requires program { Prepares K course.now.caps (map E.function course.now.events) program.now }
     requires numbers { AreEvents (length (map E.function course.now.events)) numbers.now }
+    ensures closed { All (λ f. IsClosed course.now.caps f) (map E.function course.now.events) }
     ensures least { result.0 ≡ follow_numbers (map E.function course.now.events) numbers.now (zeros course.now.caps) }
     ensures greatest { result.1 ≡ follow_numbers (map E.function course.now.events) numbers.now course.now.caps }
 {

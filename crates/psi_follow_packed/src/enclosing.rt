@@ -12,12 +12,12 @@ ghost use Rattle.psi_follow_packed.specs.UnitEvents.{IsUnitAt, IsUnit, IsUnitFor
 use crate::bits::alone;
 use crate::moves::difference;
 use crate::pairs::PackedPair;
-use crate::program::Program;
+use crate::program::MaskProgram;
 use crate::unit_events::UnitEvent;
 use psi_event::{Piecewise, PiecewiseLaw, Side};
 use psi_state::State;
 
-impl<const K: usize> Program<K> {
+impl<const K: usize> MaskProgram<K> {
     /// Returns the event on packed corners, where it is one of single customers and declares its pieces.
     pub fn unit_event<E: PiecewiseLaw>(&self, event: &E) -> Option<UnitEvent<K>>
         requires { E.capacities event.now ≡ self.now.packing.caps }

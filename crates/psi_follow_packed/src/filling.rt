@@ -7,13 +7,13 @@
 ghost use Rattle.std.specs.Prelude.{◌≡◌, ◌-◌, ◌+◌, ◌*◌, ◌<◌, ◌≤◌, suc, length, map, take, replicate, slice_index, slice_set};
 ghost use Rattle.psi_state.specs.State.{IsBelow, box};
 ghost use Rattle.psi_follow_packed.specs.Packed.{packed};
-ghost use Rattle.psi_follow_packed.specs.FillingKept.{AreSums, AreBehind, AreRepeated};
+ghost use Rattle.psi_follow_packed.specs.Inner.FillingKept.{AreSums, AreBehind, AreRepeated};
 
 use crate::layout::Packed;
-use crate::program::Program;
+use crate::program::MaskProgram;
 use psi_state::{Bounds, State};
 
-impl<const K: usize> Program<K> {
+impl<const K: usize> MaskProgram<K> {
     /// Packs the states of the box, one after another in lexicographic order, and returns how many
     /// there are. They are within the capacities.
     pub fn pack_box(&self, bounds: &Bounds, out: &mut [Packed<K>]) -> usize

@@ -18,5 +18,5 @@ pub use corners::PackedCorners;
 pub use layout::{Layout, Packed};
 pub use moves::{Masks, PackedEvent};
 pub use pairs::{PackedPair, Pair};
-pub use program::Program;
+pub use program::MaskProgram;
 pub use unit_events::UnitEvent;

@@ -3,7 +3,7 @@
 ghost use Rattle.std.specs.Prelude.{◌≡◌, ◌<◌, ◌+◌, ◌-◌, ◌%◌, ◌^◌, ◌↔◌, ℕ, false, IsTrue, length, slice_index, nat_eq, bit_and, if◌then◌else◌};
 ghost use Rattle.psi_follow_packed.specs.Views.{low_words, high_words, low_word, high_word, masks_by, moving_by};
 ghost use Rattle.psi_event.specs.Piecewise.{IsPiece, IsPiecewise};
-ghost use Rattle.psi_follow_packed.specs.Moves.{holds, AreMasksOf, IsMoveOf, IsMoved, IsLowered, IsOfFirst, ChangesNothing};
+ghost use Rattle.psi_follow_packed.specs.Moves.{holds, same_words, AreMasksOf, IsMoveOf, IsMoved, IsLowered, IsOfFirst, ChangesNothing};
 ghost use Rattle.psi_follow_packed.specs.Views.{pair_at};
 
 use crate::layout::{Layout, Packed};
@@ -88,8 +88,8 @@ impl<const K: usize> PackedEvent<K> {
         }
     }
 
-    // Whether the second piece changes no state.
-    pub(crate) fn is_of_one_piece(&self) -> bool
+    /// Returns whether the second piece changes no state.
+    pub fn is_of_one_piece(&self) -> bool
         ensures { IsTrue result ↔ ChangesNothing K (masks_by low_word self.now.second) }
     {
         self.second.changes_nothing()
@@ -102,6 +102,22 @@ impl<const K: usize> PackedEvent<K> {
         ensures high { IsMoved K (moving_by high_word self.now) (high_words x.old) (high_words x.new) }
     {
         self.advance_by::<true>(x);
+    }
+
+    /// Puts what the event makes of each of the two packed states in its place, where its second piece changes no state. Returns for
+    /// each of them all bits one where some of its words changed, and none otherwise.
+    #[inline]
+    pub fn advance_first(&self, x: &mut PackedPair<K>) -> Pair
+        requires low { IsOfFirst K (moving_by low_word self.now) }
+        requires high { IsOfFirst K (moving_by high_word self.now) }
+        ensures low { IsMoved K (moving_by low_word self.now) (low_words x.old) (low_words x.new) }
+        ensures high { IsMoved K (moving_by high_word self.now) (high_words x.old) (high_words x.new) }
+        ensures low_changed { low_word result ≡ (if same_words K (low_words x.new) (low_words x.old) then 0 else 2 ^ 64 - 1) }
+        ensures high_changed { high_word result ≡ (if same_words K (high_words x.new) (high_words x.old) then 0 else 2 ^ 64 - 1) }
+    {
+        let before = *x;
+        self.advance_by::<false>(x);
+        x.apart(&before)
     }
 
     // The same, by both pieces or, where the second changes no state, by the first alone.

@@ -3,6 +3,7 @@
 ghost use Rattle.std.specs.Prelude.{◌≡◌, ◌↔◌, ◌<◌, ◌+◌, ◌%◌, ◌^◌, ◌-◌, slice_index, IsTrue, nat_eq, bit_and, bit_or, replicate, if◌then◌else◌};
 ghost use Rattle.psi_follow_packed.specs.Boxes.{AreGaps};
 ghost use Rattle.psi_follow_packed.specs.Views.{words_by, low_word, high_word, low_words, high_words};
+ghost use Rattle.psi_follow_packed.specs.Moves.{same_words};
 
 use crate::layout::Packed;
 use std::simd::prelude::*;
@@ -23,9 +24,9 @@ pub struct PackedPair<const K: usize> {
 }
 
 impl Pair {
-    // A word of the low state and one of the high state.
+    /// Returns a word of the low state and one of the high state.
     #[inline]
-    pub(crate) fn of(low: u64, high: u64) -> Pair
+    pub fn of(low: u64, high: u64) -> Pair
         ensures low { low_word result ≡ low }
         ensures high { high_word result ≡ high }
     {
@@ -45,25 +46,25 @@ impl Pair {
         }
     }
 
-    // The word of the low state.
+    /// Returns the word of the low state.
     #[inline]
-    pub(crate) fn low(self) -> u64
+    pub fn low(self) -> u64
         ensures { result ≡ low_word self }
     {
         self.lanes.to_array()[0]
     }
 
-    // The word of the high state.
+    /// Returns the word of the high state.
     #[inline]
-    pub(crate) fn high(self) -> u64
+    pub fn high(self) -> u64
         ensures { result ≡ high_word self }
     {
         self.lanes.to_array()[1]
     }
 
-    // The sums, modulo 2^64.
+    /// Returns the sums, modulo 2^64.
     #[inline]
-    pub(crate) fn plus(self, other: Pair) -> Pair
+    pub fn plus(self, other: Pair) -> Pair
         ensures low { low_word result ≡ (low_word self + low_word other) % 2 ^ 64 }
         ensures high { high_word result ≡ (high_word self + high_word other) % 2 ^ 64 }
     {
@@ -72,9 +73,9 @@ impl Pair {
         }
     }
 
-    // The bits that are one in both.
+    /// Returns the bits that are one in both.
     #[inline]
-    pub(crate) fn and(self, other: Pair) -> Pair
+    pub fn and(self, other: Pair) -> Pair
         ensures low { low_word result ≡ bit_and (low_word self) (low_word other) }
         ensures high { high_word result ≡ bit_and (high_word self) (high_word other) }
     {
@@ -105,9 +106,34 @@ impl Pair {
             lanes: are_equal.select(u64x2::splat(u64::MAX), u64x2::splat(0)),
         }
     }
+
+    // All bits one where the words are not equal, and none otherwise.
+    #[inline]
+    fn ones_if_apart(self, other: Pair) -> Pair
+        ensures low { low_word result ≡ (if nat_eq (low_word self) (low_word other) then 0 else 2 ^ 64 - 1) }
+        ensures high { high_word result ≡ (if nat_eq (high_word self) (high_word other) then 0 else 2 ^ 64 - 1) }
+    {
+        let are_equal = self.lanes.simd_eq(other.lanes);
+        Pair {
+            lanes: are_equal.select(u64x2::splat(0), u64x2::splat(u64::MAX)),
+        }
+    }
 }
 
 impl<const K: usize> PackedPair<K> {
+    // All bits one for each of the two states of which a word is another than in the second pair, and none otherwise.
+    #[inline]
+    pub(crate) fn apart(&self, other: &PackedPair<K>) -> Pair
+        ensures low { low_word result ≡ (if same_words K (low_words self.now) (low_words other.now) then 0 else 2 ^ 64 - 1) }
+        ensures high { high_word result ≡ (if same_words K (high_words self.now) (high_words other.now) then 0 else 2 ^ 64 - 1) }
+    {
+        let mut apart = Pair::twice(0);
+        for at in 0..K {
+            apart = apart.or(self.pairs[at].ones_if_apart(other.pairs[at]));
+        }
+        apart
+    }
+
     /// Two packed states, side by side.
     #[inline]
     pub fn of(low: &Packed<K>, high: &Packed<K>) -> PackedPair<K>

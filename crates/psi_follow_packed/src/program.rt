@@ -16,14 +16,14 @@ use std::alloc::{AllocError, Global};
 use std::marker::Model;
 
 /// The events of a network whose states fit `K` words and whose events are all of pieces.
-pub struct Program<const K: usize> {
+pub struct MaskProgram<const K: usize> {
     pub(crate) layout: Layout<K>,
     pub(crate) moves: Vec<PackedEvent<K>>,
     // Where it is true, no second piece changes a state.
     first_alone: bool,
 }
 
-impl<const K: usize> Model for Program<K> {
+impl<const K: usize> Model for MaskProgram<K> {
     ghost use Rattle.std.specs.Prelude.{map};
     ghost use Rattle.psi_follow_packed.specs.Programs.{Prepared, IsTwice};
     ghost use Rattle.psi_follow_packed.specs.Views.{low_word, high_word, moving_by};
@@ -36,9 +36,9 @@ impl<const K: usize> Model for Program<K> {
 }
 
 // By hand, so that the end of a program is a call where it ends, and not all of its steps.
-impl<const K: usize> Drop for Program<K> {
+impl<const K: usize> Drop for MaskProgram<K> {
     fn drop(self) {
-        let Program {
+        let MaskProgram {
             layout: _,
             moves: _,
             first_alone: _,
@@ -46,7 +46,7 @@ impl<const K: usize> Drop for Program<K> {
     }
 }
 
-impl<const K: usize> Program<K> {
+impl<const K: usize> MaskProgram<K> {
     /// Returns the events on states that are packed so; `None` where an event declares no pieces.
     ///
     /// # Errors
@@ -56,7 +56,7 @@ impl<const K: usize> Program<K> {
         alloc: Global,
         layout: Layout<K>,
         events: &[E],
-    ) -> Result<Option<Program<K>>, AllocError>
+    ) -> Result<Option<MaskProgram<K>>, AllocError>
         requires { All (λ e. E.capacities e ≡ layout.caps) events.now }
         ensures { IfOk result (λ program. IfSome program (λ p. Prepares K layout.entry.caps (map E.function events.now) p)) }
     {
@@ -70,7 +70,7 @@ impl<const K: usize> Program<K> {
             first_alone &= own.is_of_one_piece();
             moves.push_reserved(own);
         }
-        Ok(Some(Program {
+        Ok(Some(MaskProgram {
             layout,
             moves,
             first_alone,

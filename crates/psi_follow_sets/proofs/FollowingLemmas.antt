@@ -15,8 +15,8 @@ use Rattle.psi_follow_packed.specs.Programs.{Prepared, Follows, AllFollow}
 use Rattle.psi_follow_packed.proofs.FollowingLemmas.{follow_numbers-within}
 use Rattle.psi_follow_packed.specs.Views.{low_words, high_words, pair_at}
 use Rattle.psi_follow_packed.specs.declared.pairs.PackedPair.{PackedPair}
-use Rattle.psi_follow_sets.specs.HalvesKept.{halves, AreAll, AreTwo}
-use Rattle.psi_follow_sets.specs.HoldingKept.{Holds, SetFollows}
+use Rattle.psi_follow_sets.specs.Inner.HalvesKept.{halves, AreAll, AreTwo}
+use Rattle.psi_follow_sets.specs.Inner.HoldingKept.{Holds, SetFollows}
 use Rattle.psi_follow_sets.proofs.HalvingLemmas.{same-through, In-low, In-high, place-of}
 
 -- the packed states of each pair follow the numbers

@@ -10,7 +10,7 @@ use Rattle.psi_state.specs.Ascending.{HaveSame}
 use Rattle.psi_follow_packed.specs.Views.{low_words, high_words, pair_at}
 use Rattle.psi_follow_packed.specs.declared.layout.Packed.{Packed}
 use Rattle.psi_follow_packed.specs.declared.pairs.PackedPair.{PackedPair}
-use Rattle.psi_follow_sets.specs.HalvesKept.{halves, words_of_first, AreAll, AreTwo}
+use Rattle.psi_follow_sets.specs.Inner.HalvesKept.{halves, words_of_first, AreAll, AreTwo}
 
 -- ---- the same members
 

@@ -1,7 +1,7 @@
 -- What the lists of a set of packed states keep, and what the set is seen as.
 use Rattle.std.specs.Prelude.{◌≡◌, ℕ, ◌*◌, ◌<◌, ◌≤◌, List, length, take, slice_index, EachIndex}
 use Rattle.psi_follow_sets.specs.declared.lists.Lists.{Lists}
-use Rattle.psi_follow_sets.specs.HalvesKept.{halves}
+use Rattle.psi_follow_sets.specs.Inner.HalvesKept.{halves}
 
 -- the number of states that there is room for
 pub record Room : Type 0 where

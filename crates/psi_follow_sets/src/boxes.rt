@@ -7,10 +7,10 @@ ghost use Rattle.psi_event.specs.Law.{Function};
 ghost use Rattle.psi_follow_packed.specs.Views.{low_words, high_words};
 ghost use Rattle.psi_follow_sets.specs.Sets.{IsPackedBox};
 ghost use Rattle.psi_follow_packed.specs.UnitEvents.{Encloses};
-ghost use Rattle.psi_follow_sets.specs.UnitsKept.{AreUnitEvents};
+ghost use Rattle.psi_follow_sets.specs.Inner.UnitsKept.{AreUnitEvents};
 
 use psi_event::{EventLaw, PiecewiseLaw};
-use psi_follow_packed::{PackedPair, Program, UnitEvent};
+use psi_follow_packed::{MaskProgram, PackedPair, UnitEvent};
 use psi_region::Course;
 use psi_state::Bounds;
 use std::alloc::{AllocError, Global};
@@ -34,7 +34,7 @@ pub(crate) fn halts_of<E: EventLaw>(
 // The events of single customers, by their numbers.
 pub(crate) fn units_of<const K: usize, E: PiecewiseLaw>(
     alloc: Global,
-    program: &Program<K>,
+    program: &MaskProgram<K>,
     course: &Course<'_, E>,
 ) -> Result<Vec<Option<UnitEvent<K>>>, AllocError>
     requires { course.now.caps ≡ program.now.packing.caps }
@@ -64,7 +64,7 @@ pub(crate) fn are_units<const K: usize>(halts: &[bool], units: &[Option<UnitEven
 
 // Replaces the corners of a box by those of the event's envelope of it.
 pub(crate) fn enclose_by<const K: usize, E: EventLaw>(
-    program: &Program<K>,
+    program: &MaskProgram<K>,
     event: &E,
     x: &mut PackedPair<K>,
 )
@@ -78,7 +78,7 @@ pub(crate) fn enclose_by<const K: usize, E: EventLaw>(
 }
 
 // The box between two packed corners.
-pub(crate) fn bounds_of<const K: usize>(program: &Program<K>, x: &PackedPair<K>) -> Bounds
+pub(crate) fn bounds_of<const K: usize>(program: &MaskProgram<K>, x: &PackedPair<K>) -> Bounds
     requires { IsPackedBox K program.now.packing (low_words x.now) (high_words x.now) }
     ensures { (lo hi : List ℕ) → AreCorners K program.now.packing (low_words x.now) (high_words x.now) lo hi → result ≡ record { lo = lo; hi = hi } }
 {

@@ -2,7 +2,7 @@
 
 ghost use Rattle.std.specs.Prelude.{◌≡◌, ◌+◌, ◌*◌, ◌/◌, ◌<◌, ◌≤◌, ◌∷◌, MatchOption, length, take, slice_index, EachIndex};
 ghost use Rattle.psi_state.specs.Ascending.{HaveSame};
-ghost use Rattle.psi_follow_sets.specs.HalvesKept.{halves, words_of_first, AreAll, AreTwo};
+ghost use Rattle.psi_follow_sets.specs.Inner.HalvesKept.{halves, words_of_first, AreAll, AreTwo};
 
 use psi_follow_packed::{Packed, PackedPair};
 

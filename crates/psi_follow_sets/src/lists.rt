@@ -7,13 +7,13 @@ ghost use Rattle.std.specs.Prelude.{◌≡◌, ◌*◌, ◌<◌, ◌≤◌, ◌�
 ghost use Rattle.psi_state.specs.State.{IsBelow, box};
 ghost use Rattle.psi_state.specs.Ascending.{HaveSame};
 ghost use Rattle.psi_follow_packed.specs.Packed.{packed};
-ghost use Rattle.psi_follow_sets.specs.HalvesKept.{AreAll, AreTwo};
+ghost use Rattle.psi_follow_sets.specs.Inner.HalvesKept.{AreAll, AreTwo};
 ghost use Rattle.psi_follow_sets.specs.Room.{held, AreLists};
-ghost use Rattle.psi_follow_sets.specs.HoldingKept.{Holds, AreMoved};
+ghost use Rattle.psi_follow_sets.specs.Inner.HoldingKept.{Holds, AreMoved};
 
 use crate::gathering::{gather, only, pair_up};
 use crate::moving::{follow_one, step_first};
-use psi_follow_packed::{Packed, PackedPair, Program};
+use psi_follow_packed::{MaskProgram, Packed, PackedPair};
 use psi_pool::Pace;
 use psi_state::Bounds;
 use std::alloc::{AllocError, Global};
@@ -54,7 +54,7 @@ impl<const K: usize> Lists<K> {
     }
 
     /// Puts the states of the box into the list.
-    pub(crate) fn fill(&mut self, program: &Program<K>, bounds: &Bounds)
+    pub(crate) fn fill(&mut self, program: &MaskProgram<K>, bounds: &Bounds)
         requires lists { AreLists self.old }
         requires room { length (box bounds.now.lo bounds.now.hi) ≤ length self.old.states.items }
         requires within { IsBelow bounds.now.hi program.now.packing.caps }
@@ -71,7 +71,7 @@ impl<const K: usize> Lists<K> {
 
     /// Puts what the events of these numbers make of each state in its place: the last number's
     /// event comes first.
-    pub(crate) fn follow(&mut self, program: &Program<K>, numbers: &[u16])
+    pub(crate) fn follow(&mut self, program: &MaskProgram<K>, numbers: &[u16])
         requires lists { AreLists self.old }
         requires numbers { EachIndex numbers.now (λ i. slice_index numbers.now i < length program.now.moves) }
         requires some { 1 ≤ self.old.used }
@@ -84,7 +84,7 @@ impl<const K: usize> Lists<K> {
     }
 
     // As `follow`, until one pair is left. Returns how many numbers are left then: the first ones.
-    fn follow_apart(&mut self, program: &Program<K>, numbers: &[u16]) -> usize
+    fn follow_apart(&mut self, program: &MaskProgram<K>, numbers: &[u16]) -> usize
         requires lists { AreLists self.old }
         requires numbers { EachIndex numbers.now (λ i. slice_index numbers.now i < length program.now.moves) }
         requires some { 1 ≤ self.old.used }
@@ -103,7 +103,7 @@ impl<const K: usize> Lists<K> {
 
     // Puts what the event of this number makes of each state in its place, and takes repeats out
     // where it is time to.
-    fn advance(&mut self, program: &Program<K>, number: u16, pace: &mut Pace)
+    fn advance(&mut self, program: &MaskProgram<K>, number: u16, pace: &mut Pace)
         requires lists { AreLists self.old }
         requires number { number < length program.now.moves }
         requires some { 1 ≤ self.old.used }
@@ -116,7 +116,7 @@ impl<const K: usize> Lists<K> {
     }
 
     // Puts what the event of this number makes of each state in its place.
-    fn step(&mut self, program: &Program<K>, number: u16)
+    fn step(&mut self, program: &MaskProgram<K>, number: u16)
         requires lists { AreLists self.old }
         requires number { number < length program.now.moves }
         requires some { 1 ≤ self.old.used }

@@ -2,15 +2,15 @@
 
 ghost use Rattle.std.specs.Prelude.{◌≡◌, ◌<◌, ◌≤◌, length, take, slice_index, EachIndex};
 ghost use Rattle.psi_follow_packed.specs.Programs.{AllFollow};
-ghost use Rattle.psi_follow_sets.specs.HalvesKept.{halves};
-ghost use Rattle.psi_follow_sets.specs.HoldingKept.{SetFollows};
+ghost use Rattle.psi_follow_sets.specs.Inner.HalvesKept.{halves};
+ghost use Rattle.psi_follow_sets.specs.Inner.HoldingKept.{SetFollows};
 
-use psi_follow_packed::{PackedPair, Program};
+use psi_follow_packed::{MaskProgram, PackedPair};
 
 /// Puts what the event of this number makes of each of the first states in its place.
 #[inline]
 pub(crate) fn step_first<const K: usize>(
-    program: &Program<K>,
+    program: &MaskProgram<K>,
     number: u16,
     list: &mut [PackedPair<K>],
     used: usize,
@@ -26,7 +26,7 @@ pub(crate) fn step_first<const K: usize>(
 /// Puts what the events of these numbers make of the first pair in its place: the last number's
 /// event comes first.
 pub(crate) fn follow_one<const K: usize>(
-    program: &Program<K>,
+    program: &MaskProgram<K>,
     numbers: &[u16],
     list: &mut [PackedPair<K>],
 )

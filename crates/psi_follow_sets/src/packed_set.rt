@@ -8,7 +8,7 @@ ghost use Rattle.psi_event.specs.Numbers.{follow_numbers};
 ghost use Rattle.psi_follow_packed.specs.Programs.{Prepares};
 
 use crate::lists::Lists;
-use psi_follow_packed::Program;
+use psi_follow_packed::MaskProgram;
 use psi_state::{Bounds, State};
 use std::alloc::{AllocError, Global};
 use std::marker::Model;
@@ -65,7 +65,7 @@ impl<const K: usize> PackedSet<K> {
     /// test of coalescence of coupling from the past (Propp and Wilson 1996).
     pub fn meeting(
         &mut self,
-        program: &Program<K>,
+        program: &MaskProgram<K>,
         numbers: &[u16],
         bounds: &Bounds,
     ) -> Option<State>

@@ -1,22 +1,22 @@
 //! Runs of networks that aren't monotone, on packed states once their regions have few.
 
-ghost use Rattle.std.specs.Prelude.{◌≡◌, ◌<◌, ◌≤◌, ℕ, List, None, map, length, slice_index, slice_index_or, EachIndex, IsTrue, IfOk, IfSome};
+ghost use Rattle.std.specs.Prelude.{◌≡◌, ◌<◌, ◌≤◌, ℕ, List, None, map, length, slice_index, slice_index_or, All, EachIndex, IsTrue, IfOk, IfSome};
 ghost use Rattle.psi_state.specs.State.{box};
 ghost use Rattle.psi_state.specs.Sets.{image, single};
 ghost use Rattle.psi_event.specs.Numbers.{AreEvents, follow_numbers};
-ghost use Rattle.psi_event.specs.Law.{Function};
+ghost use Rattle.psi_event.specs.Law.{Function, IsClosed};
 ghost use Rattle.psi_follow_packed.specs.Programs.{Prepares};
 ghost use Rattle.psi_follow_packed.specs.Boxes.{AreCorners};
 ghost use Rattle.psi_follow_packed.specs.Views.{low_words, high_words};
 ghost use Rattle.psi_follow_packed.specs.UnitEvents.{Encloses};
 ghost use Rattle.psi_region.specs.Followed.{followed, ending_of};
 ghost use Rattle.psi_follow_sets.specs.Sets.{IsPackedBox, RunsCorners, MeetsAt};
-ghost use Rattle.psi_follow_sets.specs.MachinesKept.{IsMachine};
+ghost use Rattle.psi_follow_sets.specs.Inner.MachinesKept.{IsMachine};
 
 use crate::boxes::{are_units, bounds_of, enclose_by, halts_of, units_of};
 use crate::packed_set::PackedSet;
 use psi_event::{EventLaw, PiecewiseLaw};
-use psi_follow_packed::{Layout, PackedPair, Program, UnitEvent};
+use psi_follow_packed::{Layout, MaskProgram, PackedPair, UnitEvent};
 use psi_region::{Course, Follower};
 use psi_state::State;
 use std::alloc::{AllocError, Global};
@@ -24,7 +24,7 @@ use std::marker::Model;
 
 /// The events on states that are packed into `K` words, and the room for a set of such states.
 struct Machine<const K: usize> {
-    program: Program<K>,
+    program: MaskProgram<K>,
     // Which events aren't monotone.
     halts: Vec<bool>,
     // Those of single customers.
@@ -60,7 +60,7 @@ pub struct PackedSets<'n, const K: usize, E: EventLaw> {
 impl<'n, const K: usize, E: EventLaw> Model for PackedSets<'n, K, E> {
     ghost use Rattle.std.specs.Prelude.{map};
     ghost use Rattle.psi_region.specs.Followed.{Network};
-    ghost use Rattle.psi_follow_sets.specs.MachinesKept.{IsMachine};
+    ghost use Rattle.psi_follow_sets.specs.Inner.MachinesKept.{IsMachine};
 
     ghost Value = { Network E };
 
@@ -123,7 +123,7 @@ fn machine_of<const K: usize, E: PiecewiseLaw>(
     requires { layout.caps ≡ course.now.caps }
     ensures { IfOk result (λ found. IfSome found (λ machine. IsMachine K course.now.caps (map E.function course.now.events) course.now.split machine)) }
 {
-    let Some(program) = Program::new(alloc, layout, course.events())? else {
+    let Some(program) = MaskProgram::new(alloc, layout, course.events())? else {
         return Ok(None);
     };
     let halts = halts_of(alloc, course)?;
@@ -167,6 +167,7 @@ fn coalescence_of_few<const K: usize, E: EventLaw>(
     numbers: &[u16],
     x: &PackedPair<K>,
 ) -> Option<State>
+    requires closed { All (λ f. IsClosed course.now.caps f) (map E.function course.now.events) }
     requires machine { IsMachine K course.now.caps (map E.function course.now.events) course.now.split machine.old }
     requires numbers { AreEvents (length (map E.function course.now.events)) numbers.now }
     requires corners { IsPackedBox K machine.old.program.packing (low_words x.now) (high_words x.now) }
@@ -190,7 +191,7 @@ fn coalescence_of_few<const K: usize, E: EventLaw>(
 // Whether the events of the numbers, the last first, are seen to make different states of the two corners of a box of
 // `count` states. It isn't tried where there are so many numbers that to follow the set may cost less.
 fn have_corners_parted<const K: usize>(
-    program: &Program<K>,
+    program: &MaskProgram<K>,
     numbers: &[u16],
     count: u32,
     x: &PackedPair<K>,
@@ -216,13 +217,12 @@ fn meeting_of_box<const K: usize, E: EventLaw>(
     tries: u32,
     x: &PackedPair<K>,
 ) -> Option<State>
+    requires closed { All (λ f. IsClosed course.now.caps f) (map E.function course.now.events) }
     requires machine { IsMachine K course.now.caps (map E.function course.now.events) course.now.split machine.now }
     requires numbers { AreEvents (length (map E.function course.now.events)) numbers.now }
     requires corners { IsPackedBox K machine.now.program.packing (low_words x.now) (high_words x.now) }
     ensures { IfSome result (λ s. MeetsAt K machine.now.program.packing (map E.function course.now.events) numbers.now (low_words x.now) (high_words x.now) s) }
 {
-    // Called for its clause: each event makes states of states.
-    let _caps = course.caps();
     let mut own = *x;
     let stop = numbers.len().saturating_sub(tries as usize);
     let left = stop + follow_until_few(machine, course, &numbers[stop..], 1, &mut own);

@@ -9,7 +9,7 @@ use Rattle.psi_event.specs.Choice.{first_or}
 use Rattle.psi_guard.specs.declared.parts.Part.{Part}
 use Rattle.psi_guard.specs.declared.guarded.GuardRefusal.{GuardRefusal}
 use Rattle.psi_guard.specs.declared.guarded.GuardRefusal.TheVariants.{Empty, Repeated, OutOfRange}
-use Rattle.psi_guard.specs.PartsKept.{no_part}
+use Rattle.psi_guard.specs.Inner.PartsKept.{no_part}
 use Rattle.psi_guard.specs.Refusals.{is_out, names, is_empty, refusal_at, refusal_after, refusal_of, FitsQueue, AreGuards, at}
 use Rattle.psi_guard.proofs.StepsLemmas.{names-at}
 

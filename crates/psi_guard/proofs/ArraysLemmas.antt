@@ -3,7 +3,7 @@ use Rattle.std.specs.Prelude.{◌≡◌, ℕ, ◌+◌, ◌-◌, ◌<◌, ◌≤�
 use Rattle.std.proofs.Common.{ap, ◌∙◌, sym, arith}
 use Rattle.std.proofs.lemmas.List.{drop-set-lt, drop-drop, drop-replicate, length-set, length-take-le}
 use Rattle.psi_guard.specs.declared.parts.Part.{Part}
-use Rattle.psi_guard.specs.PartsKept.{no_part}
+use Rattle.psi_guard.specs.Inner.PartsKept.{no_part}
 
 -- one place more is taken, and what is after it stays
 pub drop-push : {A : Type 0} (xs : List A) (n : ℕ) (v d : A) → n < 32 → drop n xs ≡ replicate (32 - n) d → drop (n + 1) (slice_set xs n v) ≡ replicate (32 - (n + 1)) d

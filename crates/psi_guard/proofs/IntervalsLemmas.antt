@@ -11,9 +11,9 @@ use Rattle.psi_guard.specs.declared.envelope.Leaving.TheVariants.{Nowhere, One, 
 use Rattle.psi_guard.specs.Guarding.{moved, free_part, part_of, guarded}
 use Rattle.psi_guard.specs.Refusals.{AreGuards, at}
 use Rattle.psi_guard.specs.Places.{IsFree}
-use Rattle.psi_guard.specs.PlacesLaws.{named_or_free, part_of-at}
+use Rattle.psi_guard.specs.Inner.PlacesLaws.{named_or_free, part_of-at}
 use Rattle.psi_guard.specs.Rule.{Rule, rule}
-use Rattle.psi_guard.specs.RuleLaws.{moved-rises}
+use Rattle.psi_guard.specs.Inner.RuleLaws.{moved-rises}
 use Rattle.psi_guard.specs.Envelope.{Leaves, CanMoveAll, MissesSome, OtherLeaves, CanKeep, IsLow, IsHigh, Knows, others, MayKeep, IsLeastOf, IsGreatestOf, CanTurn}
 use Rattle.psi_guard.proofs.OrderLemmas.{is_rule_of}
 use Rattle.psi_guard.proofs.HullsLemmas.{IsBoxOf, AreEnds, ends-tight}

@@ -9,7 +9,7 @@ use Rattle.psi_guard.specs.declared.parts.Part.{Part}
 use Rattle.psi_guard.specs.Guarding.{guarded}
 use Rattle.psi_guard.specs.Refusals.{AreGuards}
 use Rattle.psi_guard.specs.Rule.{Rule, IsRule, rule, AllowsAll, RefusesSome, Makes}
-use Rattle.psi_guard.specs.RuleLaws.{is_rule, makes}
+use Rattle.psi_guard.specs.Inner.RuleLaws.{is_rule, makes}
 
 -- f is what the rule makes of the states of these capacities
 pub record IsRuleOf (r : Rule) (caps : List ℕ) (f : List ℕ → List ℕ) : Type 0 where

@@ -10,7 +10,7 @@ use Rattle.psi_guard.specs.declared.parts.Part.{Part}
 use Rattle.psi_guard.specs.Guarding.{moved, guarded, part_of, leasts, around_most, around_least, both_with, exceeds, falls_short, own_above, other_above, own_below, other_below, over_queues, over_pairs, upset_of}
 use Rattle.psi_guard.specs.Refusals.{AreGuards}
 use Rattle.psi_guard.specs.Rule.{Rule, rule, AllowsAll}
-use Rattle.psi_guard.specs.RuleLaws.{fits_guard}
+use Rattle.psi_guard.specs.Inner.RuleLaws.{fits_guard}
 use Rattle.psi_guard.proofs.StepsLemmas.{length-leasts, slice_index-leasts}
 use Rattle.psi_guard.proofs.OrderLemmas.{IsRuleOf, is_rule_of, PassesNone, monotone_without, upset_up, upset_down}
 

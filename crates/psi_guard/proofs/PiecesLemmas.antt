@@ -13,7 +13,7 @@ use Rattle.psi_guard.specs.declared.pieces.PiecesAt.{PiecesAt}
 use Rattle.psi_guard.specs.Guarding.{shifted, moved, guarded, part_of}
 use Rattle.psi_guard.specs.Refusals.{AreGuards}
 use Rattle.psi_guard.specs.Rule.{rule, FitsGuard, AllowsAll, RefusesSome}
-use Rattle.psi_guard.specs.RuleLaws.{fits_guard, makes}
+use Rattle.psi_guard.specs.Inner.RuleLaws.{fits_guard, makes}
 use Rattle.psi_guard.specs.Pieces.{ups, downs, is_exact, is_clipped, guard_side, guard_bound, clip_side, clip_bound, exact_at, clipped_at, SaysOf, exact, own_pieces, AreTold, Tell}
 
 -- ---- a piece applies where each number is on its side

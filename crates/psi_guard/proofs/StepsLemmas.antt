@@ -8,9 +8,9 @@ use Rattle.psi_event.proofs.ChoiceLemmas.{first_some-found, first_some-none}
 use Rattle.psi_guard.specs.declared.parts.Part.{Part}
 use Rattle.psi_guard.specs.Guarding.{moved, allows, all_allow, guarded, free_part, part_of, leasts, around_most, around_least, both_with, exceeds, falls_short, other_above, other_below, over_queues}
 use Rattle.psi_guard.specs.Refusals.{AreGuards, at, names}
-use Rattle.psi_guard.specs.PlacesLaws.{named_or_free, part_of-at}
+use Rattle.psi_guard.specs.Inner.PlacesLaws.{named_or_free, part_of-at}
 use Rattle.psi_guard.specs.Rule.{RefusesSome, rule}
-use Rattle.psi_guard.specs.RuleLaws.{makes, allowed_place}
+use Rattle.psi_guard.specs.Inner.RuleLaws.{makes, allowed_place}
 
 pub names-at : (parts : List Part) (q i : ℕ) → i < length parts → (at parts i).queue ≡ q → names parts q ≡ true
 names-at [] q i small same = absurd (omega arith)

@@ -7,7 +7,7 @@ ghost use Rattle.psi_state.specs.Hull.{corners, IsTight};
 ghost use Rattle.psi_event.specs.Law.{IsClosed, IsMonotone, ShowsUpset};
 ghost use Rattle.psi_guard.specs.Guarding.{all_allow, guarded, moved, upset_of};
 ghost use Rattle.psi_guard.specs.Refusals.{FitsQueue, at};
-ghost use Rattle.psi_guard.specs.RuleLaws.{guarded-closed};
+ghost use Rattle.psi_guard.specs.Inner.RuleLaws.{guarded-closed};
 
 use crate::guarded::Guarded;
 use crate::parts::Part;

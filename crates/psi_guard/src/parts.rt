@@ -35,8 +35,8 @@ pub struct Parts {
 
 impl Model for Parts {
     ghost use Rattle.std.specs.Prelude.{◌≡◌, ◌-◌, ◌≤◌, ◌++◌, List, length, take, drop, replicate};
-    ghost use Rattle.psi_guard.specs.PartsKept.{no_part};
-    ghost use Rattle.psi_guard.specs.PartsKeptLaws.{padded};
+    ghost use Rattle.psi_guard.specs.Inner.PartsKept.{no_part};
+    ghost use Rattle.psi_guard.specs.Inner.PartsKeptLaws.{padded};
     ghost use Rattle.psi_guard.specs.declared.parts.Part.{Part};
 
     ghost Value = { List Part };

@@ -8,14 +8,11 @@ use Rattle.psi_state.specs.Sets.{single}
 use Rattle.psi_state.proofs.SetsLemmas.{single-each}
 use Rattle.psi_rate.specs.Composition.{function_at, AreClosed}
 use Rattle.psi_rate.specs.Outcomes.{IsOutcome}
-use Rattle.psi_rate.proofs.OutcomesLemmas.{outcome-agree}
 use Rattle.psi_rate.proofs.FunctionsLemmas.{function_at-monotone}
 use Rattle.psi_region.specs.Region.{Area, IsArea}
 use Rattle.psi_horizon.specs.Runs.{region_at, ending_at}
-use Rattle.psi_horizon.specs.Agreeing.{AreAlike}
 use Rattle.psi_horizon.specs.Sample.{MeetsWithin, IsSample}
 use Rattle.psi_horizon.proofs.RunsLemmas.{run-area, outcome-reached, outcome-decides, outcome-monotone, outcome-exact}
-use Rattle.psi_horizon.proofs.AgreeingLemmas.{alike-closed_at, function_at-agree, ending_at-agree}
 
 -- the one state of a region is within the capacities
 pub single-within : (caps : List ℕ) (a : Area) (s : List ℕ) → IsArea caps a → single a.states ≡ Some s → IsBelow s caps

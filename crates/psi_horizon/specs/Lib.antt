@@ -3,4 +3,4 @@ pub mod Runs
 pub mod Agreeing
 pub mod Sample
 pub mod Planned
-pub mod PlanKept
+pub mod Inner

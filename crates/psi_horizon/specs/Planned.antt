@@ -1,11 +1,11 @@
 -- What a plan is.
 use Rattle.std.specs.Prelude.{◌≡◌, ℕ, ◌+◌, map, Option, Some, None, option_map}
 use Rattle.psi_event.specs.Law.{Function}
-use Rattle.psi_rate.specs.Composition.{Parts}
+use Rattle.psi_rate.specs.Composition.{SystemParts}
 use Rattle.psi_region.specs.Followed.{Followed}
 
 -- the network that a follower of its runs stands for
-abbrev pub network_of : {E : Type 0} → (E → Function) → Parts E → Followed
+abbrev pub network_of : {E : Type 0} → (E → Function) → SystemParts E → Followed
 network_of function system = record { caps = system.caps; functions = map function system.events; split = system.split }
 
 -- a run that was begun: its horizon, and how many of its steps are done
@@ -15,13 +15,13 @@ pub record Running : Type 0 where
 
 -- a network with the past that its samples are drawn from, and the run that was begun, if one was
 pub record Planned (E P : Type 0) : Type 0 where
-  pub system : Parts E
+  pub system : SystemParts E
   pub past : P
   pub run : Option Running
 
 -- a network with the words that its samples are drawn from
 pub record Drawn (E : Type 0) : Type 0 where
-  pub system : Parts E
+  pub system : SystemParts E
   pub words : ℕ → ℕ
 
 -- no step is left: all are done, or no run was begun

@@ -5,6 +5,7 @@
 
 mod plan;
 mod runs;
+mod trace;
 
 pub use plan::Plan;
 

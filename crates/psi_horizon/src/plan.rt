@@ -20,21 +20,15 @@ ghost use Rattle.psi_horizon.specs.contracts.plan.Plan.{the_row};
 ghost use mir.Syntax.{named};
 
 use crate::OutOfMemory;
-use crate::runs::{ending, ends, follow_word};
+use crate::runs::{ending, ends};
+use crate::trace::{Progress, Trace};
 use psi_event::EventLaw;
 use psi_past::{Past, Windowed};
-use psi_rate::{Answers, Numbers, System, first_answer_near, outcome_of};
-use psi_region::{Course, Follower, Region, Regions};
+use psi_rate::{Answers, EventNumbers, System, first_answer_near, outcome_of};
+use psi_region::{Course, Follower, Regions};
 use psi_state::{Bounds, Outcome, State, Step};
 use std::alloc::Global;
 use std::marker::Model;
-
-// A run that was begun: its horizon, and how many of its steps are done.
-#[derive(Clone, Copy, Debug)]
-struct Progress {
-    horizon: u32,
-    done: u32,
-}
 
 /// A network with the past that its samples are drawn from, the room for the numbers of the events of the
 /// greatest horizon's words and for a split region, and the follower of its runs: regions, unless another is given.
@@ -44,28 +38,24 @@ pub struct Plan<'n, E: EventLaw, P: Past + Drop, F: Follower + Drop = Regions<'n
     system: System<'n, E>,
     // Read backwards where a run goes step by step.
     past: Windowed<P>,
-    region: Region,
-    // The numbers of the events of the words, as far as they were picked.
-    numbers: Numbers,
+    // What samples are drawn with: the numbers of the events of the words, as far as they were picked, the follower of the
+    // runs over them, and the exponent of the horizon with which the next sample begins.
+    numbers: EventNumbers,
     follower: F,
-    run: Option<Progress>,
-    // The exponent of the horizon with which the next sample begins.
     guess: u8,
+    // The run that goes step by step.
+    trace: Trace,
 }
 
 impl<'n, E: EventLaw, P: Past + Drop, F: Follower + Drop> Model for Plan<'n, E, P, F> {
-    ghost use Rattle.std.specs.Prelude.{map};
-    ghost use Rattle.psi_rate.specs.Composition.{system_functions};
     ghost use Rattle.psi_horizon.specs.Planned.{Planned};
-    ghost use Rattle.psi_horizon.specs.PlanKept.{running_of, IsPlan};
+    ghost use Rattle.psi_horizon.specs.Inner.PlanKept.{running_of, IsPlan};
 
     ghost Value = { Planned E P };
 
-    ghost view = { λ p. record { system = p.system; past = p.past; run = running_of p.run } };
+    ghost view = { λ p. record { system = p.system; past = p.past; run = running_of p.trace.run } };
 
-    ghost invariant = { λ p.
-        IsPlan E.capacities (map E.function p.system.events) (system_functions E.function p.system (P.words p.past)) (P.words p.past) p.system p.region
-        p.numbers (F.stands_for p.follower) p.run };
+    ghost invariant = { λ p. IsPlan E.capacities E.function P.words p.system p.past p.numbers (F.stands_for p.follower) p.trace };
 }
 
 // By hand, so that the end of a plan is a call where it ends, and not all of its steps.
@@ -74,11 +64,10 @@ impl<'n, E: EventLaw, P: Past + Drop, F: Follower + Drop> Drop for Plan<'n, E, P
         let Plan {
             system: _,
             past: _,
-            region: _,
             numbers: _,
             follower: _,
-            run: _,
             guess: _,
+            trace: _,
         } = self;
     }
 }
@@ -116,16 +105,15 @@ impl<'n, E: EventLaw, P: Past + Drop, F: Follower + Drop> Plan<'n, E, P, F> {
         // Called for its clause: the parts fit each other.
         let _caps = system.caps();
         let most = 1 << system.limit();
-        let region = Region::reserve(alloc, system.split())?;
-        let numbers = Numbers::reserve(alloc, most)?;
+        let trace = Trace::reserve(alloc, system.split())?;
+        let numbers = EventNumbers::reserve(alloc, most)?;
         Ok(Plan {
             system,
             past: Windowed::new(past),
-            region,
             numbers,
             follower,
-            run: None,
             guess: 0,
+            trace,
         })
     }
 
@@ -201,7 +189,7 @@ impl<'n, E: EventLaw, P: Past + Drop, F: Follower + Drop> Plan<'n, E, P, F> {
         ensures words { P.words self.new.past ≡ P.words self.old.past }
         ensures run { self.new.run ≡ None }
     {
-        self.run = None;
+        self.trace.run = None;
         ending(
             &self.system,
             &mut self.past,
@@ -227,7 +215,7 @@ impl<'n, E: EventLaw, P: Past + Drop, F: Follower + Drop> Plan<'n, E, P, F> {
         ensures words { P.words self.new.past ≡ P.words self.old.past }
         ensures run { self.new.run ≡ None }
     {
-        self.run = None;
+        self.trace.run = None;
         ends(
             &self.system,
             &mut self.past,
@@ -268,7 +256,7 @@ impl<'n, E: EventLaw, P: Past + Drop, F: Follower + Drop> Plan<'n, E, P, F> {
     pub fn replace(&mut self, past: P)
         ensures { self.new ≡ record { system = self.old.system; past = past; run = None } }
     {
-        self.run = None;
+        self.trace.run = None;
         self.past.replace(past);
         self.numbers.clear();
     }
@@ -286,8 +274,8 @@ impl<'n, E: EventLaw, P: Past + Drop, F: Follower + Drop> Plan<'n, E, P, F> {
         ensures system { self.new.system ≡ self.old.system }
         ensures words { P.words self.new.past ≡ P.words self.old.past }
     {
-        self.region.start(&self.system.caps());
-        self.run = Some(Progress { horizon, done: 0 });
+        self.trace.region.start(&self.system.caps());
+        self.trace.run = Some(Progress { horizon, done: 0 });
     }
 
     /// Does the next step of the run that was begun, and returns its time, 1 to 2 to the power `limit` steps
@@ -305,14 +293,14 @@ impl<'n, E: EventLaw, P: Past + Drop, F: Follower + Drop> Plan<'n, E, P, F> {
         ensures within { IfSome result (λ step. (1 ≤ step.number) × (step.number ≤ 2 ^ self.old.system.limit)) }
         ensures number { IfSome result (λ step. step.event ≤ length self.old.system.events) }
     {
-        let progress = self.run?;
+        let progress = self.trace.run?;
         if progress.done == progress.horizon {
             return None;
         }
         let number = progress.horizon - progress.done;
         let word = self.past.word(number - 1);
-        let event = follow_word(&self.system, word, &mut self.region);
-        self.run = Some(Progress {
+        let event = self.trace.follow(&self.system, word);
+        self.trace.run = Some(Progress {
             horizon: progress.horizon,
             done: progress.done + 1,
         });
@@ -329,7 +317,7 @@ impl<'n, E: EventLaw, P: Past + Drop, F: Follower + Drop> Plan<'n, E, P, F> {
             result ≡ None → IfSome self.now.run (λ r. 2 ≤ length (region_after self.now.system.split f self.now.system.caps r.horizon r.done).states) }
         ensures within { IfSome result (λ s. IsBelow s self.now.system.caps) }
     {
-        self.region.single()
+        self.trace.region.single()
     }
 
     /// Returns the box of the run's region after the steps that are done, exactly where it isn't split. A run was
@@ -341,7 +329,7 @@ impl<'n, E: EventLaw, P: Past + Drop, F: Follower + Drop> Plan<'n, E, P, F> {
         ensures shown { let f = system_functions E.function self.now.system (P.words self.now.past) in
             IfSome self.now.run (λ r. ShowsBox (region_after self.now.system.split f self.now.system.caps r.horizon r.done) result) }
     {
-        self.region.bounds()
+        self.trace.region.bounds()
     }
 
     /// Returns the states of the run's region after the steps that are done, in ascending, that is lexicographic,
@@ -359,7 +347,7 @@ impl<'n, E: EventLaw, P: Past + Drop, F: Follower + Drop> Plan<'n, E, P, F> {
         ensures few { length result.now ≤ self.old.system.split }
         ensures* same { sem 𝓛 (follows_so (the_row (record { mir = named 0; lft = [] }) E.row P.row F.row E.EventLaw P.Past F.Follower) (the_row (record { mir = named 0; lft = [] }) E.row P.row F.row E.EventLaw P.Past F.Follower) self.entry.ghost_name none (λ _ _. ⊤) (λ v. v ≡ self.old)) }
     {
-        self.region.states()
+        self.trace.region.states()
     }
 }
 

@@ -1,19 +1,17 @@
 //! The run of a horizon.
 
-ghost use Rattle.std.specs.Prelude.{◌≡◌, ◌^◌, ◌≤◌, length, map, IfSome};
-ghost use Rattle.psi_rate.specs.Rates.{event_of};
-ghost use Rattle.psi_rate.specs.Composition.{picked, system_functions};
+ghost use Rattle.std.specs.Prelude.{◌≡◌, ◌^◌, ◌≤◌, IfSome};
+ghost use Rattle.psi_rate.specs.Composition.{system_functions};
 ghost use Rattle.psi_rate.specs.System.{IsSystem};
 ghost use Rattle.psi_rate.specs.Keeping.{KeepsNumbers};
-ghost use Rattle.psi_region.specs.Region.{step, IsArea};
 ghost use Rattle.psi_region.specs.Followed.{AreEnds};
 ghost use Rattle.psi_horizon.specs.Runs.{region_at, ending_at};
 ghost use Rattle.psi_horizon.specs.Planned.{network_of};
 
 use psi_event::EventLaw;
 use psi_past::Past;
-use psi_rate::{Numbers, System};
-use psi_region::{Follower, Region};
+use psi_rate::{EventNumbers, System};
+use psi_region::Follower;
 use psi_state::{Bounds, State};
 
 // The one state with which the run of a horizon ends, if it ends with one. The run goes over the numbers of the events
@@ -21,7 +19,7 @@ use psi_state::{Bounds, State};
 pub(crate) fn ending<E: EventLaw, P: Past, F: Follower>(
     system: &System<'_, E>,
     past: &mut P,
-    numbers: &mut Numbers,
+    numbers: &mut EventNumbers,
     follower: &mut F,
     horizon: u32,
 ) -> Option<State>
@@ -45,7 +43,7 @@ pub(crate) fn ending<E: EventLaw, P: Past, F: Follower>(
 pub(crate) fn ends<E: EventLaw, P: Past, F: Follower>(
     system: &System<'_, E>,
     past: &mut P,
-    numbers: &mut Numbers,
+    numbers: &mut EventNumbers,
     follower: &mut F,
     horizon: u32,
 ) -> Option<Bounds>
@@ -63,26 +61,4 @@ pub(crate) fn ends<E: EventLaw, P: Past, F: Follower>(
     numbers.extend_to(wheel, past, horizon);
     let below = numbers.below(wheel, past, horizon);
     follower.ends(below)
-}
-
-// Follows the region through the event of a word, and returns the event's number.
-#[inline]
-pub(crate) fn follow_word<E: EventLaw>(
-    system: &System<'_, E>,
-    word: u32,
-    region: &mut Region,
-) -> u16
-    requires fit { IsSystem E.capacities system.now }
-    requires area { IsArea system.now.caps region.old.area }
-    ensures event { result ≡ event_of system.now.rates word }
-    ensures number { result ≤ length system.now.events }
-    ensures area { region.new.area ≡ step region.old.split (picked (map E.function system.now.events) system.now.rates word) region.old.area }
-    ensures split { region.new.split ≡ region.old.split }
-{
-    let (number, event) = system.pick(word);
-    match event {
-        Some(event) => region.advance(event),
-        None => region.rest(),
-    }
-    number
 }

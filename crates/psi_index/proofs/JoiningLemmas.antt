@@ -5,7 +5,7 @@ use Rattle.std.proofs.lemmas.Nat.{pow-add}
 use Rattle.std.proofs.lemmas.Result.{IfOk-weaker}
 use Rattle.std.proofs.lemmas.List.{get_or-take, get_or-drop, drop-map, take-map, length-take-le}
 use Rattle.psi_index.specs.Extremes.{complement, greatest_of, least_of, AreLeast, IsLeast, IsValueList}
-use Rattle.psi_index.specs.LevelsKept.{IsJoined}
+use Rattle.psi_index.specs.Inner.LevelsKept.{IsJoined}
 use Rattle.psi_index.specs.declared.level.Level.{Level}
 
 pub least-join : (values : List ℕ) (a b c d m n : ℕ) → IsLeast values a b m → IsLeast values c d n → a ≤ c → c ≤ b → b ≤ d → IsLeast values a d (min m n)

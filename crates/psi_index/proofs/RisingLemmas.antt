@@ -1,7 +1,7 @@
 -- The ends of a stretch of values that rise.
 use Rattle.std.proofs.Common.{◌≡◌, ℕ, zero, suc, ◌+◌, ◌-◌, ◌<◌, ◌≤◌, List, [], ◌∷◌, length, slice_index, slice_range, inl, inr, ap, refl, arith}
 use Rattle.std.proofs.lemmas.Bool.{cases_lt}
-use Rattle.psi_index.specs.BoundsKept.{ArePeaks, AreTroughs}
+use Rattle.psi_index.specs.Inner.BoundsKept.{ArePeaks, AreTroughs}
 use Rattle.psi_index.specs.Extremes.{IsLeast, IsRising, greatest_of}
 use Rattle.psi_index.proofs.JoiningLemmas.{length-slice_range, slice_index-slice_range}
 

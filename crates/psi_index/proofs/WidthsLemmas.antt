@@ -4,7 +4,7 @@ use Rattle.std.proofs.Math.Nat.{pow-succ', pow-le-pow_right}
 use Rattle.std.proofs.lemmas.Bool.{cases_lt}
 use Rattle.std.proofs.lemmas.List.{get_or_append_left, get_or_push}
 use Rattle.psi_index.specs.Extremes.{AreLeast}
-use Rattle.psi_index.specs.LevelsKept.{AreLevels}
+use Rattle.psi_index.specs.Inner.LevelsKept.{AreLevels}
 use Rattle.psi_index.specs.declared.level.Level.{Level}
 
 -- no greater power of two is at most a number

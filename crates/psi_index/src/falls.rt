@@ -21,8 +21,6 @@ impl IndexTable {
     {
         let (peaks, troughs) = (self.kept().peaks(), self.kept().troughs());
         let (others_peaks, others_troughs) = (other.kept().peaks(), other.kept().troughs());
-        // Called for its clause: the number of values here fits 16 bits, too.
-        let _count = self.len();
         let count = other.len() as usize;
         let more = more as u64;
         let mut near = 0;

@@ -1,7 +1,7 @@
 //! The greatest value up to each place of a list, and the least from it on.
 
 ghost use Rattle.std.specs.Prelude.{IfOk};
-ghost use Rattle.psi_index.specs.BoundsKept.{ArePeaks, AreTroughs};
+ghost use Rattle.psi_index.specs.Inner.BoundsKept.{ArePeaks, AreTroughs};
 
 use std::alloc::{AllocError, Global};
 

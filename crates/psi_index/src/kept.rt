@@ -2,7 +2,7 @@
 
 ghost use Rattle.std.specs.Prelude.{◌≡◌, ℕ, ◌<◌, ◌≤◌, ◌↔◌, IsTrue, IfOk, length, map, slice_index};
 ghost use Rattle.psi_index.specs.Extremes.{IsFront, IsRising, IsValueList, complement, greatest_of, least_of, stretch};
-ghost use Rattle.psi_index.specs.BoundsKept.{ArePeaks, AreTroughs};
+ghost use Rattle.psi_index.specs.Inner.BoundsKept.{ArePeaks, AreTroughs};
 
 use crate::OutOfMemory;
 use crate::hulls::{peaks_of, troughs_of};
@@ -32,8 +32,8 @@ impl Model for Kept {
     ghost Value = { List ℕ };
 
     ghost use Rattle.psi_index.specs.Extremes.{IsFront};
-    ghost use Rattle.psi_index.specs.LevelsKept.{IsTable};
-    ghost use Rattle.psi_index.specs.BoundsKept.{AreBounds};
+    ghost use Rattle.psi_index.specs.Inner.LevelsKept.{IsTable};
+    ghost use Rattle.psi_index.specs.Inner.BoundsKept.{AreBounds};
 
     ghost view = { λ kept. kept.values.items };
 
@@ -150,9 +150,11 @@ impl Kept {
         u32::MAX - least_within(&self.complements, &self.high, from, to)
     }
 
-    // For each place a number that no value up to it is above: the greatest of them.
+    // For each place a number that no value up to it is above: the greatest of them. The last clause is what every table
+    // keeps.
     pub(crate) fn peaks(&self) -> &[u32]
-        ensures { ArePeaks self.now result.now }
+        ensures peaks { ArePeaks self.now result.now }
+        ensures valid { IsValueList self.now }
     {
         if self.rises {
             &self.values

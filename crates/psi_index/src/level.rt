@@ -2,7 +2,7 @@
 
 ghost use Rattle.std.specs.Prelude.{ℕ, ◌+◌, ◌^◌, ◌≤◌, length, IfOk};
 ghost use Rattle.psi_index.specs.Extremes.{AreLeast};
-ghost use Rattle.psi_index.specs.LevelsKept.{AreLevels, IsJoined};
+ghost use Rattle.psi_index.specs.Inner.LevelsKept.{AreLevels, IsJoined};
 
 use std::alloc::{AllocError, Global};
 

@@ -2,7 +2,7 @@
 
 ghost use Rattle.std.specs.Prelude.{◌≡◌, ◌+◌, ◌^◌, ◌<◌, ◌≤◌, length};
 ghost use Rattle.psi_index.specs.Extremes.{AreLeast, IsLeast, least_of, stretch};
-ghost use Rattle.psi_index.specs.LevelsKept.{IsSparse};
+ghost use Rattle.psi_index.specs.Inner.LevelsKept.{IsSparse};
 
 use crate::level::Level;
 

@@ -11,16 +11,8 @@ pub delivered_prefix : (content : Option (List ℕ)) (had has bytes : List ℕ) 
 delivered_prefix None had has bytes most taken prefix = tt
 delivered_prefix (Some whole) had has bytes most taken prefix = append_cancel_left had bytes (take (most + 1) whole) (sym taken ∙ prefix)
 
--- where no file's content is known, every answer agrees
-pub unknown_agrees : (given : List Given) → AllByRecursion (IsPrefixIn (λ name. None)) given
-unknown_agrees [] = tt
-unknown_agrees (one ∷ given) = (tt, unknown_agrees given)
-
 module _ (told : List ℕ → Option (List ℕ)) where
   -- a call in which no read succeeded
-  pub agrees_nothing : (before after : List Given) → after ≡ before → AgreesSince told before after
-  agrees_nothing before after same = record { given = []; since = same ∙ sym (append-nil before); prefixes = tt }
-
   pub agrees_unmoved : (gave : List Given) → AgreesSince told gave gave
   agrees_unmoved gave = record { given = []; since = sym (append-nil gave); prefixes = tt }
 

@@ -3,7 +3,7 @@ use Rattle.std.specs.Prelude.{◌≡◌, ℕ, ◌-◌, ◌≤◌, List, [], leng
 use Rattle.std.proofs.Common.{◌∙◌, subst, arith, length-set}
 use Rattle.psi_state.specs.State.{IsBelow, AreCapacities}
 use Rattle.psi_event.specs.Law.{IsClosed}
-use Rattle.psi_guard.specs.RuleLaws.{guarded-closed}
+use Rattle.psi_guard.specs.Inner.RuleLaws.{guarded-closed}
 use Rattle.psi_guard.proofs.AcceptedLemmas.{guards-accepted}
 use Rattle.psi_route.specs.declared.Source.{Source}
 use Rattle.psi_route.specs.declared.Full.TheVariants.{Lost}

@@ -9,8 +9,8 @@ use Rattle.psi_state.specs.Repeats.{repeats}
 use Rattle.psi_guard.specs.declared.Part.{Part}
 use Rattle.psi_guard.specs.Guarding.{moved, allows, all_allow, next, map_places, guarded}
 use Rattle.psi_guard.specs.Refusals.{names}
-use Rattle.psi_guard.specs.PlacesLaws.{length-map_places, slice_index-map_places}
-use Rattle.psi_guard.specs.RuleLaws.{guarded-moves, guarded-keeps}
+use Rattle.psi_guard.specs.Inner.PlacesLaws.{length-map_places, slice_index-map_places}
+use Rattle.psi_guard.specs.Inner.RuleLaws.{guarded-moves, guarded-keeps}
 use Rattle.psi_kinds.specs.Kinds.{has_room, is_held, gain, lose, gain_each, lose_each}
 use Rattle.psi_kinds.specs.Forms.{losing_part, gaining_part}
 use Rattle.psi_kinds.proofs.RoutesLemmas.{absent}

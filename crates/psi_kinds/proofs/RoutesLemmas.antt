@@ -10,7 +10,7 @@ use Rattle.psi_route.specs.declared.Full.{Full}
 use Rattle.psi_route.specs.declared.Full.TheVariants.{Lost, Stay}
 use Rattle.psi_route.specs.Routing.{Shape, routing, routed, IsBest}
 use Rattle.psi_route.specs.Acting.{NoRoom}
-use Rattle.psi_route.specs.ActingLaws.{act-idle}
+use Rattle.psi_route.specs.Inner.ActingLaws.{act-idle}
 use Rattle.psi_route.proofs.ActingLemmas.{act-some, act-lost, act-stay, taken-past}
 use Rattle.psi_kinds.specs.Kinds.{first_with_room, best, Offer, serves, gain, lose, gain_chosen, go_on}
 use Rattle.psi_kinds.proofs.ChosenLemmas.{IsFirst, first_cases, value_at, IsLeast, least_cases}

@@ -5,4 +5,4 @@ pub mod Refusals
 pub mod Rows
 pub mod Forms
 pub mod Events
-pub mod EventsLaws
+pub mod Inner

@@ -28,7 +28,7 @@ pub enum Event {
 
 impl EventLaw for Event {
     ghost use Rattle.psi_kinds.specs.Events.{by_form};
-    ghost use Rattle.psi_kinds.specs.EventsLaws.{by_form-closed};
+    ghost use Rattle.psi_kinds.specs.Inner.EventsLaws.{by_form-closed};
 
     ghost capacities = { λ event. by_form ⟦<Route as EventLaw>⟧.capacities ⟦<Guarded as EventLaw>⟧.capacities ⟦<Idle as EventLaw>⟧.capacities event };
 

@@ -1,34 +1,51 @@
--- The share of the pasts that leave states apart falls geometrically.
-use Rattle.std.specs.Prelude.{◌≡◌, ℕ, ◌+◌, ◌*◌, ◌≤◌, List, Option, Some, None, is_none, refl}
-use Rattle.std.proofs.Common.{ap, ◌∙◌, arith}
-use Rattle.psi_state.specs.Members.{In}
+-- All states' meeting is a run, so the share of the pasts that leave states apart falls geometrically, and unmet samples of meetings are counted by it.
+use Rattle.std.specs.Prelude.{ℕ, ◌+◌, ◌^◌, List, Option}
+use Rattle.std.proofs.Common.{ap, ◌∙◌}
+use Rattle.psi_state.specs.declared.Outcome.{Outcome}
 use Rattle.psi_state.specs.Sets.{image, single}
 use Rattle.psi_state.proofs.SetsLemmas.{single-image, single-each, In-image}
+use Rattle.psi_rate.specs.Composition.{Functions, function_at, compose, image_from}
+use Rattle.psi_rate.specs.Outcomes.{meeting_from, IsOutcome}
+use Rattle.psi_rate.proofs.FunctionsLemmas.{function_at-keeping}
+use Rattle.psi_rate.proofs.OutcomesLemmas.{meeting-reached}
+use Rattle.psi_law.specs.Counting.{Words, sum_pasts}
 use Rattle.psi_law.specs.Wheel.{word_count}
-use Rattle.psi_law.specs.Chains.{Chain, IsFinite, end_of}
-use Rattle.psi_law.specs.Samples.{are_apart}
-use Rattle.psi_law.specs.Statements.{ApartFalls}
-use Rattle.psi_law.proofs.SumsLemmas.{one_if, at_most_one}
-use Rattle.psi_law.proofs.ChainLemmas.{end_of-keeps}
-use Rattle.psi_law.proofs.JoinedLemmas.{joined, count_pasts-joined, end_of-joined}
+use Rattle.psi_law.specs.Chains.{Chain, IsFinite}
+use Rattle.psi_law.specs.Samples.{is_unmet, are_apart}
+use Rattle.psi_law.specs.Statements.{ApartFalls, UnmetIsApart}
+use Rattle.psi_law.proofs.SumsLemmas.{one_if, sum-same, sum_pasts-is}
+use Rattle.psi_law.proofs.ChainLemmas.{Own, compose-first, compose-append}
+use Rattle.psi_law.proofs.CoalescenceLemmas.{AreRuns, uncoalesced-falls, unmet-last}
 
--- states that one of two maps brings together, both together bring together
-apart-image : (f g h : List ℕ → List ℕ) (o r : Option (List ℕ)) (a : List ℕ) (states : List (List ℕ)) → In a states → ((x : List ℕ) → In x states → In (g x) states)
-    → ((x : List ℕ) → h x ≡ f (g x)) → single (image f states) ≡ o → single (image g states) ≡ r
-    → one_if (is_none (single (image h states))) ≤ one_if (is_none o) * one_if (is_none r)
-apart-image f g h None None a states here keeps is first second = at_most_one (is_none (single (image h states)))
-apart-image f g h (Some s) r a states here keeps is first second =
-    let met : single (image h states) ≡ Some s = single-image h s a states here
-    (λ y member. is y ∙ single-each (image f states) s (f (g y)) first (In-image f (g y) states (keeps y member))) in
-    let z : one_if (is_none (single (image h states))) ≡ 0 = ap (λ (q : Option (List ℕ)). one_if (is_none q)) met in omega arith
-apart-image f g h None (Some s) a states here keeps is first second =
-    let met : single (image h states) ≡ Some (f s) = single-image h (f s) a states here
-    (λ y member. is y ∙ ap f (single-each (image g states) s (g y) second (In-image g y states member))) in
-    let z : one_if (is_none (single (image h states))) ≡ 0 = ap (λ (q : Option (List ℕ)). one_if (is_none q)) met in omega arith
+module _ (chain : Chain) (is : IsFinite chain) where
+  abbrev meeting : Functions → ℕ → Option (List ℕ)
+  meeting f = meeting_from f chain.states
 
-pub apart-falls : (chain : Chain) → IsFinite chain → ApartFalls chain
-apart-falls chain is = λ n k.
-    count_pasts-joined word_count n k (are_apart chain (n + k)) (are_apart chain n) (are_apart chain k)
-    (λ p q. apart-image (end_of chain p n) (end_of chain q k) (end_of chain (joined n p q) (n + k))
-    (single (image (end_of chain p n) chain.states)) (single (image (end_of chain q k) chain.states)) is.some.0 chain.states is.some.1
-    (λ x member. end_of-keeps chain q k x is member) (end_of-joined chain n k p q) refl refl)
+  meeting-runs : AreRuns chain meeting
+  meeting-runs = record {
+    looks = λ f g t same. ap (λ (h : List ℕ → List ℕ). single (image h chain.states)) (compose-first f g t same);
+    last = λ past. record {
+      each = λ t later s order met.
+          (let f = function_at chain.functions chain.rates past in
+          let reached = meeting-reached (Own chain) f chain.states t s (function_at-keeping (Own chain) chain.functions chain.rates past is.keeps) (λ x own. own) met in
+          single-image (compose f later) s is.some.0 chain.states is.some.1 (λ x own. reached.each x later own order));
+    };
+    older = λ past n k s met.
+        (let f = function_at chain.functions chain.rates past in (
+          compose f n s,
+          single-image (compose f (n + k)) (compose f n s) is.some.0 chain.states is.some.1
+              (λ x own. compose-append f n k x ∙ ap (compose f n) (single-each (image_from (λ i. f (n + i)) chain.states k) s (compose (λ i. f (n + i)) k x) met (In-image (compose (λ i. f (n + i)) k) x chain.states own))),
+        ));
+    ends = λ past n s x met own.
+        (let f = function_at chain.functions chain.rates past in
+        single-each (image_from f chain.states n) s (compose f n x) met (In-image (compose f n) x chain.states own));
+  }
+
+  pub apart-falls : ApartFalls chain
+  apart-falls = uncoalesced-falls chain meeting meeting-runs
+
+  pub unmet-apart : (sample : Words → Outcome) (limit : ℕ) → ((past : Words) → IsOutcome (meeting_from (function_at chain.functions chain.rates past) chain.states) limit (sample past))
+      → UnmetIsApart chain sample (2 ^ limit)
+  unmet-apart sample limit meets =
+      sum-same (sum_pasts word_count (2 ^ limit)) (sum_pasts-is word_count (2 ^ limit)) (λ past. one_if (is_unmet (sample past))) (λ past. one_if (are_apart chain (2 ^ limit) past))
+      (λ past. unmet-last chain meeting meeting-runs past limit (sample past) (meets past))

@@ -3,16 +3,15 @@ use Rattle.std.specs.Prelude.{◌≡◌, ℕ, zero, suc, ◌+◌, ◌-◌, ◌*�
 use Rattle.std.proofs.Common.{ap, sym, ◌∙◌, arith}
 use Rattle.psi_rate.specs.Composition.{picked, function_at}
 use Rattle.psi_law.specs.Counting.{Words, sum_below, after, sum_pasts, count_pasts}
-use Rattle.psi_law.specs.Chains.{Chain, end_of}
 use Rattle.psi_law.proofs.SumsLemmas.{one_if, sum-same, sum-times, sum_below-is, sum_pasts-is}
-use Rattle.psi_law.proofs.ChainLemmas.{end_of-first}
 
 -- the n newest words of one past, and before them those of another
-pub joined : ℕ → Words → Words → Words
+unfoldable pub joined : ℕ → Words → Words → Words
 joined zero p q = q
 joined (suc n) p q = after (p 0) (joined n (λ k. p (suc k)) q)
 
-sum_pasts-joined : (bound n k : ℕ) (g : Words → ℕ) → sum_pasts bound (n + k) g ≡ sum_pasts bound n (λ p. sum_pasts bound k (λ q. g (joined n p q)))
+-- the lists of n + k words are those of n and of k words, one past the other
+pub sum_pasts-joined : (bound n k : ℕ) (g : Words → ℕ) → sum_pasts bound (n + k) g ≡ sum_pasts bound n (λ p. sum_pasts bound k (λ q. g (joined n p q)))
 unfolding joined
 sum_pasts-joined bound zero k g = (let e : zero + k ≡ k = omega arith in ap (λ m. sum_pasts bound m g) e)
 sum_pasts-joined bound (suc n) k g =
@@ -57,13 +56,6 @@ joined-older (suc n) p q k =
     ap (λ i. after (p 0) (joined n (λ j. p (suc j)) q) i) e ∙ joined-older n (λ j. p (suc j)) q k
 
 -- and its functions
-pub function_at-newer : (functions : List (List ℕ → List ℕ)) (rates : List ℕ) (n : ℕ) (p q : Words) (k : ℕ) → k < n
-    → function_at functions rates (joined n p q) (suc k) ≡ function_at functions rates p (suc k)
-function_at-newer functions rates n p q k small =
-    let e : suc k - 1 ≡ k = omega arith in
-    ap (λ i. picked functions rates (joined n p q i)) e
-    ∙ (ap (λ word. picked functions rates word) (joined-newer n p q k small) ∙ ap (λ i. picked functions rates (p i)) (sym e))
-
 pub function_at-older : (functions : List (List ℕ → List ℕ)) (rates : List ℕ) (n : ℕ) (p q : Words) (k : ℕ)
     → function_at functions rates (joined n p q) (n + suc k) ≡ function_at functions rates q (suc k)
 function_at-older functions rates n p q k =
@@ -71,15 +63,3 @@ function_at-older functions rates n p q k =
     let d : suc k - 1 ≡ k = omega arith in
     ap (λ i. picked functions rates (joined n p q i)) e
     ∙ (ap (λ word. picked functions rates word) (joined-older n p q k) ∙ ap (λ i. picked functions rates (q i)) (sym d))
-
--- its run is that of the newer words after that of the older
-pub end_of-joined : (chain : Chain) (n k : ℕ) (p q : Words) (x : List ℕ) → end_of chain (joined n p q) (n + k) x ≡ end_of chain p n (end_of chain q k x)
-unfolding joined
-end_of-joined chain zero k p q x = (let e : zero + k ≡ k = omega arith in ap (λ m. end_of chain q m x) e)
-end_of-joined chain (suc n) k p q x =
-    let e : suc n + k ≡ suc (n + k) = omega arith in
-    let rest : Words = λ j. p (suc j) in
-    ap (λ m. end_of chain (after (p 0) (joined n rest q)) m x) e
-    ∙ (end_of-first chain (after (p 0) (joined n rest q)) (n + k) x
-    ∙ (ap (λ (z : List ℕ). picked chain.functions chain.rates (p 0) z) (end_of-joined chain n k rest q x)
-    ∙ sym (end_of-first chain p n (end_of chain q k x))))

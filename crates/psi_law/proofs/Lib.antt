@@ -17,8 +17,9 @@ pub mod SignedLemmas
 pub mod CouplingLemmas
 pub mod ValueLemmas
 pub mod LawfulLemmas
-pub mod OutcomeLemmas
+pub mod LooksLemmas
 pub mod NetworkLemmas
 pub mod ClosedLemmas
 pub mod NetworkAnswerLemmas
+pub mod QueueingLemmas
 mod Worked

@@ -13,8 +13,7 @@ use Rattle.psi_law.specs.Samples.{are_apart, apart}
 use Rattle.psi_law.specs.Statements.{MixesAsCoupled}
 use Rattle.psi_law.proofs.SumsLemmas.{one_if, sum-same, sum-times, sum_pasts-is, sum_by-is, sum_by-swap, sum_by-order, sum_by-out, sum_by-at}
 use Rattle.psi_law.proofs.ChainLemmas.{Own, is_same-itself, end_of-keeps}
-use Rattle.psi_law.proofs.BalanceLemmas.{weighted-is, weighted-same, weighted-swap, balanced-stationary}
-use Rattle.psi_law.proofs.LawLemmas.{under-weighted}
+use Rattle.psi_law.proofs.BalanceLemmas.{weighted-is, weighted-same, weighted-swap, under-weighted, balanced-stationary}
 
 -- where two runs end in one state unless states are apart, one of them ends in y only if the other does, or if states are apart
 ends-alike : (u v y : List ℕ) (o : Option (List ℕ)) → ((s : List ℕ) → o ≡ Some s → u ≡ v) → one_if (is_same u y) ≤ one_if (is_same v y) + one_if (is_none o) * one_if (is_same u y)

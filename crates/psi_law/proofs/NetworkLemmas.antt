@@ -14,28 +14,27 @@ use Rattle.psi_event.specs.Law.{IsClosed, IsMonotone}
 use Rattle.psi_kinds.specs.Kinds.{do_kind}
 use Rattle.psi_kinds.proofs.ClosingLemmas.{kind-closed}
 use Rattle.psi_rate.specs.Rates.{AreRates}
-use Rattle.psi_rate.specs.Composition.{Parts, Functions, function_at, compose, Below}
+use Rattle.psi_rate.specs.Composition.{SystemParts, Functions, function_at, compose}
 use Rattle.psi_rate.specs.System.{IsSystem}
-use Rattle.psi_rate.specs.Outcomes.{meeting_at, outcome_within, IsOutcome}
+use Rattle.psi_rate.specs.Outcomes.{outcome_within}
 use Rattle.psi_rate.proofs.OutcomesLemmas.{outcome_within-is, outcome_within-only}
 use Rattle.psi_rate.proofs.FunctionsLemmas.{function_at-closed}
 use Rattle.psi_region.specs.Region.{Area, start, step}
 use Rattle.psi_region.proofs.RegionLemmas.{step-split}
 use Rattle.psi_horizon.specs.Runs.{follow, ending_at}
 use Rattle.psi_horizon.specs.Sample.{IsSample}
-use Rattle.psi_horizon.proofs.RunsLemmas.{endings-last, outcome-reached}
+use Rattle.psi_horizon.proofs.RunsLemmas.{endings-last, ending-reached}
 use Rattle.psi_horizon.proofs.SampleLemmas.{sample-is}
 use Rattle.psi_net_model.specs.Network.{Network, caps_of, rates_of, functions_of}
 use Rattle.psi_net_model.specs.Valid.{IsNetwork, IsAccepted}
 use Rattle.psi_net_model.proofs.QueueLemmas.{capacities_kept}
 use Rattle.psi_law.specs.Counting.{Words}
 use Rattle.psi_law.specs.Chains.{Chain, IsChain}
-use Rattle.psi_law.specs.Statements.{UncoalescedFalls, UnmetIsUncoalesced, LimitSquares, UnmetIsApart, LooksAtFirst}
+use Rattle.psi_law.specs.Statements.{UnmetIsApart}
 use Rattle.psi_law.specs.Networks.{chain_of, sample_of, network_chain, network_sample}
-use Rattle.psi_law.specs.Samples.{Reaches}
-use Rattle.psi_law.proofs.CoalescenceLemmas.{single-list, AreRuns, uncoalesced-falls, unmet-uncoalesced, limit-squares}
-use Rattle.psi_law.proofs.LawfulLemmas.{IsLawful, lawful}
-use Rattle.psi_law.proofs.OutcomeLemmas.{outcome-reaches, outcome-looks, unmet-apart}
+use Rattle.psi_law.proofs.CoalescenceLemmas.{single-list, AreRuns}
+use Rattle.psi_law.proofs.FallsLemmas.{unmet-apart}
+use Rattle.psi_law.proofs.LawfulLemmas.{AreLawful, runs-lawful}
 
 -- a run looks at the functions of its own steps alone
 pub follow-first : (split : ℕ) (f g : Functions) (t : ℕ) (a : Area) → ((k : ℕ) → k < t → f (suc k) ≡ g (suc k)) → follow split f t a ≡ follow split g t a
@@ -69,24 +68,20 @@ one-older split caps f n k s some met =
     ∙ (ap (λ (xs : List (List ℕ)). single (follow split f n (record { is_split = a.is_split; states = xs })).states) (single-list a.states s met)
     ∙ ap (λ (xs : List (List ℕ)). single xs) (follow-one split f n a.is_split s some))
 
--- all that is proved of events, on all states of these capacities, and of their samples
-pub record IsLawfulOnAll (caps : List ℕ) (functions : List (List ℕ → List ℕ)) (rates : List ℕ) (split limit : ℕ) (chain : Chain) (sample : Words → Outcome) : Type 0 where
-  pub laws : IsLawful chain sample (2 ^ limit)
-  pub runs : UncoalescedFalls (λ past. ending_at split (function_at functions rates past) caps)
-  pub unmet : UnmetIsUncoalesced (λ past. ending_at split (function_at functions rates past) caps)
-  pub square : LimitSquares (λ past. ending_at split (function_at functions rates past) caps)
+-- what is proved of the samples of events on all states of these capacities alone
+pub record AreSampled (caps : List ℕ) (functions : List (List ℕ → List ℕ)) (rates : List ℕ) (split limit : ℕ) (chain : Chain) (sample : Words → Outcome) : Type 0 where
   pub monotone : All (IsMonotone caps) functions → UnmetIsApart chain sample (2 ^ limit)
   pub small : length (all_states caps) ≤ split → UnmetIsApart chain sample (2 ^ limit)
   pub promised : (past : Words) (o : Outcome) → IsSample caps functions rates limit split past o ↔ (o ≡ sample past)
 
 -- functions that make states of these capacities of such states, with rates of a wheel
-module _ (caps : List ℕ) (functions : List (List ℕ → List ℕ)) (rates : List ℕ) (closed : All (IsClosed caps) functions) where
+module _ (caps : List ℕ) (functions : List (List ℕ → List ℕ)) (rates : List ℕ) (closed : All (IsClosed caps) functions) (rated : AreRates rates) (count : length rates ≡ length functions) where
   -- their chain on all states
   abbrev chain_on_all : Chain
   chain_on_all = record { functions = functions; rates = rates; states = all_states caps }
 
-  all-chain : AreRates rates → length rates ≡ length functions → IsChain chain_on_all
-  all-chain rated count = record {
+  all-chain : IsChain chain_on_all
+  all-chain = record {
     finite = record {
       some = (caps, In-caps caps);
       distinct = rising-distinct (all_states caps) (box-rising (zeros caps) caps);
@@ -96,25 +91,22 @@ module _ (caps : List ℕ) (functions : List (List ℕ → List ℕ)) (rates : L
     same_count = count;
   }
 
-  -- the samples of these capacities with a split number and a limit
-  module _ (split limit : ℕ) where
+  -- their region runs with a split number, and the samples of these with a limit
+  module _ (split limit : ℕ) (some : 1 ≤ split) where
     abbrev all_sample : Words → Outcome
     all_sample past = outcome_within (ending_at split (function_at functions rates past) caps) limit
 
-    all-reaches : Reaches chain_on_all all_sample (2 ^ limit)
-    all-reaches =
-        outcome-reaches (Below caps) chain_on_all (λ f. ending_at split f caps) limit (In-of_all_states caps)
-        (λ past o is. outcome-reached split caps (function_at functions rates past) limit o (function_at-closed caps functions rates past closed) is)
-
-    all-runs : 1 ≤ split → AreRuns functions rates (λ f. ending_at split f caps)
-    all-runs some = record {
+    all-runs : AreRuns chain_on_all (λ f. ending_at split f caps)
+    all-runs = record {
       looks = λ f g t same. ap (λ (a : Area). single a.states) (follow-first split f g t (start caps) same);
       last = λ past. endings-last split caps (function_at functions rates past) (function_at-closed caps functions rates past closed);
       older = λ past n k s met. (compose (function_at functions rates past) n s, one-older split caps (function_at functions rates past) n k s some met);
+      ends = λ past n s x met own.
+          (ending-reached split caps (function_at functions rates past) n s (function_at-closed caps functions rates past closed) met).each x n (In-of_all_states caps x own) (omega arith);
     }
 
-    all-looks : 1 ≤ split → LooksAtFirst all_sample (2 ^ limit)
-    all-looks some = outcome-looks (λ f. ending_at split f caps) functions rates limit (all-runs some).looks
+    all-lawful : AreLawful chain_on_all (λ f. ending_at split f caps) limit
+    all-lawful = runs-lawful chain_on_all (λ f. ending_at split f caps) limit all-chain all-runs
 
     -- they are the samples that a plan promises
     all-samples : (past : Words) (o : Outcome) → IsSample caps functions rates limit split past o ↔ (o ≡ all_sample past)
@@ -126,43 +118,48 @@ module _ (caps : List ℕ) (functions : List (List ℕ → List ℕ)) (rates : L
     )
 
     -- where such a sample is that of all states' meetings, what isn't met is what leaves states apart
-    all-unmet : AreRates rates → length rates ≡ length functions → ((past : Words) → IsOutcome (meeting_at (function_at functions rates past) caps) limit (all_sample past))
-        → UnmetIsApart chain_on_all all_sample (2 ^ limit)
-    all-unmet rated count meets = unmet-apart chain_on_all all_sample limit (all-chain rated count) meets
-
-    all-lawful : 1 ≤ split → AreRates rates → length rates ≡ length functions → IsLawfulOnAll caps functions rates split limit chain_on_all all_sample
-    all-lawful some rated count = record {
-      laws = lawful chain_on_all all_sample (2 ^ limit) (all-chain rated count) all-reaches (all-looks some);
-      runs = uncoalesced-falls functions rates (λ f. ending_at split f caps) (all-runs some);
-      unmet = unmet-uncoalesced functions rates (λ f. ending_at split f caps) (all-runs some);
-      square = limit-squares functions rates (λ f. ending_at split f caps) (all-runs some);
-      monotone = λ monotone. all-unmet rated count (λ past. ((all-samples past (all_sample past)).1 refl).monotone monotone);
-      small = λ few. all-unmet rated count (λ past. ((all-samples past (all_sample past)).1 refl).small few);
+    all-sampled : AreSampled caps functions rates split limit chain_on_all all_sample
+    all-sampled = record {
+      monotone = λ monotone. unmet-apart chain_on_all all-chain.finite all_sample limit (λ past. ((all-samples past (all_sample past)).1 refl).monotone monotone);
+      small = λ few. unmet-apart chain_on_all all-chain.finite all_sample limit (λ past. ((all-samples past (all_sample past)).1 refl).small few);
       promised = all-samples;
     }
 
 -- the events of a system
-system-closed : {E : Type 0} (capacities : E → List ℕ) (function : E → List ℕ → List ℕ) (system : Parts E) → IsSystem capacities system
+system-closed : {E : Type 0} (capacities : E → List ℕ) (function : E → List ℕ → List ℕ) (system : SystemParts E) → IsSystem capacities system
     → ((event : E) → IsClosed (capacities event) (function event)) → All (IsClosed system.caps) (map function system.events)
 system-closed capacities function system fit closed =
     All-map (IsClosed system.caps) function system.events
     (λ k d small. subst (λ (caps : List ℕ). IsClosed caps (function (slice_index_or system.events k d))) (fit.same_caps k d small) (closed (slice_index_or system.events k d)))
 
-pub system-lawful : {E : Type 0} (capacities : E → List ℕ) (function : E → List ℕ → List ℕ) (system : Parts E) → IsSystem capacities system
-    → ((event : E) → IsClosed (capacities event) (function event))
-    → IsLawfulOnAll system.caps (map function system.events) system.rates system.split system.limit (chain_of function system) (sample_of function system)
-system-lawful capacities function system fit closed =
-    all-lawful system.caps (map function system.events) system.rates (system-closed capacities function system fit closed) system.split system.limit
-    fit.some_split fit.rated (fit.same_count ∙ sym (length-map system.events function))
+module _ {E : Type 0} (capacities : E → List ℕ) (function : E → List ℕ → List ℕ) (system : SystemParts E) (fit : IsSystem capacities system)
+    (closed : (event : E) → IsClosed (capacities event) (function event)) where
+  pub system-lawful : AreLawful (chain_of function system) (λ f. ending_at system.split f system.caps) system.limit
+  system-lawful =
+      all-lawful system.caps (map function system.events) system.rates (system-closed capacities function system fit closed) fit.rated (fit.same_count ∙ sym (length-map system.events function))
+      system.split system.limit fit.some_split
+
+  pub system-sampled : AreSampled system.caps (map function system.events) system.rates system.split system.limit (chain_of function system) (sample_of function system)
+  system-sampled =
+      all-sampled system.caps (map function system.events) system.rates (system-closed capacities function system fit closed) fit.rated (fit.same_count ∙ sym (length-map system.events function))
+      system.split system.limit fit.some_split
 
 -- and those of a network
-pub network-closed : (net : Network) → IsNetwork net → All (IsClosed (caps_of net)) (functions_of net)
-network-closed net kept =
-    All-map (IsClosed (caps_of net)) (λ e. do_kind (caps_of net) e.kind) net.events
-    (λ k d small. (let is : IsAccepted (caps_of net) (slice_index_or net.events k d).kind = kept.kinds k d small in
-    kind-closed (caps_of net) (slice_index_or net.events k d).kind (capacities_kept net.queues kept.queues) is.named is.accepted))
+module _ (net : Network) (kept : IsNetwork net) where
+  pub network-closed : All (IsClosed (caps_of net)) (functions_of net)
+  network-closed =
+      All-map (IsClosed (caps_of net)) (λ e. do_kind (caps_of net) e.kind) net.events
+      (λ k d small. (let is : IsAccepted (caps_of net) (slice_index_or net.events k d).kind = kept.kinds k d small in
+      kind-closed (caps_of net) (slice_index_or net.events k d).kind (capacities_kept net.queues kept.queues) is.named is.accepted))
 
-pub network-lawful : (net : Network) → IsNetwork net → IsLawfulOnAll (caps_of net) (functions_of net) (rates_of net) net.split net.limit (network_chain net) (network_sample net)
-network-lawful net kept =
-    all-lawful (caps_of net) (functions_of net) (rates_of net) (network-closed net kept) net.split net.limit kept.some_split kept.rates
-    (length-map net.events (λ e. e.rate) ∙ sym (length-map net.events (λ e. do_kind (caps_of net) e.kind)))
+  pub rates-count : length (rates_of net) ≡ length (functions_of net)
+  rates-count = length-map net.events (λ e. e.rate) ∙ sym (length-map net.events (λ e. do_kind (caps_of net) e.kind))
+
+  pub network-runs : AreRuns (network_chain net) (λ f. ending_at net.split f (caps_of net))
+  network-runs = all-runs (caps_of net) (functions_of net) (rates_of net) network-closed kept.rates rates-count net.split net.limit kept.some_split
+
+  pub network-lawful : AreLawful (network_chain net) (λ f. ending_at net.split f (caps_of net)) net.limit
+  network-lawful = all-lawful (caps_of net) (functions_of net) (rates_of net) network-closed kept.rates rates-count net.split net.limit kept.some_split
+
+  pub network-sampled : AreSampled (caps_of net) (functions_of net) (rates_of net) net.split net.limit (network_chain net) (network_sample net)
+  network-sampled = all-sampled (caps_of net) (functions_of net) (rates_of net) network-closed kept.rates rates-count net.split net.limit kept.some_split

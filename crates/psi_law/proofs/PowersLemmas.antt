@@ -1,7 +1,7 @@
 -- What stays below a share that falls geometrically is nothing.
 use Rattle.std.specs.Prelude.{◌≡◌, ℕ, zero, suc, ◌+◌, ◌-◌, ◌*◌, ◌^◌, ◌<◌, ◌≤◌, refl}
 use Rattle.std.proofs.Common.{inl, inr, ap, arith}
-use Rattle.std.proofs.Math.Nat.{pow-zero, pow-succ', pow-le-pow_left, mul-le-mul_left, mul-le-mul_right, le_of_mul-le-mul_left, one-le-pow}
+use Rattle.std.proofs.Math.Nat.{pow-zero, pow-succ', pow-le-pow_left, mul-le-mul_left, mul-le-mul_right, le_of_mul-le-mul_left, mul-sub, one-le-pow}
 use Rattle.std.proofs.lemmas.Nat.{pow-add}
 use Rattle.std.proofs.lemmas.Bool.{cases_lt}
 
@@ -31,10 +31,7 @@ pow-times b n (suc j) =
 
 -- what is left of a difference, as often
 pub less-times : (a b p c : ℕ) → a * p ≤ b * p + c → (a - b) * p ≤ c
-less-times a b p c under = elim (cases_lt a b) [
-  | inl less ↦ (let z : a - b ≡ 0 = omega arith in let e : (a - b) * p ≡ 0 * p = ap (λ m. m * p) z in omega arith)
-  | inr more ↦ (let z : a ≡ b + (a - b) = omega arith in let e : a * p ≡ (b + (a - b)) * p = ap (λ m. m * p) z in omega arith)
-]
+less-times a b p c under = (let e = mul-sub p a b in omega arith)
 
 -- what isn't more than c * (u / a)^j, for every j, is nothing where u is below a: take c * u for j
 pub vanishes : (d c u a : ℕ) → u < a → ((j : ℕ) → d * a ^ j ≤ c * u ^ j) → d ≡ 0

@@ -1,8 +1,8 @@
 -- Sums: what holds of each way to sum, and that the order of two of them doesn't matter.
-use Rattle.std.specs.Prelude.{◌≡◌, ℕ, zero, suc, ◌+◌, ◌*◌, ◌%◌, ◌<◌, ◌≤◌, List, [], ◌∷◌, filter, Bool, true, false, nat_eq, if◌then◌else◌, refl}
+use Rattle.std.specs.Prelude.{◌≡◌, ℕ, zero, suc, ◌+◌, ◌*◌, ◌%◌, ◌^◌, ◌<◌, ◌≤◌, List, [], ◌∷◌, length, filter, Bool, true, false, nat_eq, if◌then◌else◌, refl}
 use Rattle.std.specs.List.{sum_by}
 use Rattle.std.proofs.Common.{inl, inr, ap, sym, ◌∙◌, subst, arith}
-use Rattle.std.proofs.Math.Nat.{mod-eq_of_lt, add-mod_left}
+use Rattle.std.proofs.Math.Nat.{mod-eq_of_lt, add-mod_left, pow-zero, pow-succ'}
 use Rattle.std.proofs.lemmas.Bool.{cases_lt, cases_Bool, eqb-true, eqb-false}
 use Rattle.std.proofs.lemmas.List.Sums.{sum_by-cons}
 use Rattle.psi_state.specs.Members.{In}
@@ -89,14 +89,6 @@ sum_by-swap {A} {B} sum is (x ∷ xs) g =
     let rest = sum_by-swap sum is xs g in omega arith
 
 -- only the members of a list count, and only the numbers below the bound
-pub sum_by-same : {A : Type 0} (xs : List A) (g h : A → ℕ) → ((x : A) → In x xs → g x ≡ h x) → sum_by g xs ≡ sum_by h xs
-sum_by-same [] g h same = refl
-sum_by-same (x ∷ xs) g h same =
-    let one = sum_by-cons g x xs in
-    let other = sum_by-cons h x xs in
-    let first = same x (inl refl) in
-    let rest = sum_by-same xs g h (λ y member. same y (inr member)) in omega arith
-
 pub sum_by-order : {A : Type 0} (xs : List A) (g h : A → ℕ) → ((x : A) → In x xs → g x ≤ h x) → sum_by g xs ≤ sum_by h xs
 sum_by-order [] g h order = omega arith
 sum_by-order (x ∷ xs) g h order =
@@ -104,6 +96,11 @@ sum_by-order (x ∷ xs) g h order =
     let other = sum_by-cons h x xs in
     let first = order x (inl refl) in
     let rest = sum_by-order xs g h (λ y member. order y (inr member)) in omega arith
+
+pub sum_by-same : {A : Type 0} (xs : List A) (g h : A → ℕ) → ((x : A) → In x xs → g x ≡ h x) → sum_by g xs ≡ sum_by h xs
+sum_by-same xs g h same =
+    let under = sum_by-order xs g h (λ x member. (let e = same x member in omega arith)) in
+    let over = sum_by-order xs h g (λ x member. (let e = same x member in omega arith)) in omega arith
 
 -- what is in each term stands outside the sum
 pub sum_by-out : {A : Type 0} (xs : List A) (g : A → ℕ) (c : ℕ) → sum_by (λ x. g x * c) xs ≡ sum_by g xs * c
@@ -132,11 +129,8 @@ sum_by-filter test g (x ∷ xs) =
     ]
 
 sum_by-none : {A : Type 0} (xs : List A) (test : A → Bool) (g : A → ℕ) → ((x : A) → In x xs → test x ≡ false) → sum_by (λ x. g x * one_if (test x)) xs ≡ 0
-sum_by-none [] test g none = refl
-sum_by-none (x ∷ xs) test g none =
-    let first = sum_by-cons (λ y. g y * one_if (test y)) x xs in
-    let own = times-none (test x) (g x) (none x (inl refl)) in
-    let rest = sum_by-none xs test g (λ y member. none y (inr member)) in omega arith
+sum_by-none xs test g none =
+    sum_by-same xs (λ x. g x * one_if (test x)) (λ x. 0) (λ x member. times-none (test x) (g x) (none x member)) ∙ (sum_by-is xs).none
 
 -- of a list without repeats one member passes the test
 pub sum_by-at : {A : Type 0} (xs : List A) (test : A → Bool) (z : A) (g : A → ℕ) → test z ≡ true → ((x : A) → test x ≡ true → x ≡ z)
@@ -159,11 +153,28 @@ sum_by-at {A} (x ∷ xs) test z g own only distinct member =
           let rest = sum_by-at xs test z g own only distinct.1 there in omega arith)
     ]
 
--- the sum of ones over all pasts is their number
+-- the sum of a constant is the constant times the sum of ones
+pub sum-constant : {A : Type 0} (sum : (A → ℕ) → ℕ) → IsSum sum → (c : ℕ) → sum (λ a. c) ≡ c * sum (λ a. 1)
+sum-constant sum is c = sum-same sum is (λ a. c) (λ a. c * 1) (λ a. omega arith) ∙ sum-times sum is c (λ a. 1)
+
+pub sum_by-constant : {A : Type 0} (xs : List A) (c : ℕ) → sum_by (λ (x : A). c) xs ≡ length xs * c
+sum_by-constant [] c = omega arith
+sum_by-constant {A} (x ∷ xs) c =
+    (let first : sum_by (λ (y : A). c) (x ∷ xs) ≡ c + sum_by (λ (y : A). c) xs = sum_by-cons (λ y. c) x xs in let rest = sum_by-constant xs c in omega arith)
+
+-- how many numbers below a bound there are, and how many pasts
 pub sum_below-constant : (n c : ℕ) → sum_below n (λ k. c) ≡ n * c
 unfolding sum_below
 sum_below-constant zero c = omega arith
 sum_below-constant (suc n) c = (let rest = sum_below-constant n c in omega arith)
+
+pub pasts-ones : (bound n : ℕ) → sum_pasts bound n (λ past. 1) ≡ bound ^ n
+pasts-ones bound zero = sym (pow-zero bound)
+pasts-ones bound (suc n) =
+    sum_below-constant bound (sum_pasts bound n (λ past. 1)) ∙ (ap (λ m. bound * m) (pasts-ones bound n) ∙ sym (pow-succ' bound n))
+
+pub pasts-constant : (bound n c : ℕ) → sum_pasts bound n (λ past. c) ≡ c * bound ^ n
+pasts-constant bound n c = sum-constant (sum_pasts bound n) (sum_pasts-is bound n) c ∙ ap (λ m. c * m) (pasts-ones bound n)
 
 -- only the numbers below the bound count
 pub sum_below-same : (n : ℕ) (g h : ℕ → ℕ) → ((k : ℕ) → k < n → g k ≡ h k) → sum_below n g ≡ sum_below n h
@@ -205,11 +216,9 @@ apart-nat_eq n e apart = elim (cases_Bool (nat_eq n e)) [ inl so ↦ absurd (apa
 
 -- a sum of which one term counts, or none
 pub sum_below-none : (n e : ℕ) (g : ℕ → ℕ) → n ≤ e → sum_below n (λ k. g k * one_if (nat_eq k e)) ≡ 0
-unfolding sum_below
-sum_below-none zero e g past = refl
-sum_below-none (suc n) e g past =
-    let rest = sum_below-none n e g (omega arith) in
-    let none = times-none (nat_eq n e) (g n) (apart-nat_eq n e (λ same. omega (arith, same, past))) in omega arith
+sum_below-none n e g past =
+    sum_below-same n (λ k. g k * one_if (nat_eq k e)) (λ k. 0) (λ k small. times-none (nat_eq k e) (g k) (apart-nat_eq k e (λ same. omega (arith, same, small, past))))
+    ∙ (sum_below-is n).none
 
 pub sum_below-at : (n e : ℕ) (g : ℕ → ℕ) → e < n → sum_below n (λ k. g k * one_if (nat_eq k e)) ≡ g e
 unfolding sum_below

@@ -1,5 +1,5 @@
--- The first value of a past: what it reaches, how it agrees with the sample, and its law.
-use Rattle.std.specs.Prelude.{◌≡◌, ℕ, suc, ℤ, ◌+◌, ◌*◌, ◌^◌, ◌<◌, ◌≤◌, List, [], ◌∷◌, Option, Some, None, refl}
+-- The first value of a past: how it agrees with the sample, and its law.
+use Rattle.std.specs.Prelude.{◌≡◌, ℕ, ℤ, ◌+◌, ◌*◌, ◌^◌, ◌<◌, ◌≤◌, List, [], ◌∷◌, Some, refl}
 use Rattle.std.specs.Ordering.{int_eq}
 use Rattle.std.proofs.Common.{inl, inr, ap, sym, ◌∙◌, arith}
 use Rattle.std.proofs.lemmas.Bool.{cases_lt}
@@ -7,33 +7,22 @@ use Rattle.psi_state.specs.declared.Outcome.{Outcome}
 use Rattle.psi_state.specs.declared.Outcome.TheVariants.{Met, NotMet}
 use Rattle.psi_state.specs.State.{IsBelow}
 use Rattle.psi_rate.specs.Composition.{Functions, AreClosed}
-use Rattle.psi_rate.specs.Doubling.{first_answer, HasNone, TellsFirst}
 use Rattle.psi_rate.specs.Outcomes.{IsOutcome}
 use Rattle.psi_rate.proofs.PowersLemmas.{pow-order}
-use Rattle.psi_rate.proofs.DoublingLemmas.{first_answer-tells}
 use Rattle.psi_horizon.specs.Runs.{region_at, ending_at}
 use Rattle.psi_horizon.proofs.RunsLemmas.{ending-reached}
 use Rattle.psi_couple.specs.declared.answers.Valued.{Valued}
 use Rattle.psi_couple.specs.declared.answers.Valued.TheVariants.{At, NotAt}
-use Rattle.psi_couple.specs.Valuing.{common_value, value_at, valued_of, valued_within, IsValued}
-use Rattle.psi_couple.proofs.ValuingLemmas.{common_value-same, value-reached, valued_within-only}
-use Rattle.psi_law.specs.Counting.{Words, sum_pasts}
+use Rattle.psi_couple.specs.Valuing.{common_value, value_at, IsValued}
+use Rattle.psi_couple.proofs.ValuingLemmas.{common_value-same, value-reached}
+use Rattle.psi_law.specs.Counting.{Words}
 use Rattle.psi_law.specs.Wheel.{word_count}
-use Rattle.psi_law.specs.Chains.{Chain, IsChain, end_of, weighted}
-use Rattle.psi_law.specs.Values.{is_value, is_unvalued, weight_valued, valued_at, unvalued, BalanceIsValueLaw, ReachesValue, AgreesValued}
+use Rattle.psi_law.specs.Chains.{Chain, IsChain, end_of, whole, weighted}
+use Rattle.psi_law.specs.Values.{is_value, is_unvalued, weight_valued, BalanceIsValueLaw, ReachesValue, AgreesValued}
 use Rattle.psi_law.proofs.SumsLemmas.{one_if, at_most_one, sum_pasts-is, sum_by-filter}
-use Rattle.psi_law.proofs.BalanceLemmas.{weighted-pasts}
-use Rattle.psi_law.proofs.LawLemmas.{under-weighted, over-weighted}
-use Rattle.psi_law.proofs.CouplingLemmas.{some-none}
+use Rattle.psi_law.proofs.BalanceLemmas.{weighted-is}
+use Rattle.psi_law.proofs.LawLemmas.{runs-steady, sums-between}
 use Rattle.psi_law.proofs.CoalescenceLemmas.{single-list}
-
-valued-tells : (run : ℕ → Option ℤ) (limit : ℕ) (found : Option (ℕ × ℤ)) → TellsFirst run limit found → IsValued run limit (valued_of limit found)
-valued-tells run limit None tells = (refl, tells)
-valued-tells run limit (Some found) tells = tells
-
-pub valued_within-is : (run : ℕ → Option ℤ) (limit : ℕ) → IsValued run limit (valued_within run limit)
-unfolding valued_within
-valued_within-is run limit = valued-tells run limit (first_answer run limit) (first_answer-tells run limit)
 
 -- ---- agreement with the sample
 
@@ -62,13 +51,13 @@ value-agrees value split caps f limit (At h w) (Met t s) z below closed first me
         (let own = one-valued value split caps f t s met.answer in
         let below_exponent : met.exponent < first.exponent = exponent-under met.exponent first.exponent t h met.power first.power less in
         let none = first.earlier.each met.exponent below_exponent in
-        absurd (some-none (value s) (value_at value split f caps t) own (ap (value_at value split f caps) met.power ∙ none)))
+        let missed = ap (value_at value split f caps) met.power ∙ none in absurd cc)
     | inr enough ↦ enough
   ],
 )
 value-agrees value split caps f limit (NotAt l) (Met t s) z below closed none met =
-    some-none (value s) (value_at value split f caps t) (one-valued value split caps f t s met.answer)
-    (ap (value_at value split f caps) met.power ∙ none.1.each met.exponent (let w = met.within in omega arith))
+    let own = one-valued value split caps f t s met.answer in
+    let missed = ap (value_at value split f caps) met.power ∙ none.1.each met.exponent (let w = met.within in omega arith) in absurd cc
 value-agrees value split caps f limit (At h w) (NotMet l) z below closed first met = tt
 value-agrees value split caps f limit (NotAt m) (NotMet l) z below closed first met = tt
 
@@ -86,43 +75,24 @@ value-most (NotAt l) u v at = at_most_one (int_eq u v)
 pub value-law : (chain : Chain) (value : List ℕ → ℤ) (answer : Words → Valued) (n : ℕ) → IsChain chain → ReachesValue answer n chain value → BalanceIsValueLaw answer n chain value
 value-law chain value answer n is reaches = λ weight balanced.
     (let pasts = sum_pasts-is word_count n in
-    let ends : ℤ → List ℕ → Words → ℕ = λ v x past. one_if (int_eq (value (end_of chain past n x)) v) in
+    let steady = runs-steady chain weight n is balanced in
+    let ends : ℤ → List ℕ → ℕ = λ v z. one_if (int_eq (value z) v) in
     let valued : ℤ → Words → ℕ = λ v past. one_if (is_value v (answer past)) in
-    let none : Words → ℕ = λ past. one_if (is_unvalued (answer past)) in
-    let part : ℤ → ℕ = λ v. weight_valued chain weight value v in
-    let fit : (v : ℤ) → weighted chain weight (λ x. sum_pasts word_count n (ends v x)) ≡ word_count ^ n * part v =
-    λ v. weighted-pasts chain weight is n (λ z. one_if (int_eq (value z) v)) balanced
-    ∙ ap (λ k. word_count ^ n * k) (sym (sum_by-filter (λ x. int_eq (value x) v) weight chain.states)) in
+    let unvalued_at : Words → ℕ = λ past. one_if (is_unvalued (answer past)) in
+    let none = ap (λ (k : ℕ). k * word_count ^ n) (weighted-is chain weight).none in
+    let none-summed = ap (λ (k : ℕ). whole chain weight * k) pasts.none in
+    let part : (v : ℤ) → weight_valued chain weight value v * word_count ^ n ≡ weighted chain weight (ends v) * word_count ^ n =
+    λ v. ap (λ k. k * word_count ^ n) (sum_by-filter (λ x. int_eq (value x) v) weight chain.states) in
     record {
       least = λ v.
-          (let e = fit v in
-          let under = under-weighted chain weight (λ x. sum_pasts word_count n (ends v x)) (valued_at answer n v)
-          (λ x own. pasts.order (valued v) (ends v x) (λ past. value-least (answer past) (value (end_of chain past n x)) v (reaches.each past x own))) in
+          (let e = part v in
+          let under = sums-between chain weight n (λ past x. end_of chain past n x) steady (valued v) (λ past. 0) (ends v) (λ x. 0)
+          (λ past x own. (let order = value-least (answer past) (value (end_of chain past n x)) v (reaches.each past x own) in omega arith)) in
           omega arith);
       most = λ v.
-          (let e = fit v in
-          let both = pasts.more (valued v) none in
-          let over = over-weighted chain weight (λ x. sum_pasts word_count n (ends v x)) (valued_at answer n v + unvalued answer n)
-          (λ x own.
-          (let order = pasts.order (ends v x) (λ past. valued v past + none past)
-          (λ past. value-most (answer past) (value (end_of chain past n x)) v (reaches.each past x own)) in omega arith)) in
+          (let e = part v in
+          let both = ap (λ (k : ℕ). whole chain weight * k) (pasts.more (valued v) unvalued_at) in
+          let over = sums-between chain weight n (λ past x. end_of chain past n x) steady (λ past. 0) (λ past. valued v past + unvalued_at past) (λ x. 0) (ends v)
+          (λ past x own. (let order = value-most (answer past) (value (end_of chain past n x)) v (reaches.each past x own) in omega arith)) in
           omega arith);
     })
-
--- ---- the words that it looks at
-
-none-within : {A : Type 0} (run other : ℕ → Option A) (exponent : ℕ) → ((k : ℕ) → k < exponent → run (2 ^ k) ≡ other (2 ^ k)) → HasNone run exponent → HasNone other exponent
-none-within run other exponent agree none = record { each = λ k small. sym (agree k small) ∙ none.each k small }
-
-valued-looks : (run other : ℕ → Option ℤ) (limit : ℕ) (o : Valued) → ((k : ℕ) → k ≤ limit → run (2 ^ k) ≡ other (2 ^ k)) → IsValued run limit o → IsValued other limit o
-valued-looks run other limit (At t v) agree is = record {
-  exponent = is.exponent;
-  within = is.within;
-  power = is.power;
-  answer = ap other is.power ∙ (sym (agree is.exponent is.within) ∙ (ap run (sym is.power) ∙ is.answer));
-  earlier = none-within run other is.exponent (λ k small. agree k (let w = is.within in omega arith)) is.earlier;
-}
-valued-looks run other limit (NotAt l) agree is = (is.0, none-within run other (suc limit) (λ k small. agree k (omega arith)) is.1)
-
-pub valued_within-looks : (run other : ℕ → Option ℤ) (limit : ℕ) → ((k : ℕ) → k ≤ limit → run (2 ^ k) ≡ other (2 ^ k)) → valued_within run limit ≡ valued_within other limit
-valued_within-looks run other limit agree = valued_within-only other limit (valued_within run limit) (valued-looks run other limit (valued_within run limit) agree (valued_within-is run limit))

@@ -1,11 +1,10 @@
 -- The definitions on small inputs, worked out by hand and computed by the checker. The modulus of each network is 4, so pasts are
 -- counted of the words below 4.
-use Rattle.std.proofs.Common.{◌≡◌, ℕ, zero, suc, ◌+◌, ◌<◌, ◌≤◌, ◌^◌, ◌*◌, pos, negsuc, List, [], ◌∷◌, map, slice_index, nat_eq, is_none, inl, inr, ap, sym, ◌∙◌, refl, arith}
+use Rattle.std.proofs.Common.{◌≡◌, ℕ, ◌+◌, ◌<◌, ◌≤◌, ◌^◌, ◌*◌, pos, negsuc, List, [], ◌∷◌, map, slice_index, nat_eq, is_none, inl, inr, ap, sym, ◌∙◌, refl, arith}
 use Rattle.std.specs.Prelude.{codes}
 use Rattle.std.specs.List.{sum_by}
 use Rattle.std.proofs.Math.Nat.{le_of_mul-le-mul_left}
 use Rattle.std.proofs.lemmas.Bool.{cases_lt}
-use Rattle.std.proofs.lemmas.List.Elements.{All-nil, All-cons}
 use Rattle.psi_state.specs.declared.Outcome.{Outcome}
 use Rattle.psi_state.specs.declared.Outcome.TheVariants.{Met}
 use Rattle.psi_reward.specs.declared.kinds.RewardKind.{RewardKind}
@@ -19,8 +18,7 @@ use Rattle.psi_kinds.specs.declared.kinds.Kind.TheVariants.{Arrival, Service}
 use Rattle.psi_kinds.specs.declared.moves.Move.{Move}
 use Rattle.psi_kinds.specs.Kinds.{do_kind}
 use Rattle.psi_kinds.specs.Moves.{moved}
-use Rattle.psi_kinds.specs.Refusals.{refusal_of}
-use Rattle.psi_rate.specs.Rates.{AreRates, total, least_power, event_of}
+use Rattle.psi_rate.specs.Rates.{AreRates, least_power, event_of}
 use Rattle.psi_rate.specs.Doubling.{first_answer}
 use Rattle.psi_rate.specs.Least.{least_answer}
 use Rattle.psi_couple.specs.declared.answers.Coupled.TheVariants.{At}
@@ -30,13 +28,12 @@ use Rattle.psi_rate.specs.Outcomes.{outcome_within}
 use Rattle.psi_region.specs.Region.{step}
 use Rattle.psi_closed.specs.Closed.{total_states, all_arcs, held_states, closed_run}
 use Rattle.psi_net_model.specs.Network.{Network}
-use Rattle.psi_net_model.specs.Valid.{IsNetwork, IsQueue, IsAccepted}
+use Rattle.psi_net_model.specs.Valid.{IsNetwork}
 use Rattle.psi_net_model.specs.declared.entries.Queue.{Queue}
-use Rattle.psi_net_model.specs.declared.entries.NamedEvent.{NamedEvent}
 use Rattle.psi_law.specs.Elimination.{Matrix, censored, rate_between, stationary_weight}
 use Rattle.psi_law.specs.Counting.{Words, distance, signed, sum_below, count_below, sum_pasts, count_pasts}
 use Rattle.psi_law.specs.Wheel.{word_count, words_for}
-use Rattle.psi_law.specs.Chains.{Chain, function_of, is_same, end_of, pasts_between, whole, weighted, flow_to, IsBalanced, IsStationaryDistribution}
+use Rattle.psi_law.specs.Chains.{Chain, function_of, is_same, end_of, pasts_between, whole, weighted, IsBalanced, IsStationaryDistribution}
 use Rattle.psi_law.specs.Samples.{HasLaw, HasMean, is_met_in, is_unmet, value_met, met_in, unmet, sum_met, are_apart, apart}
 use Rattle.psi_law.specs.Networks.{network_chain, network_ending, network_sample, closed_chain, closed_sample, network_total_chain, network_total_ending, network_total_sample}
 use Rattle.psi_law.specs.Couplings.{network_coupling, coupled_outcome}
@@ -45,85 +42,28 @@ use Rattle.psi_law.proofs.SumsLemmas.{one_if}
 use Rattle.psi_law.proofs.WheelLemmas.{IsShare, share, sum-words, wheel-exact}
 use Rattle.psi_law.proofs.LawfulLemmas.{IsLawful}
 use Rattle.psi_law.proofs.NetworkLemmas.{network-lawful}
+use Rattle.psi_law.proofs.QueueingLemmas.{balanced-by, bounded-by, event, queueing, halves, queueing-kept}
 
 -- ---- weights that balance
 
-abbrev tail : List ℕ → List ℕ
-tail [] = []
-tail (n ∷ ns) = ns
-
--- lists of values that are the same have the same value at each member
-same-map : {A : Type 0} (f g : A → ℕ) (xs : List A) (y : A) → map f xs ≡ map g xs → In y xs → f y ≡ g y
-same-map f g [] y same member = absurd member
-same-map f g (x ∷ xs) y same member = elim member [
-  | inl here ↦ ap f here ∙ (ap (λ (ns : List ℕ). slice_index ns 0) same ∙ ap g (sym here))
-  | inr there ↦ same-map f g xs y (ap (λ (ns : List ℕ). tail ns) same) there
-]
-
--- so weights balance where two lists of numbers are the same
-balanced-by : (chain : Chain) (weight : List ℕ → ℕ) → map (flow_to chain weight) chain.states ≡ map (λ y. total chain.rates * weight y) chain.states → IsBalanced chain weight
-balanced-by chain weight same = record {
-  each = λ y member. same-map (flow_to chain weight) (λ z. total chain.rates * weight z) chain.states y same member;
-}
-
 abbrev queue : ℕ → Queue
 queue room = record { name = codes "a"; capacity = room; servers = 1 }
-
-abbrev event : ℕ → Kind → NamedEvent
-event rate kind = record { name = codes "e"; server = 1; rate = rate; kind = kind }
 
 -- a customer is served at a queue with these queues to go to
 abbrev served : ℕ → List ℕ → Full → Kind
 served q to full = Service (record { queue = q; k = 1 }) to full
 
--- `first.toml` with this limit: one queue with room for two, which customers join at the rate 1 and leave at the rate 2
+-- `first.toml` with this limit; its states weigh 4, 2 and 1
 abbrev first : ℕ → Network
-first limit = record { queues = queue 2 ∷ []; events = event 1 (Arrival (0 ∷ [])) ∷ event 2 (served 0 [] Lost) ∷ []; limit = limit; split = 256; rewards = [] }
-
--- its states weigh 4, 2 and 1
-abbrev halves : List ℕ → ℕ
-halves x = slice_index (4 ∷ 2 ∷ 1 ∷ []) (slice_index x 0)
+first limit = queueing 2 limit
 
 first-balanced : (limit : ℕ) → IsBalanced (network_chain (first limit)) halves
 unfolding sum_below do_kind
 first-balanced limit = balanced-by (network_chain (first limit)) halves refl
 
 -- it is a network, whatever the limit is, so its samples have the law of these weights
-first-rate : (i : ℕ) → i < 2 → (1 ≤ slice_index (1 ∷ 2 ∷ []) i) × (slice_index (1 ∷ 2 ∷ []) i ≤ 2)
-first-rate zero small = (omega arith, omega arith)
-first-rate (suc zero) small = (omega arith, omega arith)
-first-rate (suc (suc i)) small = absurd (omega arith)
-
-first-queue : (i : ℕ) → i < 1 → slice_index (0 ∷ []) i ≡ 0
-first-queue zero small = refl
-first-queue (suc i) small = absurd (omega arith)
-
 first-kept : (limit : ℕ) → limit ≤ 22 → IsNetwork (first limit)
-unfolding refusal_of
-first-kept limit most = record {
-  queues = record {
-    some = omega arith;
-    few = omega arith;
-    each = All-cons IsQueue (queue 2) [] (record { some = omega arith; most = omega arith; served = omega arith; servers = omega arith; fits = omega arith }) (All-nil IsQueue);
-  };
-  rates = record {
-    some = omega arith;
-    few = omega arith;
-    least = λ i small. (first-rate i small).0;
-    most = λ i small. (let two = (first-rate i small).1 in omega arith);
-    bounded = omega arith;
-  };
-  kinds =
-      All-cons (λ e. IsAccepted (2 ∷ []) e.kind) (event 1 (Arrival (0 ∷ []))) (event 2 (served 0 [] Lost) ∷ [])
-      (record { named = λ i small. (let first = first-queue i small in omega arith); accepted = refl })
-      (All-cons (λ e. IsAccepted (2 ∷ []) e.kind) (event 2 (served 0 [] Lost)) []
-      (record { named = (record { queue = omega arith; least = omega arith; most = omega arith }, λ i small. absurd (omega arith)); accepted = refl })
-      (All-nil (λ e. IsAccepted (2 ∷ []) e.kind)));
-  limit = most;
-  some_split = omega arith;
-  most_split = omega arith;
-  few_rewards = omega arith;
-}
+first-kept limit most = queueing-kept 2 limit (omega arith) (omega arith) most
 
 first-lawful : (limit : ℕ) → limit ≤ 22 → IsLawful (network_chain (first limit)) (network_sample (first limit)) (2 ^ limit)
 first-lawful limit most = (network-lawful (first limit) (first-kept limit most)).laws
@@ -194,16 +134,7 @@ left-none weight is =
 
 -- and their means of the customers, who are 2 at most
 first-room : (x : List ℕ) → In x (network_chain (first 18)).states → slice_index x 0 ≤ 2
-first-room x member = elim member [
-  | inl none ↦ (let e : slice_index x 0 ≡ 0 = ap (λ (y : List ℕ). slice_index y 0) none in omega arith)
-  | inr more ↦ elim more [
-    | inl one ↦ (let e : slice_index x 0 ≡ 1 = ap (λ (y : List ℕ). slice_index y 0) one in omega arith)
-    | inr last ↦ elim last [
-      | inl two ↦ (let e : slice_index x 0 ≡ 2 = ap (λ (y : List ℕ). slice_index y 0) two in omega arith)
-      | inr past ↦ absurd past
-    ]
-  ]
-]
+first-room = bounded-by (network_chain (first 18)) (λ x. slice_index x 0) 2 refl
 
 first-mean : (limit : ℕ) → limit ≤ 22 → HasMean (network_sample (first limit)) (2 ^ limit) (network_chain (first limit)) halves (λ x. slice_index x 0) 0 2
 first-mean limit most = (first-lawful limit most).mean halves (λ x. slice_index x 0) 0 2 (first-balanced limit) (λ x member. omega arith) first-room

@@ -4,7 +4,7 @@ use Rattle.psi_state.specs.declared.Outcome.{Outcome}
 use Rattle.psi_state.specs.State.{all_states}
 use Rattle.psi_kinds.specs.declared.moves.Move.{Move}
 use Rattle.psi_kinds.specs.Moves.{moved}
-use Rattle.psi_rate.specs.Composition.{Parts, function_at, system_functions}
+use Rattle.psi_rate.specs.Composition.{SystemParts, function_at, system_functions}
 use Rattle.psi_rate.specs.Outcomes.{outcome_within}
 use Rattle.psi_horizon.specs.Runs.{ending_at}
 use Rattle.psi_closed.specs.Closed.{total_states, closed_ending}
@@ -14,15 +14,15 @@ use Rattle.psi_law.specs.Counting.{Words}
 use Rattle.psi_law.specs.Chains.{Chain}
 
 -- the chain of the events of a system, which have these functions, on all states
-abbrev pub chain_of : {E : Type 0} → (E → List ℕ → List ℕ) → Parts E → Chain
+abbrev pub chain_of : {E : Type 0} → (E → List ℕ → List ℕ) → SystemParts E → Chain
 chain_of function system = record { functions = map function system.events; rates = system.rates; states = all_states system.caps }
 
 -- how its region run of each horizon ends under the words of a past: with one state, or with more
-abbrev pub ending_of : {E : Type 0} → (E → List ℕ → List ℕ) → Parts E → Words → ℕ → Option (List ℕ)
+abbrev pub ending_of : {E : Type 0} → (E → List ℕ → List ℕ) → SystemParts E → Words → ℕ → Option (List ℕ)
 ending_of function system past = ending_at system.split (system_functions function system past) system.caps
 
 -- its sample under the words of a past: what `Plan::sample` answers
-abbrev pub sample_of : {E : Type 0} → (E → List ℕ → List ℕ) → Parts E → Words → Outcome
+abbrev pub sample_of : {E : Type 0} → (E → List ℕ → List ℕ) → SystemParts E → Words → Outcome
 sample_of function system past = outcome_within (ending_of function system past) system.limit
 
 -- the chain of the kinds of a network's events, on all states

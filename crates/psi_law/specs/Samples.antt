@@ -58,7 +58,7 @@ module _ (sample : Words → Outcome) (n : ℕ) where
     pub least : whole chain weight * (sum_met value + low * unmet) ≤ weighted chain weight value * word_count ^ n
     pub most : weighted chain weight value * word_count ^ n ≤ whole chain weight * (sum_met value + high * unmet)
 
-  -- the same of values that may be negative
+  -- as `HasMean`, of values that may be negative
   pub record HasSignedMean (chain : Chain) (weight : List ℕ → ℕ) (value : List ℕ → ℤ) (low high : ℤ) : Type 0 where
     pub least : (pos (whole chain weight) *ℤ (signed sum_met value +ℤ (low *ℤ pos unmet))) ≤ℤ (signed (weighted chain weight) value *ℤ pos (word_count ^ n))
     pub most : (signed (weighted chain weight) value *ℤ pos (word_count ^ n)) ≤ℤ (pos (whole chain weight) *ℤ (signed sum_met value +ℤ (high *ℤ pos unmet)))

@@ -10,6 +10,7 @@ ghost use Rattle.psi_law.specs.Couplings.{network_coupling, coupled_outcome, Agr
 ghost use Rattle.psi_law.specs.Values.{network_value, ReachesValue, BalanceIsValueLaw, AgreesValued};
 ghost use Rattle.psi_law.specs.Statements.{BalanceIsLaw, BalanceIsMean, BalanceIsSignedMean, LooksAtFirst};
 
+use crate::kept::networks_are_kept;
 use psi_net_model::Net;
 
 /// The law of the least couplings that the command `couple` prints for a network.
@@ -26,8 +27,7 @@ pub fn law_of_couplings(net: &Net)
     ensures signed_mean { BalanceIsSignedMean (network_chain net.now) (λ past. coupled_outcome (network_coupling net.now past)) (2 ^ net.now.limit) }
     ensures words { LooksAtFirst (λ past. coupled_outcome (network_coupling net.now past)) (2 ^ net.now.limit) }
 {
-    // Called for its clause: the network is one that can be sampled.
-    let _queues = net.queues();
+    networks_are_kept(net);
 }
 
 /// The law of the values that the command `reward` prints for a network, of a reward of each kind.
@@ -42,6 +42,5 @@ pub fn law_of_values(net: &Net)
     ensures law { (kind : RewardKind) → BalanceIsValueLaw (network_value net.now kind) (2 ^ net.now.limit) (network_chain net.now) (worth_of kind) }
     ensures words { (kind : RewardKind) → LooksAtFirst (network_value net.now kind) (2 ^ net.now.limit) }
 {
-    // Called for its clause: the network is one that can be sampled.
-    let _queues = net.queues();
+    networks_are_kept(net);
 }

@@ -14,6 +14,7 @@ ghost use Rattle.psi_law.specs.Samples.{Reaches, HasStationaryLaw};
 ghost use Rattle.psi_law.specs.Networks.{closed_chain, moves_ending, closed_sample, network_total_chain, network_total_ending, network_total_sample};
 ghost use Rattle.psi_law.specs.Statements.{BalanceStays, BalanceIsLaw, BalanceIsOne, BalanceIsMean, BalanceIsSignedMean, ApartFalls, MixesAsCoupled, UncoalescedFalls, UnmetIsUncoalesced, LimitSquares, LooksAtFirst};
 
+use crate::kept::{networks_are_kept, wheels_have_rates};
 use psi_kinds::Move;
 use psi_net_model::Net;
 use psi_rate::Wheel;
@@ -43,11 +44,10 @@ pub fn law_of_closed_samples(caps: State, moves: &[Move], wheel: &Wheel, limit: 
         ↔ (outcome ≡ closed_sample caps total moves.now wheel.now limit past) }
     ensures words { LooksAtFirst (closed_sample caps total moves.now wheel.now limit) (2 ^ limit) }
 {
-    // Called for its clause: the rates make a wheel.
-    let _events = wheel.events();
+    wheels_have_rates(wheel);
 }
 
-/// The same law of the samples that the command `closed` prints for a network, each of whose events is a move.
+/// As `law_of_closed_samples`, of the samples that the command `closed` prints for a network, each of whose events is a move.
 pub fn law_of_closed_network(net: &Net, total: u16)
     requires fits { IsTotal (caps_of net.now) total }
     requires moves { All (λ event. IsSome (move_of event.kind)) net.now.events }
@@ -68,6 +68,5 @@ pub fn law_of_closed_network(net: &Net, total: u16)
         ↔ (outcome ≡ network_total_sample net.now total past) }
     ensures words { LooksAtFirst (network_total_sample net.now total) (2 ^ net.now.limit) }
 {
-    // Called for its clause: the network is one that can be sampled.
-    let _queues = net.queues();
+    networks_are_kept(net);
 }

@@ -6,6 +6,7 @@
 mod answers;
 mod chain;
 mod closed;
+mod kept;
 mod samples;
 mod wheel;
 

@@ -12,6 +12,7 @@ ghost use Rattle.psi_law.specs.Samples.{Reaches, HasStationaryLaw};
 ghost use Rattle.psi_law.specs.Networks.{chain_of, ending_of, sample_of, network_chain, network_ending, network_sample};
 ghost use Rattle.psi_law.specs.Statements.{BalanceStays, BalanceIsLaw, BalanceIsOne, BalanceIsMean, BalanceIsSignedMean, ApartFalls, MixesAsCoupled, UnmetIsApart, UncoalescedFalls, UnmetIsUncoalesced, LimitSquares, LooksAtFirst};
 
+use crate::kept::networks_are_kept;
 use psi_event::EventLaw;
 use psi_net_model::Net;
 use psi_rate::System;
@@ -62,7 +63,7 @@ pub fn law_of_samples<E: EventLaw>(system: &System<'_, E>)
     let _caps = system.caps();
 }
 
-/// The same law of the samples that the command `sample` prints for a network, whose events do what their kinds say.
+/// As `law_of_samples`, of the samples that the command `sample` prints for a network, whose events do what their kinds say.
 pub fn law_of_network(net: &Net)
     ensures chain { IsChain (network_chain net.now) }
     ensures reaches { Reaches (network_chain net.now) (network_sample net.now) (2 ^ net.now.limit) }
@@ -86,6 +87,5 @@ pub fn law_of_network(net: &Net)
         ↔ (outcome ≡ network_sample net.now past) }
     ensures words { LooksAtFirst (network_sample net.now) (2 ^ net.now.limit) }
 {
-    // Called for its clause: the network is one that can be sampled.
-    let _queues = net.queues();
+    networks_are_kept(net);
 }

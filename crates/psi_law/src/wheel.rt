@@ -4,6 +4,7 @@ ghost use Rattle.std.specs.Prelude.{ℕ, ◌<◌, ◌^◌};
 ghost use Rattle.psi_past.specs.SeedWord.{seed_word};
 ghost use Rattle.psi_law.specs.Wheel.{word_count, IsExact};
 
+use crate::kept::wheels_have_rates;
 use psi_rate::Wheel;
 
 /// How many of the 2^32 words choose which event: of an event with the rate r, r times 2^32 divided by the wheel's
@@ -13,6 +14,5 @@ pub fn law_of_wheel(wheel: &Wheel)
     ensures exact { IsExact wheel.now }
     ensures drawn { (seed stream place : ℕ) → place < 2 ^ 36 → seed_word seed stream place < word_count }
 {
-    // Called for its clause: the rates make a wheel.
-    let _events = wheel.events();
+    wheels_have_rates(wheel);
 }

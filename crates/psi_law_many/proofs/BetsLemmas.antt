@@ -6,15 +6,14 @@ use Rattle.std.proofs.Math.Nat.{pow-le-pow_left, mul-le-mul, mul-le-mul_left, le
 use Rattle.std.proofs.lemmas.Nat.{mul-pow}
 use Rattle.std.proofs.lemmas.Bool.{cases_Bool, cases_lt, lt-ltb, leb-true, le-leb, both_ways}
 use Rattle.std.proofs.lemmas.List.{length-map}
-use Rattle.std.proofs.lemmas.List.Sums.{sum_by-cons}
 use Rattle.psi_law.specs.Counting.{Words, sum_pasts}
 use Rattle.psi_law.specs.Wheel.{word_count}
-use Rattle.psi_law.proofs.SumsLemmas.{one_if, sum-times, sum_pasts-is, sum_by-order, sum_by-swap}
+use Rattle.psi_law.proofs.SumsLemmas.{one_if, sum-times, sum_pasts-is, sum_by-order, sum_by-swap, sum-constant, pasts-ones, sum_by-constant}
 use Rattle.psi_law_many.specs.Lists.{sum_lists, count_lists, AtMost}
 use Rattle.psi_law_many.specs.Values.{Score}
 use Rattle.psi_law_many.specs.Intervals.{overstates}
 use Rattle.psi_law_many.specs.Bets.{paid, product_by, IsWon, IsBet, loses, HasBets}
-use Rattle.psi_law_many.proofs.ListsLemmas.{sum-constant, sum_lists-is, pasts-ones, lists-power, product, lists-product, markov, at-most-none, at-most-both}
+use Rattle.psi_law_many.proofs.ListsLemmas.{sum_lists-is, lists-power, product, lists-product, markov, at-most-none, at-most-both}
 use Rattle.psi_law_many.proofs.ScoreLemmas.{IsScore, mean-under, overstates-false}
 use Rattle.psi_law_many.proofs.IntervalLemmas.{least, overstates-some}
 
@@ -36,11 +35,6 @@ paid-more t q r c s v less = (let times = mul-le-mul_left s less in omega arith)
 
 times-order : (s c r t : ℕ) → c ≤ r → s * r ≤ t → s * c ≤ t
 times-order s c r t less fair = (let times = mul-le-mul_left s less in omega arith)
-
-pub sum_by-constant : {A : Type 0} (xs : List A) (c : ℕ) → sum_by (λ (x : A). c) xs ≡ length xs * c
-sum_by-constant [] c = omega arith
-sum_by-constant {A} (x ∷ xs) c =
-    (let first : sum_by (λ (y : A). c) (x ∷ xs) ≡ c + sum_by (λ (y : A). c) xs = sum_by-cons (λ y. c) x xs in let rest = sum_by-constant xs c in omega arith)
 
 fair-of : (all t q c s a w : ℕ) → all ≡ (t * q - s * c) * w + s * q * a → s * c ≤ t * q → q * a ≤ c * w → all ≤ t * q * w
 fair-of all t q c s a w sum fair mean =

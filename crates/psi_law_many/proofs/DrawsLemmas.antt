@@ -2,9 +2,9 @@
 use Rattle.std.specs.Prelude.{◌≡◌, ℕ, zero, suc, ◌+◌, ◌*◌, ◌^◌, refl}
 use Rattle.std.proofs.Common.{ap, sym, ◌∙◌, arith}
 use Rattle.std.proofs.Math.Nat.{pow-zero, pow-suc}
-use Rattle.psi_law.proofs.SumsLemmas.{IsSum, sum-same, sum-times}
+use Rattle.psi_law.proofs.SumsLemmas.{IsSum, sum-same, sum-times, sum-constant}
 use Rattle.psi_law_many.proofs.SquareLemmas.{gap, gap-add, gap-same}
-use Rattle.psi_law_many.proofs.ListsLemmas.{nested-is, sum-constant}
+use Rattle.psi_law_many.proofs.ListsLemmas.{nested-is}
 
 -- one draw: a way to sum a function of its number
 module _ (draw : (ℕ → ℕ) → ℕ) where

@@ -8,7 +8,7 @@ use Rattle.std.proofs.lemmas.Bool.{leb-true}
 use Rattle.std.proofs.lemmas.List.Sums.{sum_by-cons}
 use Rattle.psi_law.specs.Counting.{Words, sum_pasts}
 use Rattle.psi_law.specs.Wheel.{word_count}
-use Rattle.psi_law.proofs.SumsLemmas.{sum-times, sum_pasts-is}
+use Rattle.psi_law.proofs.SumsLemmas.{sum-times, sum_pasts-is, sum-same, sum_by-is, sum_by-constant}
 use Rattle.psi_law_many.specs.Values.{Score}
 use Rattle.psi_law_many.specs.Tails.{at_least}
 use Rattle.psi_law_many.proofs.ListsLemmas.{lists-power, product, lists-product, markov}
@@ -74,12 +74,10 @@ module _ (n : ℕ) (s : Score) (is : IsScore n s) (a b : ℕ) (order : b ≤ a) 
   -- the product over a list
   rests-are : (pasts : List Words) → sum_by s.score pasts + sum_by rest pasts ≡ length pasts * s.top
   unfolding rest
-  rests-are [] = omega arith
-  rests-are (past ∷ pasts) =
-      let most = is.most past in
-      let up = sum_by-cons s.score past pasts in
-      let down = sum_by-cons rest past pasts in
-      let others = rests-are pasts in omega arith
+  rests-are pasts =
+      let is_sum = sum_by-is pasts in
+      sym (is_sum.more s.score rest)
+      ∙ (sum-same (λ (g : Words → ℕ). sum_by g pasts) is_sum (λ past. s.score past + rest past) (λ past. s.top) (λ past. (let most = is.most past in omega arith)) ∙ sum_by-constant pasts s.top)
 
   product-is : (pasts : List Words) → product tilt pasts ≡ a ^ sum_by s.score pasts * b ^ sum_by rest pasts
   unfolding product tilt

@@ -1,10 +1,10 @@
 -- Claims from a total that a certificate supports are seldom false.
-use Rattle.std.specs.Prelude.{◌≡◌, ℕ, zero, suc, ◌+◌, ◌-◌, ◌*◌, ◌^◌, ◌<◌, ◌≤◌, ◌⊎◌, List, [], ◌∷◌, length, Bool, true, false, nat_le}
+use Rattle.std.specs.Prelude.{◌≡◌, ℕ, zero, suc, ◌+◌, ◌-◌, ◌*◌, ◌^◌, ◌<◌, ◌≤◌, ◌⊎◌, List, length, Bool, true, false, nat_le}
 use Rattle.std.specs.List.{sum_by}
 use Rattle.std.proofs.Common.{inl, inr, ap, ◌∙◌, subst, arith}
 use Rattle.std.proofs.Math.Nat.{mul-le-mul_left, mul-le-mul_right, le_of_mul-le-mul_left, one-le-pow, one-le-mul}
 use Rattle.std.proofs.lemmas.Bool.{cases_Bool, cases_lt, both_ways, le-leb}
-use Rattle.std.proofs.lemmas.List.Sums.{sum_by-cons}
+use Rattle.std.proofs.lemmas.List.Sums.{sum_by-le}
 use Rattle.psi_law.specs.Counting.{Words}
 use Rattle.psi_law.specs.Wheel.{word_count}
 use Rattle.psi_law_many.specs.Lists.{AtMost}
@@ -94,12 +94,8 @@ pub overstates-some : (s : Score) (q r : ℕ) → r ≡ 0 → overstates s q r �
 overstates-some s q r none so = (let claimed = (overstates-false s q r so).claimed in omega (arith, claimed, none))
 
 -- a total is at most that of the tops
-totals : (n : ℕ) (s : Score) → IsScore n s → (pasts : List Words) → sum_by s.score pasts ≤ length pasts * s.top
-totals n s is [] = omega arith
-totals n s is (past ∷ pasts) = (let most = is.most past in let sum = sum_by-cons s.score past pasts in let rest = totals n s is pasts in omega arith)
-
-pub total-most : (n : ℕ) (s : Score) → IsScore n s → (k : ℕ) (pasts : List Words) → length pasts ≡ k → sum_by s.score pasts ≤ k * s.top
-total-most n s is k pasts so = subst (λ m. sum_by s.score pasts ≤ m * s.top) so (totals n s is pasts)
+total-most : (n : ℕ) (s : Score) → IsScore n s → (k : ℕ) (pasts : List Words) → length pasts ≡ k → sum_by s.score pasts ≤ k * s.top
+total-most n s is k pasts so = subst (λ m. sum_by s.score pasts ≤ m * s.top) so (sum_by-le s.score s.top pasts (λ i d small. is.most _))
 
 -- all lists that a rule is wrong for have at least the least total that it is wrong at
 pub rule-few : (n : ℕ) (s : Score) → IsScore n s → (k q d : ℕ) (rule : ℕ → ℕ) → IsRule k s.top q d rule → AtMost 1 d n k (misses s q rule)

@@ -1,7 +1,6 @@
 -- The lemmas of this crate.
 pub mod ListsLemmas
 pub mod UnmetLemmas
-pub mod WeightedLemmas
 pub mod ScoreLemmas
 pub mod PowerLemmas
 pub mod ExponentialLemmas
@@ -11,9 +10,9 @@ pub mod BetsLemmas
 pub mod QuantileLemmas
 pub mod SquareLemmas
 pub mod DrawsLemmas
-pub mod SpreadLemmas
+pub mod BoundsLemmas
+pub mod ChebyshevLemmas
 pub mod NearLemmas
-pub mod BetweenLemmas
 pub mod ReportLemmas
 pub mod ManyLemmas
 mod Worked

@@ -2,9 +2,9 @@
 use Rattle.std.specs.Prelude.{◌≡◌, ℕ, zero, suc, ◌+◌, ◌*◌, ◌^◌, ◌≤◌, List, [], ◌∷◌, length, Bool, true, false, ◌||◌, refl}
 use Rattle.std.proofs.Common.{ap, sym, ◌∙◌, subst, arith}
 use Rattle.std.proofs.Math.Nat.{pow-zero, pow-succ', pow-suc, mul-le-mul_right}
-use Rattle.psi_law.specs.Counting.{Words, sum_below, sum_pasts}
+use Rattle.psi_law.specs.Counting.{Words, sum_pasts}
 use Rattle.psi_law.specs.Wheel.{word_count}
-use Rattle.psi_law.proofs.SumsLemmas.{one_if, IsSum, sum-same, sum-times, sum_below-is, sum_pasts-is, sum_below-constant}
+use Rattle.psi_law.proofs.SumsLemmas.{one_if, IsSum, sum-same, sum-times, sum_pasts-is, pasts-constant}
 use Rattle.psi_law.proofs.PowersLemmas.{pow-times}
 use Rattle.psi_law_many.specs.Lists.{sum_lists, count_lists, AtMost}
 
@@ -20,29 +20,15 @@ nested-is outer inner join over under = record {
       (λ a. under.order (λ b. g (join a b)) (λ b. h (join a b)) (λ b. each (join a b)));
 }
 
--- the sum of a constant is the constant times the sum of ones
-pub sum-constant : {A : Type 0} (sum : (A → ℕ) → ℕ) → IsSum sum → (c : ℕ) → sum (λ a. c) ≡ c * sum (λ a. 1)
-sum-constant sum is c = sum-same sum is (λ a. c) (λ a. c * 1) (λ a. omega arith) ∙ sum-times sum is c (λ a. 1)
-
 pub sum_lists-is : (bound n k : ℕ) → IsSum (sum_lists bound n k)
 sum_lists-is bound n zero = record { none = refl; more = λ g h. refl; order = λ g h each. each [] }
 sum_lists-is bound n (suc k) = nested-is (sum_pasts bound n) (sum_lists bound n k) (λ past pasts. past ∷ pasts) (sum_pasts-is bound n) (sum_lists-is bound n k)
 
--- how many pasts there are, and how many lists of them
-pub pasts-ones : (bound n : ℕ) → sum_pasts bound n (λ past. 1) ≡ bound ^ n
-pasts-ones bound zero = sym (pow-zero bound)
-pasts-ones bound (suc n) =
-    sum-constant (sum_below bound) (sum_below-is bound) (sum_pasts bound n (λ past. 1))
-    ∙ (ap (λ m. sum_pasts bound n (λ past. 1) * m) (sum_below-constant bound 1)
-    ∙ (ap (λ m. m * (bound * 1)) (pasts-ones bound n)
-    ∙ (let p = pow-succ' bound n in omega arith)))
-
+-- how many lists of pasts there are
 pub lists-ones : (bound n k : ℕ) → sum_lists bound n k (λ pasts. 1) ≡ (bound ^ n) ^ k
 lists-ones bound n zero = sym (pow-zero (bound ^ n))
 lists-ones bound n (suc k) =
-    sum-constant (sum_pasts bound n) (sum_pasts-is bound n) (sum_lists bound n k (λ pasts. 1))
-    ∙ (ap (λ m. sum_lists bound n k (λ pasts. 1) * m) (pasts-ones bound n)
-    ∙ (ap (λ m. m * bound ^ n) (lists-ones bound n k) ∙ sym (pow-suc (bound ^ n) k)))
+    pasts-constant bound n (sum_lists bound n k (λ pasts. 1)) ∙ (ap (λ m. m * bound ^ n) (lists-ones bound n k) ∙ sym (pow-suc (bound ^ n) k))
 
 pub lists-power : (bound n k : ℕ) → (bound ^ n) ^ k ≡ bound ^ (n * k)
 lists-power bound n k = (let e : k * n ≡ n * k = omega arith in sym (pow-times bound n k) ∙ ap (λ m. bound ^ m) e)
@@ -84,14 +70,11 @@ markov bound n k c test g under =
     (sum_lists-order bound n k (λ pasts. c * one_if (test pasts)) g (λ pasts so. constant-if c (g pasts) (test pasts) (under pasts so)))
 
 -- where the lists that pass a test pass another, there are no more of them
-one-order : (a b : Bool) → (a ≡ true → b ≡ true) → one_if a ≤ one_if b
-one-order true b so = (let e : one_if b ≡ 1 = ap one_if (so refl) in omega arith)
-one-order false b so = omega arith
-
 pub count-order : (bound n k : ℕ) (test other : List Words → Bool) → ((pasts : List Words) → length pasts ≡ k → test pasts ≡ true → other pasts ≡ true)
     → count_lists bound n k test ≤ count_lists bound n k other
 count-order bound n k test other passes =
-    sum_lists-order bound n k (λ pasts. one_if (test pasts)) (λ pasts. one_if (other pasts)) (λ pasts so. one-order (test pasts) (other pasts) (passes pasts so))
+    sum_lists-order bound n k (λ pasts. one_if (test pasts)) (λ pasts. one_if (other pasts))
+    (λ pasts so. (let under = constant-if 1 (one_if (other pasts)) (test pasts) (λ passed. (let e = ap one_if (passes pasts so passed) in omega arith)) in omega arith))
 
 -- tests that no list passes, or that few pass
 none-of : (c d w m : ℕ) → c ≤ 0 → c * d ≤ m * w
@@ -107,7 +90,8 @@ pub at-most-order : (d n k : ℕ) (test other : List Words → Bool) → ((pasts
     → AtMost 1 d n k other → AtMost 1 d n k test
 at-most-order d n k test other passes few = (let under = mul-le-mul_right d (count-order word_count n k test other passes) in omega arith)
 
-either : (a b : Bool) → one_if (a || b) ≤ one_if a + one_if b
+-- where one of two holds, at most both are counted
+pub either : (a b : Bool) → one_if (a || b) ≤ one_if a + one_if b
 either true b = omega arith
 either false b = omega arith
 

@@ -13,7 +13,8 @@ use Rattle.psi_law_many.specs.Tails.{cases_from}
 use Rattle.psi_law_many.specs.Quantiles.{mark, hits, IsQuantile, HasQuantiles}
 use Rattle.psi_law_many.specs.Statements.{BalanceHasQuantiles}
 use Rattle.psi_law_many.proofs.ListsLemmas.{at-most-both}
-use Rattle.psi_law_many.proofs.ScoreLemmas.{IsScore, surplus-is}
+use Rattle.psi_law_many.proofs.ScoreLemmas.{IsScore}
+use Rattle.psi_law_many.proofs.BoundsLemmas.{first-score, sample-bounds}
 use Rattle.psi_law_many.proofs.IntervalLemmas.{binomial-few}
 
 mark-of : (b : Bool) → (if b then 1 else 0) ≤ 1
@@ -32,7 +33,7 @@ module _ (chain : Chain) (sample : Words → Outcome) (n : ℕ) (is : IsChain ch
   hit-is : (has : List ℕ → Bool) → IsScore n (hit has)
   hit-is has =
       let measured : IsMeasured chain weight (mark has) 0 1 = record { balanced = balanced; above = λ x own. omega arith; below = λ x own. mark-most has x } in
-      let score = surplus-is chain sample n is reaches weight (mark has) 0 1 measured in
+      let score = first-score (sample-bounds is reaches measured) in
       let least = score.mean in
       let same : sum_pasts word_count n (λ past. value_or 0 (mark has) (sample past) - 0) ≡ sum_pasts word_count n (λ past. value_or 0 (mark has) (sample past))
       = sum-same (sum_pasts word_count n) (sum_pasts-is word_count n) (λ past. value_or 0 (mark has) (sample past) - 0) (λ past. value_or 0 (mark has) (sample past)) (λ past. omega arith) in

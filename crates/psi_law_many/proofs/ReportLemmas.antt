@@ -1,5 +1,5 @@
 -- The report of the samples of several pasts has the sums of their values.
-use Rattle.std.specs.Prelude.{◌≡◌, ℕ, zero, suc, ◌+◌, ◌-◌, ◌*◌, ◌<◌, ◌≤◌, ◌⊎◌, ℤ, pos, ◌+ℤ◌, List, [], ◌∷◌, map, length, slice_index, slice_index_or, refl}
+use Rattle.std.specs.Prelude.{◌≡◌, ℕ, zero, suc, ◌+◌, ◌-◌, ◌*◌, ◌<◌, ◌≤◌, ℤ, pos, ◌+ℤ◌, List, [], ◌∷◌, map, length, slice_index, slice_index_or, refl}
 use Rattle.std.specs.List.{flat_map}
 use Rattle.std.proofs.Common.{inl, inr, ap, sym, ◌∙◌, subst, arith}
 use Rattle.std.proofs.lemmas.Int.{ints}
@@ -16,7 +16,6 @@ use Rattle.psi_report.specs.Samples.{met_states}
 use Rattle.psi_report.specs.Quantities.{Quantity, queues_from, queue_quantities, reward_quantities, sum_of}
 use Rattle.psi_report.specs.declared.figure.Item.TheVariants.{Sum, RewardSum}
 use Rattle.psi_report.specs.Report.{figure, queue_trio, reward_trio, quantity_figures, contents_of}
-use Rattle.psi_report.proofs.SummaryLemmas.{int_zero-add}
 use Rattle.psi_law.specs.Counting.{Words}
 use Rattle.psi_law.specs.Chains.{Chain, IsChain}
 use Rattle.psi_law.specs.Samples.{Reaches}
@@ -24,33 +23,7 @@ use Rattle.psi_law.proofs.ChainLemmas.{end_of-keeps}
 use Rattle.psi_law_many.specs.Values.{value_or, sum_or}
 use Rattle.psi_law_many.specs.Reports.{report_of, IsReported}
 
--- ---- sums over samples
-
-zero-left : (z : ℤ) → z ≡ pos 0 +ℤ z
-zero-left z = sym (int_zero-add z)
-
-module _ (value : List ℕ → ℕ) where
-  -- one sample before others
-  sum-first : (o : Outcome) (os : List Outcome) → sum_of (map (λ x. pos (value x)) (met_states (o ∷ os))) ≡ pos (value_or 0 value o) +ℤ sum_of (map (λ x. pos (value x)) (met_states os))
-  unfolding met_states sum_of
-  sum-first (Met t x) os = refl
-  sum-first (NotMet l) os = zero-left (sum_of (map (λ x. pos (value x)) (met_states os)))
-
-  sum-is : (sample : Words → Outcome) (pasts : List Words) → sum_of (map (λ x. pos (value x)) (met_states (map sample pasts))) ≡ pos (sum_or 0 value sample pasts)
-  unfolding met_states sum_of
-  sum-is sample [] = refl
-  sum-is sample (past ∷ pasts) =
-      sum-first (sample past) (map sample pasts)
-      ∙ (ap (λ (z : ℤ). pos (value_or 0 value (sample past)) +ℤ z) (sum-is sample pasts)
-      ∙ ap pos (sym (sum_by-cons (λ p. value_or 0 value (sample p)) past pasts)))
-
--- how many coalesced
-met-first : (o : Outcome) (os : List Outcome) (value : List ℕ → ℕ) (other : ℕ)
-    → (length (met_states (o ∷ os)) ≡ suc (length (met_states os))) × (value_or other value o ≡ value_or 0 value o)
-    ⊎ (length (met_states (o ∷ os)) ≡ length (met_states os)) × (value_or other value o ≡ value_or 0 value o + other)
-unfolding met_states
-met-first (Met t x) os value other = inl (refl, refl)
-met-first (NotMet l) os value other = inr (refl, omega arith)
+-- ---- samples that did not coalesce
 
 met-few : (os : List Outcome) → length (met_states os) ≤ length os
 unfolding met_states
@@ -58,34 +31,31 @@ met-few [] = omega arith
 met-few (Met t x ∷ os) = (let rest = met-few os in omega arith)
 met-few (NotMet l ∷ os) = (let rest = met-few os in omega arith)
 
-others-met : (a b s t u v c k m : ℕ) → a ≡ b → s ≡ t + c * (k - m) → u ≡ a + s → v ≡ b + t → u ≡ v + c * (suc k - suc m)
-others-met a b s t u v c k m first rest one other = (let e : suc k - suc m ≡ k - m = omega arith in let g : c * (suc k - suc m) ≡ c * (k - m) = ap (λ n. c * n) e in omega arith)
+-- one sample before others adds another number, or its value, as often on both sides
+others-first : (o : Outcome) (os : List Outcome) (value : List ℕ → ℕ) (other : ℕ)
+    → value_or other value o + other * length (met_states (o ∷ os)) ≡ value_or 0 value o + other * suc (length (met_states os))
+unfolding met_states
+others-first (Met t x) os value other = refl
+others-first (NotMet l) os value other = omega arith
 
-others-unmet : (a b s t u v c k m : ℕ) → m ≤ k → a ≡ b + c → s ≡ t + c * (k - m) → u ≡ a + s → v ≡ b + t → u ≡ v + c * (suc k - m)
-others-unmet a b s t u v c k m few first rest one other = (let e : suc k - m ≡ suc (k - m) = omega arith in let g : c * (suc k - m) ≡ c * suc (k - m) = ap (λ n. c * n) e in omega arith)
+others-all : (sample : Words → Outcome) (pasts : List Words) (value : List ℕ → ℕ) (other : ℕ)
+    → sum_or other value sample pasts + other * length (met_states (map sample pasts)) ≡ sum_or 0 value sample pasts + other * length (map sample pasts)
+unfolding met_states
+others-all sample [] value other = omega arith
+others-all sample (past ∷ pasts) value other =
+    let one = sum_by-cons (λ p. value_or other value (sample p)) past pasts in
+    let zeros = sum_by-cons (λ p. value_or 0 value (sample p)) past pasts in
+    let first = others-first (sample past) (map sample pasts) value other in
+    let rest = others-all sample pasts value other in omega arith
 
 others-are : (sample : Words → Outcome) (pasts : List Words) (value : List ℕ → ℕ) (other : ℕ)
     → sum_or other value sample pasts ≡ sum_or 0 value sample pasts + other * (length (map sample pasts) - length (met_states (map sample pasts)))
-unfolding met_states
-others-are sample [] value other = omega arith
-others-are sample (past ∷ pasts) value other =
-    let os = map sample pasts in
-    let k = length os in
-    let m = length (met_states os) in
-    let few = met-few os in
-    let rest = others-are sample pasts value other in
-    let one = sum_by-cons (λ p. value_or other value (sample p)) past pasts in
-    let zeros = sum_by-cons (λ p. value_or 0 value (sample p)) past pasts in
-    let a = value_or other value (sample past) in
-    let b = value_or 0 value (sample past) in
-    let u = sum_or other value sample (past ∷ pasts) in
-    let v = sum_or 0 value sample (past ∷ pasts) in
-    elim (met-first (sample past) os value other) [
-      | inl met ↦ subst (λ n. u ≡ v + other * (suc k - n)) (sym met.0)
-          (others-met a b (sum_or other value sample pasts) (sum_or 0 value sample pasts) u v other k m met.1 rest one zeros)
-      | inr unmet ↦ subst (λ n. u ≡ v + other * (suc k - n)) (sym unmet.0)
-          (others-unmet a b (sum_or other value sample pasts) (sum_or 0 value sample pasts) u v other k m few unmet.1 rest one zeros)
-    ]
+others-are sample pasts value other =
+    let k = length (map sample pasts) in
+    let m = length (met_states (map sample pasts)) in
+    let few = met-few (map sample pasts) in
+    let parts : other * k ≡ other * (m + (k - m)) = ap (λ n. other * n) (omega arith) in
+    let all = others-all sample pasts value other in omega arith
 
 -- ---- sums of values that may be negative
 
@@ -103,20 +73,24 @@ shifted-first (Met t x) os worth value c r same rest =
     ∙ shifted-of (worth x) (sum_of (map worth (met_states os))) c (c * length (met_states os)) (value x) r (same t x refl) rest)
 shifted-first (NotMet l) os worth value c r same rest = (let e : 0 + r ≡ r = omega arith in rest ∙ ap pos (sym e))
 
--- samples of a chain that all states reach coalesce in its states
-module _ (chain : Chain) (sample : Words → Outcome) (n : ℕ) (is : IsChain chain) (reaches : Reaches chain sample n) where
-  met-own : (past : Words) (t : ℕ) (x : List ℕ) → sample past ≡ Met t x → In x chain.states
-  met-own past t x same =
-      let y = is.finite.some.0 in let own = is.finite.some.1 in
-      subst (λ (z : List ℕ). In z chain.states) (reaches.each past y own t x same) (end_of-keeps chain past n y is.finite own)
+shifted-sum : (sample : Words → Outcome) (worth : List ℕ → ℤ) (value : List ℕ → ℕ) (c : ℕ) → ((past : Words) (t : ℕ) (x : List ℕ) → sample past ≡ Met t x → worth x +ℤ pos c ≡ pos (value x))
+    → (pasts : List Words) → sum_of (map worth (met_states (map sample pasts))) +ℤ pos (c * length (met_states (map sample pasts))) ≡ pos (sum_or 0 value sample pasts)
+unfolding met_states sum_of
+shifted-sum sample worth value c same [] = (let e : c * 0 ≡ 0 = omega arith in ap (λ m. pos 0 +ℤ pos m) e)
+shifted-sum sample worth value c same (past ∷ pasts) =
+    shifted-first (sample past) (map sample pasts) worth value c (sum_or 0 value sample pasts) (same past) (shifted-sum sample worth value c same pasts)
+    ∙ ap pos (sym (sum_by-cons (λ p. value_or 0 value (sample p)) past pasts))
 
-  shifted-sum : (worth : List ℕ → ℤ) (value : List ℕ → ℕ) (c : ℕ) → ((x : List ℕ) → In x chain.states → worth x +ℤ pos c ≡ pos (value x)) → (pasts : List Words)
-      → sum_of (map worth (met_states (map sample pasts))) +ℤ pos (c * length (met_states (map sample pasts))) ≡ pos (sum_or 0 value sample pasts)
-  unfolding met_states sum_of
-  shifted-sum worth value c same [] = (let e : c * 0 ≡ 0 = omega arith in ap (λ m. pos 0 +ℤ pos m) e)
-  shifted-sum worth value c same (past ∷ pasts) =
-      shifted-first (sample past) (map sample pasts) worth value c (sum_or 0 value sample pasts) (λ t x met. same x (met-own past t x met)) (shifted-sum worth value c same pasts)
-      ∙ ap pos (sym (sum_by-cons (λ p. value_or 0 value (sample p)) past pasts))
+sum-is : (value : List ℕ → ℕ) (sample : Words → Outcome) (pasts : List Words) → sum_of (map (λ x. pos (value x)) (met_states (map sample pasts))) ≡ pos (sum_or 0 value sample pasts)
+sum-is value sample pasts =
+    let shifted = shifted-sum sample (λ x. pos (value x)) value 0 (λ past t x met. (let e : value x + 0 ≡ value x = omega arith in ap pos e)) pasts in
+    omega (arith, ints, shifted)
+
+-- samples of a chain that all states reach coalesce in its states
+met-own : (chain : Chain) (sample : Words → Outcome) (n : ℕ) → IsChain chain → Reaches chain sample n → (past : Words) (t : ℕ) (x : List ℕ) → sample past ≡ Met t x → In x chain.states
+met-own chain sample n is reaches past t x same =
+    let y = is.finite.some.0 in let own = is.finite.some.1 in
+    subst (λ (z : List ℕ). In z chain.states) (reaches.each past y own t x same) (end_of-keeps chain past n y is.finite own)
 
 -- ---- the figures
 
@@ -167,13 +141,15 @@ reward-in net sample pasts i reward small =
     In-append_right item (flat_map (quantity_figures queue_trio states) (queue_quantities net)) (flat_map (quantity_figures reward_trio states) (reward_quantities net))
     (In-flat_map (quantity_figures reward_trio states) (worth_at own) item (reward_quantities net) member first)
 
-pub reported : (net : Network) (chain : Chain) (sample : Words → Outcome) (n : ℕ) → IsChain chain → Reaches chain sample n → IsReported net chain sample
+pub reported : (net : Network) {chain : Chain} {sample : Words → Outcome} {n : ℕ} → IsChain chain → Reaches chain sample n → IsReported net chain sample
 unfolding contents_of
-reported net chain sample n is reaches = record {
+reported net {chain} {sample} {n} is reaches = record {
   samples = λ pasts. length-map pasts sample;
   sums = sum-in net sample;
   rewards = λ pasts i reward value c small same.
-      (let worth = worth_of (slice_index_or net.rewards i reward).kind in
-      (sum_of (map worth (met_states (map sample pasts))), (reward-in net sample pasts i reward small, shifted-sum chain sample n is reaches worth value c same pasts)));
+      (let worth = worth_of (slice_index_or net.rewards i reward).kind in (
+        sum_of (map worth (met_states (map sample pasts))),
+        (reward-in net sample pasts i reward small, shifted-sum sample worth value c (λ past t x met. same x (met-own chain sample n is reaches past t x met)) pasts),
+      ));
   others = others-are sample;
 }

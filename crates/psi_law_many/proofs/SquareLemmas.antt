@@ -1,6 +1,6 @@
 -- Squares of differences, in natural numbers.
 use Rattle.std.specs.Prelude.{◌≡◌, ℕ, ◌+◌, ◌-◌, ◌*◌, ◌≤◌, refl}
-use Rattle.std.proofs.Common.{inl, inr, ap, sym, ◌∙◌, arith}
+use Rattle.std.proofs.Common.{inl, inr, ap, ◌∙◌, arith}
 use Rattle.std.proofs.Math.Nat.{mul-le-mul}
 use Rattle.std.proofs.lemmas.Bool.{cases_lt}
 use Rattle.psi_law_many.specs.Means.{square, outside}
@@ -13,27 +13,14 @@ pub gap-is : (a b : ℕ) → gap a b ≡ square (outside a a b)
 unfolding gap
 gap-is a b = refl
 
-gap-over : (b i : ℕ) → gap (b + i) b ≡ i * i
-gap-over b i = (let e : outside (b + i) (b + i) b ≡ i = omega arith in gap-is (b + i) b ∙ ap square e)
-
-gap-under : (a i : ℕ) → gap a (a + i) ≡ i * i
-gap-under a i = (let e : outside a a (a + i) ≡ i = omega arith in gap-is a (a + i) ∙ ap square e)
-
 -- with twice the product it is the sum of the squares
+gap-of : (a b d g : ℕ) → a ≡ b + d → g ≡ d * d → g + 2 * (a * b) ≡ a * a + b * b
+gap-of a b d g e same = (let one = ap (λ (m : ℕ). m * a) e in let two = ap (λ (m : ℕ). m * d) e in let three = ap (λ (m : ℕ). m * b) e in omega arith)
+
 pub gap-square : (a b : ℕ) → gap a b + 2 * (a * b) ≡ a * a + b * b
 gap-square a b = elim (cases_lt a b) [
-  | inl less ↦ (let i : ℕ = b - a in
-      let e : b ≡ a + i = omega arith in
-      let left : gap a b + 2 * (a * b) ≡ gap a (a + i) + 2 * (a * (a + i)) = ap (λ m. gap a m + 2 * (a * m)) e in
-      let right : a * a + b * b ≡ a * a + (a + i) * (a + i) = ap (λ m. a * a + m * m) e in
-      let same : gap a (a + i) + 2 * (a * (a + i)) ≡ a * a + (a + i) * (a + i) = ap (λ m. m + 2 * (a * (a + i))) (gap-under a i) ∙ omega arith in
-      left ∙ (same ∙ sym right))
-  | inr more ↦ (let i : ℕ = a - b in
-      let e : a ≡ b + i = omega arith in
-      let left : gap a b + 2 * (a * b) ≡ gap (b + i) b + 2 * ((b + i) * b) = ap (λ m. gap m b + 2 * (m * b)) e in
-      let right : a * a + b * b ≡ (b + i) * (b + i) + b * b = ap (λ m. m * m + b * b) e in
-      let same : gap (b + i) b + 2 * ((b + i) * b) ≡ (b + i) * (b + i) + b * b = ap (λ m. m + 2 * ((b + i) * b)) (gap-over b i) ∙ omega arith in
-      left ∙ (same ∙ sym right))
+  | inl less ↦ (let e : outside a a b ≡ b - a = omega arith in let all = gap-of b a (b - a) (gap a b) (omega arith) (gap-is a b ∙ ap square e) in omega arith)
+  | inr more ↦ (let e : outside a a b ≡ a - b = omega arith in gap-of a b (a - b) (gap a b) (omega arith) (gap-is a b ∙ ap square e))
 ]
 
 pub gap-same : (a : ℕ) → gap a a ≡ 0

@@ -1,5 +1,5 @@
 -- Lists of pasts with a sample that did not coalesce (the union bound).
-use Rattle.std.specs.Prelude.{◌≡◌, ℕ, zero, suc, ◌+◌, ◌*◌, ◌^◌, ◌≤◌, List, ◌∷◌, Bool, true, false, ◌||◌}
+use Rattle.std.specs.Prelude.{◌≡◌, ℕ, zero, suc, ◌+◌, ◌*◌, ◌^◌, ◌≤◌, List, ◌∷◌}
 use Rattle.std.specs.List.{list_any}
 use Rattle.std.proofs.Common.{ap, arith}
 use Rattle.std.proofs.Math.Nat.{pow-suc, mul-le-mul_right}
@@ -8,18 +8,13 @@ use Rattle.psi_law.specs.Counting.{Words, sum_pasts}
 use Rattle.psi_law.specs.Wheel.{word_count}
 use Rattle.psi_law.specs.Chains.{Chain}
 use Rattle.psi_law.specs.Samples.{is_unmet, unmet}
-use Rattle.psi_law.proofs.SumsLemmas.{one_if, sum-times, sum_pasts-is}
+use Rattle.psi_law.proofs.SumsLemmas.{one_if, sum-times, sum_pasts-is, sum-constant, pasts-constant}
 use Rattle.psi_law_many.specs.Lists.{sum_lists}
 use Rattle.psi_law_many.specs.Means.{some_unmet}
 use Rattle.psi_law_many.specs.Statements.{UnmetAdds}
-use Rattle.psi_law_many.proofs.ListsLemmas.{sum-constant, sum_lists-is, pasts-ones, lists-ones, lists-power}
+use Rattle.psi_law_many.proofs.ListsLemmas.{sum_lists-is, lists-ones, lists-power, either}
 
--- where one of several did not coalesce, the first did not or one of the others
-first-or-rest : (a b : Bool) → one_if (a || b) ≤ one_if a + one_if b
-first-or-rest true b = omega arith
-first-or-rest false b = omega arith
-
--- one past before each list
+-- where one of several did not coalesce, the first did not or one of the others: one past before each list
 module _ (sample : Words → Outcome) (n k : ℕ) where
   own : Words → ℕ
   own past = one_if (is_unmet (sample past))
@@ -32,7 +27,7 @@ module _ (sample : Words → Outcome) (n k : ℕ) where
   lists-with past =
       let lists-is = sum_lists-is word_count n k in
       let order = lists-is.order (λ pasts. rest (past ∷ pasts)) (λ pasts. own past + rest pasts)
-      (λ pasts. first-or-rest (is_unmet (sample past)) (list_any (λ p. is_unmet (sample p)) pasts)) in
+      (λ pasts. either (is_unmet (sample past)) (list_any (λ p. is_unmet (sample p)) pasts)) in
       let more = lists-is.more (λ pasts. own past) rest in
       let constant = sum-constant (sum_lists word_count n k) lists-is (own past) in
       let ones : own past * sum_lists word_count n k (λ pasts. 1) ≡ own past * (word_count ^ n) ^ k = ap (λ m. own past * m) (lists-ones word_count n k) in
@@ -46,8 +41,7 @@ module _ (sample : Words → Outcome) (n k : ℕ) where
       let order = pasts-is.order (λ past. sum_lists word_count n k (λ pasts. rest (past ∷ pasts))) (λ past. all * own past + some_unmet sample n k) lists-with in
       let more = pasts-is.more (λ past. all * own past) (λ past. some_unmet sample n k) in
       let first = sum-times (sum_pasts word_count n) pasts-is all own in
-      let constant = sum-constant (sum_pasts word_count n) pasts-is (some_unmet sample n k) in
-      let ones : some_unmet sample n k * sum_pasts word_count n (λ past. 1) ≡ some_unmet sample n k * word_count ^ n = ap (λ m. some_unmet sample n k * m) (pasts-ones word_count n) in
+      let constant = pasts-constant word_count n (some_unmet sample n k) in
       omega arith
 
 some-adds : (sample : Words → Outcome) (n k : ℕ) → some_unmet sample n k * word_count ^ n ≤ k * unmet sample n * (word_count ^ n) ^ k

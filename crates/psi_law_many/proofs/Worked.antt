@@ -1,33 +1,25 @@
 -- The definitions on small inputs, counted by hand and computed by the checker. The modulus of the networks is 4, so lists of pasts are counted of
 -- the words below 4.
-use Rattle.std.proofs.Common.{◌≡◌, ℕ, zero, suc, ◌+◌, ◌-◌, ◌<◌, ◌≤◌, ◌^◌, ◌*◌, List, [], ◌∷◌, map, slice_index, inl, inr, ap, sym, subst, ◌∙◌, refl, arith}
-use Rattle.std.specs.Prelude.{Bool, true, false, ◌||◌, codes, nat_le, nat_lt, nat_eq, if◌then◌else◌}
+use Rattle.std.proofs.Common.{◌≡◌, ℕ, ◌+◌, ◌-◌, ◌≤◌, ◌^◌, ◌*◌, List, [], ◌∷◌, map, slice_index, inl, inr, sym, subst, refl, arith}
+use Rattle.std.specs.Prelude.{Bool, true, false, ◌||◌, nat_le, nat_lt, nat_eq, if◌then◌else◌}
 use Rattle.std.specs.List.{list_any, sum_by}
 use Rattle.std.proofs.Math.Nat.{one-le-pow}
 use Rattle.std.proofs.lemmas.Bool.{cases_eq, ne_eqb, cases_Bool}
-use Rattle.std.proofs.lemmas.List.Elements.{All-nil, All-cons}
-use Rattle.psi_state.specs.Members.{In}
 use Rattle.psi_state.proofs.StatesLemmas.{same-from_eq}
-use Rattle.psi_route.specs.declared.Full.TheVariants.{Lost}
-use Rattle.psi_kinds.specs.declared.kinds.Kind.{Kind}
-use Rattle.psi_kinds.specs.declared.kinds.Kind.TheVariants.{Arrival, Service}
 use Rattle.psi_kinds.specs.Kinds.{do_kind}
-use Rattle.psi_kinds.specs.Refusals.{refusal_of}
-use Rattle.psi_rate.specs.Rates.{total, least_power, event_of}
+use Rattle.psi_rate.specs.Rates.{least_power, event_of}
 use Rattle.psi_rate.specs.Doubling.{first_answer}
 use Rattle.psi_rate.specs.Outcomes.{outcome_within}
 use Rattle.psi_region.specs.Region.{step}
-use Rattle.psi_net_model.specs.Network.{Network}
-use Rattle.psi_net_model.specs.Valid.{IsNetwork, IsQueue, IsAccepted}
-use Rattle.psi_net_model.specs.declared.entries.NamedEvent.{NamedEvent}
 use Rattle.psi_report.specs.Samples.{met_states}
 use Rattle.psi_report.specs.Report.{contents_of}
 use Rattle.psi_law.specs.Counting.{Words, sum_below}
 use Rattle.psi_law.specs.Wheel.{word_count}
-use Rattle.psi_law.specs.Chains.{Chain, whole, weighted, flow_to, IsBalanced, is_same}
+use Rattle.psi_law.specs.Chains.{whole, weighted, IsBalanced, is_same}
 use Rattle.psi_law.specs.Samples.{is_unmet}
 use Rattle.psi_law.specs.Networks.{network_chain, network_sample}
 use Rattle.psi_law.proofs.NetworkLemmas.{network-lawful}
+use Rattle.psi_law.proofs.QueueingLemmas.{balanced-by, bounded-by, queueing, halves, queueing-kept}
 use Rattle.psi_law_many.specs.Lists.{count_lists, AtMost}
 use Rattle.psi_law_many.specs.Values.{sum_or, IsMeasured, Score, surplus, deficit, added}
 use Rattle.psi_law_many.specs.Means.{spread, distance, far}
@@ -43,40 +35,7 @@ use Rattle.psi_law_many.proofs.ManyLemmas.{AreMany, are-many, AreDifferent, are-
 
 -- ---- the networks
 
-abbrev tail : List ℕ → List ℕ
-tail [] = []
-tail (n ∷ ns) = ns
-
--- functions with the same list of values have the same value at each member
-same-map : {A : Type 0} (f g : A → ℕ) (xs : List A) (y : A) → map f xs ≡ map g xs → In y xs → f y ≡ g y
-same-map f g [] y same member = absurd member
-same-map f g (x ∷ xs) y same member = elim member [
-  | inl here ↦ ap f here ∙ (ap (λ (ns : List ℕ). slice_index ns 0) same ∙ ap g (sym here))
-  | inr there ↦ same-map f g xs y (ap (λ (ns : List ℕ). tail ns) same) there
-]
-
-balanced-by : (chain : Chain) (weight : List ℕ → ℕ) → map (flow_to chain weight) chain.states ≡ map (λ y. total chain.rates * weight y) chain.states → IsBalanced chain weight
-balanced-by chain weight same = record {
-  each = λ y member. same-map (flow_to chain weight) (λ z. total chain.rates * weight z) chain.states y same member;
-}
-
-abbrev event : ℕ → Kind → NamedEvent
-event rate kind = record { name = codes "e"; server = 1; rate = rate; kind = kind }
-
--- one queue with this capacity and this limit, which customers join at the rate 1 and leave at the rate 2; `first.toml` with capacity 2
-abbrev queueing : ℕ → ℕ → Network
-queueing capacity limit = record {
-  queues = record { name = codes "a"; capacity = capacity; servers = 1 } ∷ [];
-  events = event 1 (Arrival (0 ∷ [])) ∷ event 2 (Service (record { queue = 0; k = 1 }) [] Lost) ∷ [];
-  limit = limit;
-  split = 256;
-  rewards = [];
-}
-
--- its states weigh 4, 2 and 1; with capacity 1 they weigh 2 and 1
-abbrev halves : List ℕ → ℕ
-halves x = slice_index (4 ∷ 2 ∷ 1 ∷ []) (slice_index x 0)
-
+-- with capacity 1 the states weigh 2 and 1
 abbrev thirds : List ℕ → ℕ
 thirds x = slice_index (2 ∷ 1 ∷ []) (slice_index x 0)
 
@@ -88,48 +47,10 @@ one-balanced : (limit : ℕ) → IsBalanced (network_chain (queueing 1 limit)) t
 unfolding sum_below do_kind
 one-balanced limit = balanced-by (network_chain (queueing 1 limit)) thirds refl
 
--- they are networks, whatever the limit is
-rate-small : (i : ℕ) → i < 2 → (1 ≤ slice_index (1 ∷ 2 ∷ []) i) × (slice_index (1 ∷ 2 ∷ []) i ≤ 2)
-rate-small zero small = (omega arith, omega arith)
-rate-small (suc zero) small = (omega arith, omega arith)
-rate-small (suc (suc i)) small = absurd (omega arith)
-
-queue-first : (i : ℕ) → i < 1 → slice_index (0 ∷ []) i ≡ 0
-queue-first zero small = refl
-queue-first (suc i) small = absurd (omega arith)
-
-queueing-kept : (capacity limit : ℕ) → 1 ≤ capacity → capacity ≤ 2 → limit ≤ 22 → IsNetwork (queueing capacity limit)
-unfolding refusal_of
-queueing-kept capacity limit some two most = record {
-  queues = record {
-    some = omega arith;
-    few = omega arith;
-    each = All-cons IsQueue (record { name = codes "a"; capacity = capacity; servers = 1 }) [] (record { some = omega arith; most = omega arith; served = omega arith; servers = omega arith; fits = omega arith }) (All-nil IsQueue);
-  };
-  rates = record {
-    some = omega arith;
-    few = omega arith;
-    least = λ i small. (rate-small i small).0;
-    most = λ i small. (let two = (rate-small i small).1 in omega arith);
-    bounded = omega arith;
-  };
-  kinds =
-      All-cons (λ e. IsAccepted (capacity ∷ []) e.kind) (event 1 (Arrival (0 ∷ []))) (event 2 (Service (record { queue = 0; k = 1 }) [] Lost) ∷ [])
-      (record { named = λ i small. (let first = queue-first i small in omega arith); accepted = refl })
-      (All-cons (λ e. IsAccepted (capacity ∷ []) e.kind) (event 2 (Service (record { queue = 0; k = 1 }) [] Lost)) []
-      (record { named = (record { queue = omega arith; least = omega arith; most = omega arith }, λ i small. absurd (omega arith)); accepted = refl })
-      (All-nil (λ e. IsAccepted (capacity ∷ []) e.kind)));
-  limit = most;
-  some_split = omega arith;
-  most_split = omega arith;
-  few_rewards = omega arith;
-}
-
 -- so all clauses hold of them
 many : (capacity limit : ℕ) → 1 ≤ capacity → capacity ≤ 2 → limit ≤ 22 → AreMany (network_chain (queueing capacity limit)) (network_sample (queueing capacity limit)) (2 ^ limit)
 many capacity limit some two most =
-    (let laws = (network-lawful (queueing capacity limit) (queueing-kept capacity limit some two most)).laws in
-    are-many (network_chain (queueing capacity limit)) (network_sample (queueing capacity limit)) (2 ^ limit) laws.is_chain laws.reaches)
+    (let laws = (network-lawful (queueing capacity limit) (queueing-kept capacity limit some two most)).laws in are-many laws.is_chain laws.reaches)
 
 -- ---- values of their states
 
@@ -140,31 +61,18 @@ customers x = slice_index x 0
 abbrev full : List ℕ → ℕ
 full x = slice_index (0 ∷ 0 ∷ 1 ∷ []) (slice_index x 0)
 
-three-states : (value : List ℕ → ℕ) (high : ℕ) → value (0 ∷ []) ≤ high → value (1 ∷ []) ≤ high → value (2 ∷ []) ≤ high
-    → (x : List ℕ) → In x (network_chain (queueing 2 1)).states → value x ≤ high
-three-states value high zero_customers one_customer two_customers x member = elim member [
-  | inl none ↦ (let e : value x ≡ value (0 ∷ []) = ap value none in omega arith)
-  | inr more ↦ elim more [
-    | inl one ↦ (let e : value x ≡ value (1 ∷ []) = ap value one in omega arith)
-    | inr last ↦ elim last [
-      | inl two ↦ (let e : value x ≡ value (2 ∷ []) = ap value two in omega arith)
-      | inr past ↦ absurd past
-    ]
-  ]
-]
-
 customers-measured : (limit : ℕ) → IsMeasured (network_chain (queueing 2 limit)) halves customers 0 2
 customers-measured limit = record {
   balanced = two-balanced limit;
   above = λ x member. omega arith;
-  below = three-states customers 2 (omega arith) (omega arith) (omega arith);
+  below = bounded-by (network_chain (queueing 2 limit)) customers 2 refl;
 }
 
 full-measured : (limit : ℕ) → IsMeasured (network_chain (queueing 2 limit)) halves full 0 1
 full-measured limit = record {
   balanced = two-balanced limit;
   above = λ x member. omega arith;
-  below = three-states full 1 (omega arith) (omega arith) (omega arith);
+  below = bounded-by (network_chain (queueing 2 limit)) full 1 refl;
 }
 
 -- the weights are 7 in all, the mean of the customers is 4 of 7 and their variance 182 of 343, and the share of the full state is 1 of 7
@@ -421,24 +329,14 @@ ten-covered : AtMost 1 40 (2 ^ 18) 10 (loses (surplus (network_sample (queueing 
 ten-covered = ((many 2 18 (omega arith) (omega arith) (omega arith)).bets halves customers 0 2 (customers-measured 18)).lower 10 10 10 40 (7 ∷ []) ten_claims ten-bet
 
 -- the two networks, with limits of their own, under the same pasts
-two-states : (x : List ℕ) → In x (network_chain (queueing 1 17)).states → customers x ≤ 1
-two-states x member = elim member [
-  | inl none ↦ (let e : customers x ≡ 0 = ap customers none in omega arith)
-  | inr more ↦ elim more [
-    | inl one ↦ (let e : customers x ≡ 1 = ap customers one in omega arith)
-    | inr past ↦ absurd past
-  ]
-]
-
 one-measured : IsMeasured (network_chain (queueing 1 17)) thirds customers 0 1
-one-measured = record { balanced = one-balanced 17; above = λ x member. omega arith; below = two-states }
+one-measured = record { balanced = one-balanced 17; above = λ x member. omega arith; below = bounded-by (network_chain (queueing 1 17)) customers 1 refl }
 
 compared : AreDifferent (network_chain (queueing 2 18)) (network_sample (queueing 2 18)) (network_chain (queueing 1 17)) (network_sample (queueing 1 17)) (2 ^ 18)
 compared =
     let first = (network-lawful (queueing 2 18) (queueing-kept 2 18 (omega arith) (omega arith) (omega arith))).laws in
     let last = (network-lawful (queueing 1 17) (queueing-kept 1 17 (omega arith) (omega arith) (omega arith))).laws in
-    are-different (network_chain (queueing 2 18)) (network_sample (queueing 2 18)) (network_chain (queueing 1 17)) (network_sample (queueing 1 17)) (2 ^ 18) (2 ^ 17) (2 ^ 18)
-    first.is_chain first.reaches last.is_chain last.reaches (omega arith) (omega arith)
+    are-different first.is_chain first.reaches last.is_chain last.reaches (2 ^ 18) (omega arith) (omega arith)
 
 -- ten streams in all of which the first network is full and the second is empty are at most 1 list in 1,356
 differences-of : (b w : ℕ) → b * (2 ^ 30 * 1 ^ 0) * (21 * 3) ^ 10 ≤ (26 * 2 ^ 3 + (21 * 3 - 26) * 1 ^ 3) ^ 10 * w → b * 1356 ≤ w

@@ -11,6 +11,7 @@ ghost use Rattle.psi_law_many.specs.Bets.{HasBets};
 ghost use Rattle.psi_law_many.specs.Statements.{HasTails, StationaryIsMeasured, BalanceIsNear, BalanceHas, BalanceHasQuantiles, UnmetAdds};
 
 use psi_kinds::Move;
+use psi_law::{law_of_closed_network, law_of_closed_samples};
 use psi_net_model::Net;
 use psi_rate::Wheel;
 use psi_state::State;
@@ -30,11 +31,10 @@ pub fn law_of_many_closed_samples(caps: State, moves: &[Move], wheel: &Wheel, li
     ensures quantiles { BalanceHasQuantiles (closed_chain caps total moves.now wheel.now) (closed_sample caps total moves.now wheel.now limit) (2 ^ limit) }
     ensures unmet { UnmetAdds (closed_chain caps total moves.now wheel.now) (closed_sample caps total moves.now wheel.now limit) (2 ^ limit) }
 {
-    // Called for its clause: the rates make a wheel.
-    let _events = wheel.events();
+    law_of_closed_samples(caps, moves, wheel, limit, total);
 }
 
-/// The same for the samples that the command `closed` prints of a network, each of whose events is a move.
+/// As `law_of_many_closed_samples`, for the samples that the command `closed` prints of a network, each of whose events is a move.
 pub fn law_of_many_closed_network(net: &Net, total: u16)
     requires fits { IsTotal (caps_of net.now) total }
     requires moves { All (λ event. IsSome (move_of event.kind)) net.now.events }
@@ -46,6 +46,5 @@ pub fn law_of_many_closed_network(net: &Net, total: u16)
     ensures quantiles { BalanceHasQuantiles (network_total_chain net.now total) (network_total_sample net.now total) (2 ^ net.now.limit) }
     ensures unmet { UnmetAdds (network_total_chain net.now total) (network_total_sample net.now total) (2 ^ net.now.limit) }
 {
-    // Called for its clause: the network is one that can be sampled.
-    let _queues = net.queues();
+    law_of_closed_network(net, total);
 }

@@ -10,6 +10,7 @@ ghost use Rattle.psi_law_many.specs.Intervals.{HasIntervals};
 ghost use Rattle.psi_law_many.specs.Bets.{HasBets};
 ghost use Rattle.psi_law_many.specs.Statements.{HasTails, DifferenceHas};
 
+use psi_law::{law_of_closed_network, law_of_network};
 use psi_net_model::Net;
 
 /// The law of the difference of two networks, each sample of which is drawn from the same past.
@@ -28,12 +29,11 @@ pub fn law_of_differences(net: &Net, other: &Net)
     ensures bets { (n : ℕ) → 2 ^ net.now.limit ≤ n → 2 ^ other.now.limit ≤ n
         → DifferenceHas (network_chain net.now) (network_sample net.now) n HasBets (network_chain other.now) (network_sample other.now) }
 {
-    // Called for their clauses: the networks are two that can be sampled.
-    let _queues = net.queues();
-    let _others = other.queues();
+    law_of_network(net);
+    law_of_network(other);
 }
 
-/// The same for two closed networks, each with a total of its own.
+/// As `law_of_differences`, for two closed networks, each with a total of its own.
 pub fn law_of_closed_differences(net: &Net, total: u16, other: &Net, contrast: u16)
     requires fits { IsTotal (caps_of net.now) total }
     requires moves { All (λ event. IsSome (move_of event.kind)) net.now.events }
@@ -52,7 +52,6 @@ pub fn law_of_closed_differences(net: &Net, total: u16, other: &Net, contrast: u
         → DifferenceHas (network_total_chain net.now total) (network_total_sample net.now total) n HasBets
         (network_total_chain other.now contrast) (network_total_sample other.now contrast) }
 {
-    // Called for their clauses: the networks are two that can be sampled.
-    let _queues = net.queues();
-    let _others = other.queues();
+    law_of_closed_network(net, total);
+    law_of_closed_network(other, contrast);
 }

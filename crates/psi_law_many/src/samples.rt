@@ -8,6 +8,7 @@ ghost use Rattle.psi_law_many.specs.Reports.{IsReported};
 ghost use Rattle.psi_law_many.specs.Statements.{HasTails, StationaryIsMeasured, BalanceIsNear, BalanceHas, BalanceHasQuantiles, UnmetAdds};
 
 use psi_event::EventLaw;
+use psi_law::{law_of_network, law_of_samples};
 use psi_net_model::Net;
 use psi_rate::System;
 
@@ -33,11 +34,10 @@ pub fn law_of_many_samples<E: EventLaw>(system: &System<'_, E>)
     ensures quantiles { BalanceHasQuantiles (chain_of E.function system.now) (sample_of E.function system.now) (2 ^ system.now.limit) }
     ensures unmet { UnmetAdds (chain_of E.function system.now) (sample_of E.function system.now) (2 ^ system.now.limit) }
 {
-    // Called for its clause: the parts fit each other.
-    let _caps = system.caps();
+    law_of_samples(system);
 }
 
-/// The same for the samples that the command `sample` prints of a network, whose events do what their kinds say.
+/// As `law_of_many_samples`, for the samples that the command `sample` prints of a network, whose events do what their kinds say.
 ///
 /// The report of the samples of k pasts has the sums that these means are made of (`report`).
 pub fn law_of_many_network(net: &Net)
@@ -50,6 +50,5 @@ pub fn law_of_many_network(net: &Net)
     ensures unmet { UnmetAdds (network_chain net.now) (network_sample net.now) (2 ^ net.now.limit) }
     ensures report { IsReported net.now (network_chain net.now) (network_sample net.now) }
 {
-    // Called for its clause: the network is one that can be sampled.
-    let _queues = net.queues();
+    law_of_network(net);
 }

@@ -4,45 +4,11 @@ use Rattle.std.proofs.Common.{ap, sym, ◌∙◌, arith}
 use Rattle.psi_rate.specs.Rates.{event_of}
 use Rattle.psi_rate.specs.Composition.{Functions, picked, function_at}
 use Rattle.psi_path.specs.Path.{function_after, state_at}
-use Rattle.psi_law.specs.Counting.{Words, sum_below, after, sum_pasts}
+use Rattle.psi_law.specs.Counting.{Words, after}
 use Rattle.psi_law.specs.Chains.{Chain, IsFinite, end_of}
-use Rattle.psi_law.proofs.SumsLemmas.{sum-same, sum_below-is}
-use Rattle.psi_law.proofs.ChainLemmas.{Own, function_of-keeps, end_of-first}
-
--- the n first words of one list, and past them those of another
-abbrev pub along : ℕ → Words → Words → Words
-along zero p q = q
-along (suc n) p q = after (p 0) (along n (λ k. p (suc k)) q)
-
--- the lists of n + k words are those of n and of k words, one past the other
-pub sum-along : (bound n k : ℕ) (g : Words → ℕ) → sum_pasts bound (n + k) g ≡ sum_pasts bound n (λ p. sum_pasts bound k (λ q. g (along n p q)))
-sum-along bound zero k g = (let e : zero + k ≡ k = omega arith in ap (λ m. sum_pasts bound m g) e)
-sum-along bound (suc n) k g =
-    let e : suc n + k ≡ suc (n + k) = omega arith in
-    ap (λ m. sum_pasts bound m g) e
-    ∙ sum-same (sum_below bound) (sum_below-is bound) (λ word. sum_pasts bound (n + k) (λ past. g (after word past)))
-    (λ word. sum_pasts bound n (λ p. sum_pasts bound k (λ q. g (after word (along n p q)))))
-    (λ word. sum-along bound n k (λ past. g (after word past)))
-
-pub along-sooner : (n : ℕ) (p q : Words) (k : ℕ) → k < n → along n p q k ≡ p k
-along-sooner zero p q k small = absurd (omega arith)
-along-sooner (suc n) p q zero small = refl
-along-sooner (suc n) p q (suc k) small = along-sooner n (λ j. p (suc j)) q k (omega arith)
-
-along-later : (n : ℕ) (p q : Words) (k : ℕ) → along n p q (n + k) ≡ q k
-along-later zero p q k = (let e : zero + k ≡ k = omega arith in ap q e)
-along-later (suc n) p q k =
-    let e : suc n + k ≡ suc (n + k) = omega arith in
-    ap (λ i. after (p 0) (along n (λ j. p (suc j)) q) i) e ∙ along-later n (λ j. p (suc j)) q k
-
--- the run of the past looks at the first words alone
-end-along : (chain : Chain) (n : ℕ) (p q : Words) (x : List ℕ) → end_of chain (along n p q) n x ≡ end_of chain p n x
-end-along chain zero p q x = refl
-end-along chain (suc n) p q x =
-    let rest : Words = λ j. p (suc j) in
-    end_of-first chain (after (p 0) (along n rest q)) n x
-    ∙ (ap (λ (z : List ℕ). picked chain.functions chain.rates (p 0) z) (end-along chain n rest q x)
-    ∙ sym (end_of-first chain p n x))
+use Rattle.psi_law.proofs.JoinedLemmas.{joined, joined-newer, joined-older}
+use Rattle.psi_law.proofs.LooksLemmas.{function_at-same}
+use Rattle.psi_law.proofs.ChainLemmas.{Own, function_of-keeps, compose-first}
 
 -- a path looks at the functions of its own steps alone
 state_at-same : (f g : Functions) (k : ℕ) (x : List ℕ) → ((j : ℕ) → j < k → f (suc j) ≡ g (suc j)) → state_at f k x ≡ state_at g k x
@@ -76,18 +42,20 @@ module _ (chain : Chain) (first : ℕ) where
   abbrev pub reached : Words → ℕ → List ℕ → List ℕ
   reached words k x = state_at (function_after first chain.functions chain.rates words) k x
 
-  reached-along : (p q : Words) (k : ℕ) (x : List ℕ) → reached (along first p q) k x ≡ later chain q k x
+  reached-along : (p q : Words) (k : ℕ) (x : List ℕ) → reached (joined first p q) k x ≡ later chain q k x
   reached-along p q k x =
-      state_at-same (function_after first chain.functions chain.rates (along first p q)) (function_at chain.functions chain.rates q) k x
+      state_at-same (function_after first chain.functions chain.rates (joined first p q)) (function_at chain.functions chain.rates q) k x
       (λ j small. (let e : suc j - 1 ≡ j = omega arith in
-      ap (λ i. picked chain.functions chain.rates (along first p q (first + i))) e
-      ∙ (ap (λ word. picked chain.functions chain.rates word) (along-later first p q j)
+      ap (λ i. picked chain.functions chain.rates (joined first p q (first + i))) e
+      ∙ (ap (λ word. picked chain.functions chain.rates word) (joined-older first p q j)
       ∙ ap (λ i. picked chain.functions chain.rates (q i)) (sym e))))
 
   pub both-along : (p q : Words) (k : ℕ) (x : List ℕ)
-      → reached (along first p q) k (end_of chain (along first p q) first x) ≡ later chain q k (end_of chain p first x)
+      → reached (joined first p q) k (end_of chain (joined first p q) first x) ≡ later chain q k (end_of chain p first x)
   both-along p q k x =
-      reached-along p q k (end_of chain (along first p q) first x) ∙ ap (λ (z : List ℕ). later chain q k z) (end-along chain first p q x)
+      reached-along p q k (end_of chain (joined first p q) first x)
+      ∙ ap (λ (h : List ℕ → List ℕ). later chain q k (h x))
+      (compose-first (function_at chain.functions chain.rates (joined first p q)) (function_at chain.functions chain.rates p) first (function_at-same chain.functions chain.rates (joined first p q) p first (joined-newer first p q)))
 
   -- it is a state of the chain
   pub reached-keeps : (words : Words) (k : ℕ) (x : List ℕ) → IsFinite chain → Own chain x → Own chain (reached words k x)

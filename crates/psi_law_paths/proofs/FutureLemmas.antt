@@ -7,21 +7,17 @@ use Rattle.psi_rate.specs.Composition.{picked}
 use Rattle.psi_law.specs.Counting.{Words, sum_below, after, sum_pasts}
 use Rattle.psi_law.specs.Wheel.{word_count}
 use Rattle.psi_law.specs.Chains.{Chain, IsChain, end_of, weighted, IsBalanced}
-use Rattle.psi_law.proofs.SumsLemmas.{sum-same, sum-times, sum_below-is, sum_pasts-is}
+use Rattle.psi_law.proofs.SumsLemmas.{sum-same, sum-times, sum_below-is, sum_pasts-is, pasts-constant}
 use Rattle.psi_law.proofs.BalanceLemmas.{weighted-is, weighted-same, weighted-words, weighted-pasts}
-use Rattle.psi_law_many.proofs.ListsLemmas.{sum-constant, pasts-ones}
-use Rattle.psi_law_paths.proofs.AlongLemmas.{along, sum-along, later, later-first, reached, both-along}
+use Rattle.psi_law.proofs.JoinedLemmas.{joined, sum_pasts-joined}
+use Rattle.psi_law_paths.proofs.AlongLemmas.{later, later-first, reached, both-along}
 
 module _ (chain : Chain) (weight : List ℕ → ℕ) (is : IsChain chain) where
   -- the sum over the futures of what is told of the state at time k
   weighted-futures : (n k : ℕ) (h : List ℕ → ℕ) → k ≤ n → IsBalanced chain weight
       → weighted chain weight (λ x. sum_pasts word_count n (λ q. h (later chain q k x))) ≡ word_count ^ n * weighted chain weight h
   weighted-futures n zero h small balanced =
-      let pasts = sum_pasts-is word_count n in
-      let ones = pasts-ones word_count n in
-      weighted-same chain weight (λ x. sum_pasts word_count n (λ q. h x)) (λ x. word_count ^ n * h x)
-      (λ x own. (let all = sum-constant (sum_pasts word_count n) pasts (h x) in
-      let e : h x * sum_pasts word_count n (λ q. 1) ≡ h x * word_count ^ n = ap (λ m. h x * m) ones in omega arith))
+      weighted-same chain weight (λ x. sum_pasts word_count n (λ q. h x)) (λ x. word_count ^ n * h x) (λ x own. pasts-constant word_count n (h x) ∙ omega arith)
       ∙ sum-times (weighted chain weight) (weighted-is chain weight) (word_count ^ n) h
   weighted-futures zero (suc k) h small balanced = absurd (omega arith)
   weighted-futures (suc n) (suc k) h small balanced =
@@ -48,8 +44,8 @@ module _ (chain : Chain) (weight : List ℕ → ℕ) (is : IsChain chain) where
       let g : List ℕ → Words → ℕ = λ x words. h (reached chain first words k (end_of chain words first x)) in
       let power : word_count ^ (first + n) * all ≡ word_count ^ first * word_count ^ n * all = ap (λ m. m * all) (pow-add word_count first n) in
       weighted-same chain weight (λ x. sum_pasts word_count (first + n) (g x)) (λ x. sum_pasts word_count first (λ p. told (end_of chain p first x)))
-      (λ x own. sum-along word_count first n (g x)
-      ∙ sum-same (sum_pasts word_count first) (sum_pasts-is word_count first) (λ p. sum_pasts word_count n (λ q. g x (along first p q))) (λ p. told (end_of chain p first x))
-      (λ p. sum-same (sum_pasts word_count n) (sum_pasts-is word_count n) (λ q. g x (along first p q)) (λ q. h (later chain q k (end_of chain p first x)))
+      (λ x own. sum_pasts-joined word_count first n (g x)
+      ∙ sum-same (sum_pasts word_count first) (sum_pasts-is word_count first) (λ p. sum_pasts word_count n (λ q. g x (joined first p q))) (λ p. told (end_of chain p first x))
+      (λ p. sum-same (sum_pasts word_count n) (sum_pasts-is word_count n) (λ q. g x (joined first p q)) (λ q. h (later chain q k (end_of chain p first x)))
       (λ q. ap h (both-along chain first p q k x))))
       ∙ (weighted-pasts chain weight is first told balanced ∙ (ap (λ m. word_count ^ first * m) (weighted-futures n k h small balanced) ∙ omega arith))

@@ -11,6 +11,7 @@ ghost use Rattle.psi_law_many.specs.Intervals.{HasIntervals};
 ghost use Rattle.psi_law_many.specs.Bets.{HasBets};
 ghost use Rattle.psi_law_paths.specs.Statements.{PathIsStationary, PathHasMean, PathHas, UnmetAsSamples, IsWalked};
 
+use crate::kept::networks_are_kept;
 use psi_net_model::Net;
 
 /// The law of the paths of a network, each of whose events is a move, from the samples that the command `closed` prints of it.
@@ -28,6 +29,5 @@ pub fn law_of_closed_network_paths(net: &Net, total: u16)
     ensures walked { IsWalked (network_total_chain net.now total) (network_total_sample net.now total) first_place
         (λ words start. record { functions = functions_of net.now; rates = rates_of net.now; words = words; start = start }) }
 {
-    // Called for its clause: the network is one that can be sampled.
-    let _queues = net.queues();
+    networks_are_kept(net);
 }

@@ -3,6 +3,7 @@
 #![tactic(auto)]
 
 mod closed;
+mod kept;
 mod paths;
 
 pub use closed::law_of_closed_network_paths;

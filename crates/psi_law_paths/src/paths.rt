@@ -9,6 +9,7 @@ ghost use Rattle.psi_law_many.specs.Intervals.{HasIntervals};
 ghost use Rattle.psi_law_many.specs.Bets.{HasBets};
 ghost use Rattle.psi_law_paths.specs.Statements.{PathIsStationary, PathHasMean, PathHas, UnmetAsSamples, IsWalked};
 
+use crate::kept::networks_are_kept;
 use psi_event::EventLaw;
 use psi_net_model::Net;
 use psi_rate::System;
@@ -37,7 +38,7 @@ pub fn law_of_paths<E: EventLaw>(system: &System<'_, E>)
     let _caps = system.caps();
 }
 
-/// The same for a network, whose events do what their kinds say, and the samples that the command `sample` prints of it.
+/// As `law_of_paths`, for a network, whose events do what their kinds say, and the samples that the command `sample` prints of it.
 pub fn law_of_network_paths(net: &Net)
     ensures stationary { PathIsStationary (network_chain net.now) (network_sample net.now) first_place }
     ensures mean { PathHasMean (network_chain net.now) (network_sample net.now) first_place }
@@ -48,6 +49,5 @@ pub fn law_of_network_paths(net: &Net)
     ensures walked { IsWalked (network_chain net.now) (network_sample net.now) first_place
         (λ words start. record { functions = functions_of net.now; rates = rates_of net.now; words = words; start = start }) }
 {
-    // Called for its clause: the network is one that can be sampled.
-    let _queues = net.queues();
+    networks_are_kept(net);
 }

@@ -1,5 +1,5 @@
 -- The commands give one state: each state that is given is that of every run that starts early enough.
-use Rattle.std.specs.Prelude.{◌≡◌, ℕ, ℤ, ◌+◌, ◌^◌, List, Option, Some, None, refl}
+use Rattle.std.specs.Prelude.{◌≡◌, ℕ, ℤ, ◌+◌, ◌^◌, List, Option}
 use Rattle.std.proofs.Common.{inl, inr, ap, sym, ◌∙◌, subst, arith}
 use Rattle.psi_state.specs.declared.Outcome.{Outcome}
 use Rattle.psi_state.specs.declared.Outcome.TheVariants.{Met}
@@ -10,7 +10,7 @@ use Rattle.psi_reward.specs.declared.kinds.RewardKind.{RewardKind}
 use Rattle.psi_reward.specs.Worth.{worth_of}
 use Rattle.psi_rate.specs.Composition.{Functions, AreClosed, IsReached}
 use Rattle.psi_rate.specs.Doubling.{IsFirst}
-use Rattle.psi_rate.specs.Least.{least_answer, IsLeast, TellsLeast}
+use Rattle.psi_rate.specs.Least.{least_answer, IsLeast}
 use Rattle.psi_rate.specs.Outcomes.{meeting_at, IsOutcome}
 use Rattle.psi_rate.proofs.LeastLemmas.{least_answer-tells}
 use Rattle.psi_rate.proofs.FunctionsLemmas.{function_at-closed}
@@ -23,31 +23,26 @@ use Rattle.psi_couple.specs.declared.answers.Valued.{Valued}
 use Rattle.psi_couple.specs.declared.answers.Valued.TheVariants as valued
 use Rattle.psi_couple.specs.Coupling.{IsCoupled as IsCoupledWithin}
 use Rattle.psi_couple.specs.Valuing.{value_at, IsValued, IsValueReached}
-use Rattle.psi_couple.proofs.ValuingLemmas.{value-reached}
+use Rattle.psi_couple.proofs.CouplingLemmas.{coupled_within-is}
+use Rattle.psi_couple.proofs.ValuingLemmas.{value-reached, valued_within-is}
 use Rattle.psi_exact.specs.declared.answers.Meeting.{Meeting}
 use Rattle.psi_exact.specs.declared.answers.Meeting.TheVariants.{Constant}
-use Rattle.psi_exact.specs.Surveys.{meeting_of, meeting_within, IsMeeting}
-use Rattle.psi_exact.proofs.SurveysLemmas.{meeting_at-reached}
+use Rattle.psi_exact.specs.Surveys.{meeting_within, IsMeeting}
+use Rattle.psi_exact.proofs.SurveysLemmas.{meeting_of-is, meeting_at-reached}
 use Rattle.psi_net_model.specs.Network.{Network, caps_of, rates_of, functions_of}
 use Rattle.psi_net_model.specs.Valid.{IsNetwork}
 use Rattle.psi_reply.specs.Sample.{functions_by_time, sampled}
 use Rattle.psi_reply.specs.Couple.{endings, coupling}
 use Rattle.psi_reply.specs.Reward.{values, valuation}
 use Rattle.psi_reply.specs.Exact.{meetings, meeting}
-use Rattle.psi_law.proofs.CouplingLemmas.{coupled_within-is}
-use Rattle.psi_law.proofs.ValueLemmas.{valued_within-is}
 use Rattle.psi_law.proofs.NetworkLemmas.{network-closed, network-lawful}
 use Rattle.psi_law.proofs.NetworkAnswerLemmas.{coupling-agrees, values-agree}
 use Rattle.psi_law_printed.specs.Agreement.{IsLogged, IsGiven, StatesAgree, ValuesAgree, HorizonsAgree}
-use Rattle.psi_law_printed.proofs.FileLemmas.{read-kept}
-
-meeting-tells : (run : ℕ → Option (List ℕ)) (h : ℕ) (found : Option (ℕ × List ℕ)) → TellsLeast run (2 ^ h) found → IsMeeting run h (meeting_of h found)
-meeting-tells run h None tells = (refl, tells)
-meeting-tells run h (Some found) tells = tells
+use Rattle.psi_run.proofs.EndingsLemmas.{accepted_kept}
 
 meeting_within-is : (run : ℕ → Option (List ℕ)) (h : ℕ) → IsMeeting run h (meeting_within run h)
 unfolding meeting_within
-meeting_within-is run h = meeting-tells run h (least_answer run (2 ^ h)) (least_answer-tells run (2 ^ h))
+meeting_within-is run h = meeting_of-is run h (least_answer run (2 ^ h)) (least_answer-tells run (2 ^ h))
 
 -- states that every run reaches are one
 reached-one : (f : Functions) (caps x : List ℕ) (t u : ℕ) (state other : List ℕ) → IsBelow x caps → IsReached f caps t state → IsReached f caps u other → state ≡ other
@@ -125,14 +120,14 @@ module _ (net : Network) (kept : IsNetwork net) (seed stream : ℕ) where
       sym (valued_from.each some-state.0 (t + reached.0) some-state.1 (omega arith)) ∙ ap (worth_of kind) (reached.1.each some-state.0 (t + reached.0) some-state.1 (omega arith))
 
 pub states-agree : StatesAgree
-states-agree = λ bytes net seed stream state other read first second. given-one net (read-kept bytes net read) seed stream state other first second
+states-agree = λ bytes net seed stream state other read first second. given-one net (accepted_kept bytes net read) seed stream state other first second
 
 pub values-agree_with : ValuesAgree
-values-agree_with = λ bytes net seed stream state kind t value read given is. value-of_given net (read-kept bytes net read) seed stream state kind t value given is
+values-agree_with = λ bytes net seed stream state kind t value read given is. value-of_given net (accepted_kept bytes net read) seed stream state kind t value given is
 
 pub horizons-agree : HorizonsAgree
 unfolding coupling endings valuation values sampled functions_by_time
 horizons-agree = λ bytes net seed stream read. record {
-  coupled = coupling-agrees net (read-kept bytes net read) (seed_word seed stream);
-  valued = λ kind. values-agree net (read-kept bytes net read) kind (seed_word seed stream);
+  coupled = coupling-agrees net (accepted_kept bytes net read) (seed_word seed stream);
+  valued = λ kind. values-agree net (accepted_kept bytes net read) kind (seed_word seed stream);
 }

@@ -1,5 +1,4 @@
 -- The lemmas of this crate.
-mod FileLemmas
 mod AgreementLemmas
 mod PrintedLemmas
 mod Worked

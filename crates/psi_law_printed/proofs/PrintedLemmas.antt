@@ -1,6 +1,6 @@
 -- What is printed of the network of a file is what is counted.
 use Rattle.std.specs.Prelude.{◌≡◌, ℕ, ◌^◌, List, [], ◌∷◌, map, All, Option, Some, None, IsSome, Result, Ok, option_and_then, if◌then◌else◌, Bool, refl}
-use Rattle.std.proofs.Common.{ap, ◌∙◌, arith}
+use Rattle.std.proofs.Common.{ap, ◌∙◌, arith, rules}
 use Rattle.std.proofs.lemmas.Bool.{le-leb}
 use Rattle.std.proofs.lemmas.List.Elements.{All-nil, All-cons}
 use Rattle.psi_state.specs.State.{numbers_from}
@@ -9,6 +9,8 @@ use Rattle.psi_past.specs.SeedWord.{seed_word}
 use Rattle.psi_reward.specs.declared.kinds.RewardKind.{RewardKind}
 use Rattle.psi_kinds.specs.declared.moves.Move.{Move}
 use Rattle.psi_kinds.specs.Moves.{move_of}
+use Rattle.psi_rate.specs.Composition.{Functions, function_at}
+use Rattle.psi_rate.specs.Outcomes.{outcome_within}
 use Rattle.psi_rate.proofs.PowersLemmas.{pow-order}
 use Rattle.psi_closed_arcs.specs.Walks.{customers}
 use Rattle.psi_closed.specs.Diagram.{IsTotal}
@@ -30,14 +32,16 @@ use Rattle.psi_reply.specs.Closed.{first_other, closed_endings, closed_sampled}
 use Rattle.psi_reply.proofs.ClosingLemmas.{moves-of_none}
 use Rattle.psi_reply.specs.Reply.{Reply, value_reply, outcome_reply, closed_reply}
 use Rattle.psi_run.specs.Reply.{reply_to, reply_of, judged_reply}
+use Rattle.psi_law.specs.Chains.{Chain}
 use Rattle.psi_law.specs.Networks.{network_sample, network_total_sample}
+use Rattle.psi_law.proofs.LawfulLemmas.{AreLawful}
 use Rattle.psi_law.proofs.WheelLemmas.{wheel-exact}
 use Rattle.psi_law.proofs.WordsLemmas.{seed_word-small}
-use Rattle.psi_law.proofs.NetworkLemmas.{network-lawful}
+use Rattle.psi_law.proofs.NetworkLemmas.{network-lawful, network-sampled}
 use Rattle.psi_law.proofs.NetworkAnswerLemmas.{coupling-lawful, values-lawful}
 use Rattle.psi_law.proofs.ClosedLemmas.{kinds-lawful}
-use Rattle.psi_law_printed.specs.Printed.{AreCountedWords, RepliesAreCounted, SamplesAreCounted, ReportsAreCounted, ClosedSamplesAreCounted}
-use Rattle.psi_law_printed.proofs.FileLemmas.{read-kept}
+use Rattle.psi_law_printed.specs.Printed.{AreCountedWords, HaveLaws, RepliesAreCounted, SamplesAreCounted, ReportsAreCounted, ClosedSamplesAreCounted}
+use Rattle.psi_run.proofs.EndingsLemmas.{accepted_kept}
 
 -- the words of a seed and a stream that a network looks at
 words-counted : (net : Network) → IsNetwork net → AreCountedWords (2 ^ net.limit)
@@ -62,31 +66,22 @@ replies-counted told name bytes net seed stream is read = record {
       ∙ ap (λ (k : Option RewardKind). Some (value_reply net seed stream k)) named;
 }
 
+-- samples of runs have all the laws
+have-laws : {chain : Chain} {run : Functions → ℕ → Option (List ℕ)} {limit : ℕ} → AreLawful chain run limit
+    → HaveLaws chain (λ past. outcome_within (run (function_at chain.functions chain.rates past)) limit) (2 ^ limit) (λ past. run (function_at chain.functions chain.rates past))
+have-laws all = (let laws = all.laws in search rules)
+
 pub samples-counted : SamplesAreCounted
 samples-counted = λ bytes net read.
-    (let kept = read-kept bytes net read in
-    let all = network-lawful net kept in
-    let laws = all.laws in
+    (let kept = accepted_kept bytes net read in
+    let sampled = network-sampled net kept in
     record {
-      samples = record {
-        stationary = laws.stationary;
-        law = laws.law;
-        mean = laws.mean;
-        signed_mean = laws.signed_mean;
-        balance = laws.balance;
-        one = laws.one;
-        falls = laws.falls;
-        mixing = laws.mixing;
-        runs = all.runs;
-        unmet = all.unmet;
-        square = all.square;
-        words = laws.words;
-      };
+      samples = have-laws (network-lawful net kept);
       couplings = (coupling-lawful net kept).law;
       values = values-lawful net kept;
       wheel = wheel-exact (rates_of net) kept.rates;
-      monotone = all.monotone;
-      small = all.small;
+      monotone = sampled.monotone;
+      small = sampled.small;
       words = words-counted net kept;
       printed = λ told name seed stream is. replies-counted told name bytes net seed stream is read;
     })
@@ -140,25 +135,10 @@ closed-reply told name bytes net seed stream total is read = file-reply (reply_o
 
 pub closed-samples-counted : ClosedSamplesAreCounted
 closed-samples-counted = λ bytes net total read none fits.
-    (let kept = read-kept bytes net read in
+    (let kept = accepted_kept bytes net read in
     let moves = moves-of_none net none in
-    let all = kinds-lawful net total kept (moves-some net.events moves.0 moves.1) fits in
-    let laws = all.laws in
     record {
-      samples = record {
-        stationary = laws.stationary;
-        law = laws.law;
-        mean = laws.mean;
-        signed_mean = laws.signed_mean;
-        balance = laws.balance;
-        one = laws.one;
-        falls = laws.falls;
-        mixing = laws.mixing;
-        runs = all.runs;
-        unmet = all.unmet;
-        square = all.square;
-        words = laws.words;
-      };
+      samples = have-laws (kinds-lawful net total kept (moves-some net.events moves.0 moves.1) fits);
       wheel = wheel-exact (rates_of net) kept.rates;
       words = words-counted net kept;
       printed = λ told name seed stream is.

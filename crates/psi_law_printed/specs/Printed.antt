@@ -86,7 +86,7 @@ pub record IsReportCounted (bytes : List ℕ) (net : Network) : Type 0 where
 abbrev pub ReportsAreCounted : Type 0
 ReportsAreCounted = (bytes : List ℕ) (net : Network) → network_of bytes ≡ Ok net → IsReportCounted bytes net
 
--- the same of a closed network whose queues can hold so many customers, 256 at most
+-- as `IsCounted`, of a closed network whose queues can hold so many customers, 256 at most
 pub record IsClosedCounted (bytes : List ℕ) (net : Network) (total : ℕ) : Type 0 where
   pub samples : HaveLaws (network_total_chain net total) (network_total_sample net total) (2 ^ net.limit) (network_total_ending net total)
   pub wheel : IsExact (rates_of net)

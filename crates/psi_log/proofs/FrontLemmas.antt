@@ -11,7 +11,7 @@ use Rattle.psi_log_format.specs.declared.header.Header.{Header}
 use Rattle.psi_log_format.specs.Log.{LogRegion, Entry, greatest_horizon}
 use Rattle.psi_log_words.specs.Refusal.{Refusal, refused, ◌>>=◌, holds_or}
 use Rattle.psi_log_words.specs.Words.{is_feed, cut_at, line_of, words_of, read_version, read_named}
-use Rattle.psi_log_words.specs.declared.refusals.Cause.TheVariants.{TooLong}
+use Rattle.psi_log_words.specs.declared.refusals.LogCause.TheVariants.{TooLong}
 use Rattle.psi_log_words.proofs.WordLemmas.{bind_ok, ok_same}
 use Rattle.psi_log_scan.specs.Lines.{named_line, read_header, read_step}
 use Rattle.psi_log_scan.specs.Scanned.{next_step}

@@ -12,7 +12,7 @@ use Rattle.psi_log_format.specs.Log.{LogRegion, greatest_horizon, IsHeader, IsSt
 use Rattle.psi_log_format.specs.Text.{line_text, numbers_text, number_words, region_words, header_text}
 use Rattle.psi_log_words.specs.Refusal.{Refusal, refused, ◌>>=◌, holds_or}
 use Rattle.psi_log_words.specs.Words.{line_of, has_pieces, read_version}
-use Rattle.psi_log_words.specs.declared.refusals.Cause.TheVariants.{NotLog, Version, Shape}
+use Rattle.psi_log_words.specs.declared.refusals.LogCause.TheVariants.{NotLog, Version, Shape}
 use Rattle.psi_log_words.proofs.WordLemmas.{bind_ok, ok_same, held, same_word, lacks, line_found, line_again}
 use Rattle.psi_log_words.specs.Regions.{Given, form_of, read_state, read_given}
 use Rattle.psi_log_words.proofs.StateLemmas.{state_found, state_again, state_shaped, state_lacks}
@@ -55,12 +55,12 @@ version_feeds v (inl one) = rw (one, decimal_digit 1 (omega arith)) refl
 version_feeds v (inr two) = rw (two, decimal_digit 2 (omega arith)) refl
 
 -- five texts one after another
+flat : (a b c d e v : List ℕ) → a ++ b ++ c ++ d ++ e ++ v ≡ a ++ (b ++ (c ++ (d ++ (e ++ v))))
+flat a b c d e v = simp append_assoc
+
 five : (text a b c d e r s t u v : List ℕ) → text ≡ a ++ r → r ≡ b ++ s → s ≡ c ++ t → t ≡ d ++ u → u ≡ e ++ v → text ≡ a ++ b ++ c ++ d ++ e ++ v
 five text a b c d e r s t u v f g h i j =
     f ∙ ap (λ (x : List ℕ). a ++ x) (g ∙ ap (λ (x : List ℕ). b ++ x) (h ∙ ap (λ (x : List ℕ). c ++ x) (i ∙ ap (λ (x : List ℕ). d ++ x) j))) ∙ sym (flat a b c d e v)
-  where
-    flat : (a b c d e v : List ℕ) → a ++ b ++ c ++ d ++ e ++ v ≡ a ++ (b ++ (c ++ (d ++ (e ++ v))))
-    flat a b c d e v = simp append_assoc
 
 pub header_found : (text : List ℕ) (x : Header × List ℕ) → read_header text ≡ Ok x → (text ≡ header_text x.0 ++ x.1) × IsHeader x.0
 unfolding read_header header_text
@@ -107,7 +107,7 @@ header_again h rest is =
     let s = line_text (number_words (codes "seed") h.seed) in
     let version = version_again h.version is.version in
     let feeds = version_feeds h.version is.version in
-    let flat = flat_of (line_text (number_words (codes "psi-log") h.version)) (line_text (number_words (codes "queues") h.queues)) (line_text (number_words (codes "seed") h.seed))
+    let whole = flat (line_text (number_words (codes "psi-log") h.version)) (line_text (number_words (codes "queues") h.queues)) (line_text (number_words (codes "seed") h.seed))
     (line_text (number_words (codes "stream") h.stream)) (line_text (number_words (codes "horizon") h.horizon)) rest in
     let start = version_line h.version (line_text (number_words (codes "queues") h.queues) ++ (line_text (number_words (codes "seed") h.seed)
     ++ (line_text (number_words (codes "stream") h.stream) ++ (line_text (number_words (codes "horizon") h.horizon) ++ rest)))) in
@@ -120,10 +120,7 @@ header_again h rest is =
     let c = named_line_again 4 (codes "stream") 0 (2 ^ 64 - 1) h.stream (line_text (number_words (codes "horizon") h.horizon) ++ rest)
     (omega arith) (omega arith) (let stream = is.stream in omega arith) refl refl in
     let d = named_line_again 5 (codes "horizon") 1 (greatest_horizon h.version) h.horizon rest (omega arith) is.least is.most refl refl in
-    rw (flat, start, cut, version, a, b, c, d) refl
-  where
-    flat_of : (a b c d e v : List ℕ) → a ++ b ++ c ++ d ++ e ++ v ≡ a ++ (b ++ (c ++ (d ++ (e ++ v))))
-    flat_of a b c d e v = simp append_assoc
+    rw (whole, start, cut, version, a, b, c, d) refl
 
 -- the region at which the run begins
 pub begin_found : (queues : ℕ) (words : List (List ℕ)) (r : LogRegion) → 1 ≤ queues → queues ≤ 32 → read_begin queues words ≡ Ok r
@@ -135,10 +132,8 @@ begin_found queues (first ∷ words) r some few h =
     let form = bind_ok (form_of 6 queues None words) (λ (g : Given). read_given 6 queues g) r rule.2 in
     let name = same_word first (codes "begin") (held (refused 6 Shape) (bytes_eq first (codes "begin")) rule.0 rule.1) in
     let found = region_found 6 queues None words form.0 r some few tt form.1 form.2 in
-    (two name found.0, found.1)
-  where
-    two : {a b : List ℕ} {xs ys : List (List ℕ)} → a ≡ b → xs ≡ ys → a ∷ xs ≡ b ∷ ys
-    two p q = cc
+    let same = found.0 in
+    (cc, found.1)
 
 pub begin_again : (queues : ℕ) (r : LogRegion) → 1 ≤ queues → queues ≤ 32 → IsRegion queues r → read_begin queues (codes "begin" ∷ region_words r) ≡ Ok r
 unfolding read_begin
@@ -159,10 +154,9 @@ end_found n queues (first ∷ state ∷ []) x h =
     let parts = and_parts (bytes_eq first (codes "end")) (has_pieces queues state)
     (held (refused n Shape) (bytes_eq first (codes "end") && has_pieces queues state) rule.0 rule.1) in
     let found = state_found n queues state x parts.1 rule.2 in
-    (two (same_word first (codes "end") parts.0) found.0, found.1)
-  where
-    two : {a b c d : List ℕ} → a ≡ c → b ≡ d → a ∷ b ∷ [] ≡ c ∷ d ∷ []
-    two p q = cc
+    let name = same_word first (codes "end") parts.0 in
+    let same = found.0 in
+    (cc, found.1)
 end_found n queues (first ∷ state ∷ more ∷ words) x h = absurd cc
 
 pub end_again : (n queues : ℕ) (x : List ℕ) → 1 ≤ queues → IsState queues x → read_end n queues (codes "end" ∷ numbers_text x ∷ []) ≡ Ok x

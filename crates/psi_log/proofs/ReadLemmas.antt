@@ -10,7 +10,7 @@ use Rattle.psi_log_words.specs.Refusal.{refused, ◌>>=◌, holds_or, Gives}
 use Rattle.psi_log_words.specs.declared.refusals.LogError.{LogError}
 use Rattle.psi_log_words.specs.declared.refusals.LogError.TheVariants.{Refused, OutOfMemory}
 use Rattle.psi_log_words.specs.Words.{line_of, words_of}
-use Rattle.psi_log_words.specs.declared.refusals.Cause.TheVariants.{TrailingText, TooLong}
+use Rattle.psi_log_words.specs.declared.refusals.LogCause.TheVariants.{TrailingText, TooLong}
 use Rattle.psi_log_words.proofs.WordLemmas.{bind_ok, ok_same, held}
 use Rattle.psi_log_words.specs.Regions.{box_before}
 use Rattle.psi_log_scan.specs.Lines.{read_header}

@@ -6,15 +6,15 @@ use Rattle.psi_log_format.specs.declared.header.Header.{Header}
 use Rattle.psi_log_format.specs.Log.{LogRegion, Entry, IsHeader, IsRegion, IsState}
 use Rattle.psi_log_words.specs.Refusal.{refused, ◌>>=◌, holds_or}
 use Rattle.psi_log_words.specs.Words.{line_of, words_of}
-use Rattle.psi_log_words.specs.declared.refusals.Cause.TheVariants.{TrailingText, TooLong}
+use Rattle.psi_log_words.specs.declared.refusals.LogCause.TheVariants.{TrailingText, TooLong}
 use Rattle.psi_log_words.proofs.WordLemmas.{bind_ok, ok_same}
 use Rattle.psi_log_scan.specs.Lines.{read_header, read_step}
 use Rattle.psi_log_words.specs.Regions.{box_before}
 use Rattle.psi_log.specs.Reading.{read_begin, read_end}
 use Rattle.psi_log_scan.specs.Scanned.{next_step}
 use Rattle.psi_log.specs.Cursor.{Cursor, begin_line, begun, ended, IsCursor}
-use Rattle.psi_log.specs.SlotsViews.{region_in, either, HasQueues, IsFilled}
-use Rattle.psi_log.specs.ReaderViews.{cursor_of, IsKept}
+use Rattle.psi_log.specs.Inner.SlotsViews.{region_in, either, HasQueues, IsFilled}
+use Rattle.psi_log.specs.Inner.ReaderViews.{cursor_of, IsKept}
 use Rattle.psi_log.specs.declared.slot.RegionSlot.{RegionSlot}
 use Rattle.psi_log.proofs.HeaderLemmas.{header_found, begin_found, end_found}
 use Rattle.psi_log_scan.proofs.LineLemmas.{step_found}

@@ -9,7 +9,7 @@ use Rattle.psi_log_format.specs.Log.{LogRegion, in_box, in_set}
 use Rattle.psi_log_format.specs.Listed.{region_of}
 use Rattle.psi_log_scan.specs.LinesViews.{IsLast}
 use Rattle.psi_log_scan.specs.Scanned.{Stands, TellsSet, AreChanged}
-use Rattle.psi_log.specs.SlotsViews.{region_in, IsFilled, IsChangedBox, GoesOn}
+use Rattle.psi_log.specs.Inner.SlotsViews.{region_in, IsFilled, IsChangedBox, GoesOn}
 use Rattle.psi_log_scan.specs.declared.set_line.LastSet.{LastSet}
 use Rattle.psi_log.specs.declared.slot.RegionSlot.{RegionSlot}
 use Rattle.psi_log_format.specs.declared.listed_region.ListedRegion.{ListedRegion}

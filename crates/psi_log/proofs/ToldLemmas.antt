@@ -8,7 +8,7 @@ use Rattle.psi_state.specs.declared.outcome.Step.{Step}
 use Rattle.psi_log_format.specs.declared.header.Header.{Header}
 use Rattle.psi_state.specs.Members.{In}
 use Rattle.psi_log_format.specs.Log.{LogRegion, in_box, in_set, Entry, Certificate, IsRegion, IsLog}
-use Rattle.psi_log.specs.LogViews.{entries_of, certificate_of, IsWhole}
+use Rattle.psi_log.specs.Inner.LogViews.{entries_of, certificate_of, IsWhole}
 use Rattle.psi_log.specs.Told.{region_at, form, step_at, HasState}
 use Rattle.psi_log.specs.declared.log.Form.{Form}
 use Rattle.psi_log.specs.declared.log.Form.TheVariants as told
@@ -19,19 +19,14 @@ entries_length [] regions same = refl
 entries_length (s ∷ steps) [] same = absurd cc
 entries_length (s ∷ steps) (r ∷ regions) same = ap suc (entries_length steps regions (omega arith))
 
-entry_region : (steps : List Step) (regions : List LogRegion) (i : ℕ) → length regions ≡ length steps → option_map (λ (e : Entry). e.region) (slice_get (entries_of steps regions) i) ≡ slice_get regions i
-entry_region [] [] i same = refl
-entry_region [] (r ∷ regions) i same = absurd cc
-entry_region (s ∷ steps) [] i same = absurd cc
-entry_region (s ∷ steps) (r ∷ regions) zero same = refl
-entry_region (s ∷ steps) (r ∷ regions) (suc i) same = entry_region steps regions i (omega arith)
-
-entry_step : (steps : List Step) (regions : List LogRegion) (i : ℕ) → length regions ≡ length steps → option_map (λ (e : Entry). e.step) (slice_get (entries_of steps regions) i) ≡ slice_get steps i
-entry_step [] [] i same = refl
-entry_step [] (r ∷ regions) i same = absurd cc
-entry_step (s ∷ steps) [] i same = absurd cc
-entry_step (s ∷ steps) (r ∷ regions) zero same = refl
-entry_step (s ∷ steps) (r ∷ regions) (suc i) same = entry_step steps regions i (omega arith)
+entry_parts : (steps : List Step) (regions : List LogRegion) (i : ℕ) → length regions ≡ length steps
+    → (option_map (λ (e : Entry). e.region) (slice_get (entries_of steps regions) i) ≡ slice_get regions i)
+    × (option_map (λ (e : Entry). e.step) (slice_get (entries_of steps regions) i) ≡ slice_get steps i)
+entry_parts [] [] i same = (refl, refl)
+entry_parts [] (r ∷ regions) i same = absurd cc
+entry_parts (s ∷ steps) [] i same = absurd cc
+entry_parts (s ∷ steps) (r ∷ regions) zero same = (refl, refl)
+entry_parts (s ∷ steps) (r ∷ regions) (suc i) same = entry_parts steps regions i (omega arith)
 
 -- a step and a region more are an entry more
 pub entries_more : (steps : List Step) (regions : List LogRegion) (s : Step) (r : LogRegion) → length regions ≡ length steps
@@ -66,14 +61,14 @@ pub region_told : (header : Header) (regions : List LogRegion) (steps : List Ste
     → region_at (certificate_of header regions steps final) i ≡ Some r
 region_told header regions steps final zero r is there = ap (λ (b : LogRegion). Some b) (get_or_from_slice_get regions 0 r (in_set []) there)
 region_told header regions steps final (suc i) r is there =
-    entry_region steps (drop 1 regions) i (behind_first regions steps is.count) ∙ drop_first regions i ∙ there
+    (entry_parts steps (drop 1 regions) i (behind_first regions steps is.count)).0 ∙ drop_first regions i ∙ there
 
 pub step_told : (header : Header) (regions : List LogRegion) (steps : List Step) (final : List ℕ) (i : ℕ) (s : Step) → IsWhole header regions steps final → 1 ≤ i → i - 1 < length steps
     → s ≡ get_or steps (i - 1) s → step_at (certificate_of header regions steps final) i ≡ Some s
 step_told header regions steps final zero s is some small there = absurd (omega arith)
 step_told header regions steps final (suc i) s is some small there =
     let here : suc i - 1 ≡ i = omega arith in
-    entry_step steps (drop 1 regions) i (behind_first regions steps is.count)
+    (entry_parts steps (drop 1 regions) i (behind_first regions steps is.count)).1
     ∙ slice_get-get_or steps i s (omega arith) ∙ ap (λ (t : Step). Some t) (ap (λ (k : ℕ). get_or steps k s) (sym here) ∙ sym there)
 
 pub In-slice_get : {X : Type 0} (xs : List X) (k : ℕ) (x : X) → slice_get xs k ≡ Some x → In x xs

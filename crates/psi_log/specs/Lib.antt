@@ -1,7 +1,5 @@
 -- The definitions of this crate.
 pub mod Reading
-pub mod LogViews
+pub mod Inner
 pub mod Told
 pub mod Cursor
-pub mod SlotsViews
-pub mod ReaderViews

@@ -7,7 +7,7 @@ use Rattle.psi_log_format.specs.Log.{LogRegion, Entry, Certificate}
 use Rattle.psi_log_words.specs.Refusal.{Refusal, refused, ◌>>=◌, holds_or}
 use Rattle.psi_log_words.specs.Words.{line_of, words_of, has_pieces}
 use Rattle.psi_log_scan.specs.Lines.{read_header, read_step}
-use Rattle.psi_log_words.specs.declared.refusals.Cause.TheVariants.{Shape, TrailingText, TooLong}
+use Rattle.psi_log_words.specs.declared.refusals.LogCause.TheVariants.{Shape, TrailingText, TooLong}
 use Rattle.psi_log_words.specs.Regions.{form_of, read_state, box_before, read_given}
 
 -- the words of the region at which the run begins

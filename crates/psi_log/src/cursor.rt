@@ -23,7 +23,7 @@ pub struct LogCursor {
 
 impl Model for LogCursor {
     ghost use Rattle.psi_log.specs.Cursor.{Cursor};
-    ghost use Rattle.psi_log.specs.ReaderViews.{textless_of, IsTextless};
+    ghost use Rattle.psi_log.specs.Inner.ReaderViews.{textless_of, IsTextless};
 
     ghost Value = { Cursor };
 

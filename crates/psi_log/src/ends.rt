@@ -6,7 +6,7 @@ ghost use Rattle.psi_log_format.specs.Listed.{region_of, IsThere};
 ghost use Rattle.psi_log.specs.Reading.{read_begin, read_end};
 
 use psi_log_format::{ListedRegion, StateList};
-use psi_log_words::{Cause, LogError, form_of, has_pieces, read_given, read_state};
+use psi_log_words::{LogCause, LogError, form_of, has_pieces, read_given, read_state};
 use psi_state::State;
 
 /// The region at which the run begins, of the words of its line; the states of a set are put after those of the list.
@@ -29,10 +29,10 @@ pub(crate) fn read_begin(
     ensures there { IfOk result (λ kept. IsThere queues states.new.states kept) }
 {
     let [first, region @ ..] = words else {
-        return Err(Cause::Shape.at(6));
+        return Err(LogCause::Shape.at(6));
     };
     if *first != b"begin".as_slice() {
-        return Err(Cause::Shape.at(6));
+        return Err(LogCause::Shape.at(6));
     }
     match form_of(6, queues, None, region) {
         Ok(form) => read_given(6, queues, form, states),
@@ -56,9 +56,9 @@ pub(crate) fn read_end(line: u32, queues: u8, words: &[&[u8]]) -> Result<State, 
             if *first == b"end".as_slice() && has_pieces(queues as usize, state) {
                 read_state(line, queues, state)
             } else {
-                Err(Cause::Shape.at(line))
+                Err(LogCause::Shape.at(line))
             }
         }
-        _ => Err(Cause::Shape.at(line)),
+        _ => Err(LogCause::Shape.at(line)),
     }
 }

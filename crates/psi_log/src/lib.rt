@@ -12,5 +12,5 @@ mod steps;
 pub use cursor::LogCursor;
 pub use log::{Form, Log, read_log};
 pub use psi_log_format::{BorrowedRegion, Header, LineBuf, Rows};
-pub use psi_log_words::{Cause, LogError};
+pub use psi_log_words::{LogCause, LogError};
 pub use reader::LogReader;

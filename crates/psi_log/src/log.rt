@@ -10,7 +10,7 @@ ghost use Rattle.psi_log_words.specs.declared.refusals.LogError.TheVariants.{Out
 ghost use Rattle.psi_log_format.specs.Listed.{shown};
 ghost use Rattle.psi_log.specs.Reading.{read, read_steps};
 ghost use Rattle.psi_log.specs.Cursor.{IsCursor};
-ghost use Rattle.psi_log.specs.LogViews.{entries_of, certificate_of};
+ghost use Rattle.psi_log.specs.Inner.LogViews.{entries_of, certificate_of};
 ghost use Rattle.psi_log.specs.Told.{region_at, form, step_at, HasState, state_in};
 
 use crate::reader::LogReader;
@@ -47,7 +47,7 @@ pub struct Log {
 
 impl Model for Log {
     ghost use Rattle.psi_log_format.specs.Log.{Certificate};
-    ghost use Rattle.psi_log.specs.LogViews.{certificate_of, IsWhole};
+    ghost use Rattle.psi_log.specs.Inner.LogViews.{certificate_of, IsWhole};
 
     ghost Value = { Certificate };
 
@@ -168,7 +168,7 @@ fn read_lines(
 ///
 /// # Errors
 ///
-/// The first line that isn't as the grammar has it, with its first cause, as [`crate::Cause`] has them;
+/// The first line that isn't as the grammar has it, with its first cause, as [`crate::LogCause`] has them;
 /// `OutOfMemory`, and no clause says when that is.
 pub fn read_log(alloc: Global, bytes: &[u8]) -> Result<Log, LogError>
     ensures value { Gives (λ log. log) result (read bytes.now) }

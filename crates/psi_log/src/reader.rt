@@ -2,7 +2,7 @@
 
 ghost use Rattle.std.specs.Prelude.{◌≡◌, ◌+◌, ◌<◌, ◌≤◌, length, Ok, IfOk, IfErr, OnOk, OnErr, IsTrue};
 ghost use Rattle.psi_log_words.specs.Refusal.{Gives, IsLogError};
-ghost use Rattle.psi_log.specs.SlotsViews.{region_in, IsFilled};
+ghost use Rattle.psi_log.specs.Inner.SlotsViews.{region_in, IsFilled};
 ghost use Rattle.psi_log_format.specs.Listed.{shown, HasWidth};
 ghost use Rattle.psi_log.specs.Cursor.{begin_line, begun, next_of, ended, IsCursor};
 
@@ -10,7 +10,7 @@ use crate::ends::{read_begin, read_end};
 use crate::slot::{RegionSlot, read_onto};
 use psi_log_format::{BorrowedRegion, Header, ListedRegion, MOST_LOG_BYTES, StateList};
 use psi_log_scan::read_header;
-use psi_log_words::{Cause, LogError, read_words};
+use psi_log_words::{LogCause, LogError, read_words};
 use psi_state::{State, Step};
 use std::alloc::Global;
 use std::marker::Model;
@@ -31,7 +31,7 @@ pub struct LogReader<'t> {
 
 impl<'t> Model for LogReader<'t> {
     ghost use Rattle.psi_log.specs.Cursor.{Cursor};
-    ghost use Rattle.psi_log.specs.ReaderViews.{cursor_of, IsKept};
+    ghost use Rattle.psi_log.specs.Inner.ReaderViews.{cursor_of, IsKept};
 
     ghost Value = { Cursor };
 
@@ -74,7 +74,7 @@ fn begin_of<'t>(
     ensures few { IfOk result (λ read. read.0.queues ≤ 32) }
 {
     if text.len() > MOST_LOG_BYTES as usize {
-        return Err(Cause::TooLong.at(0));
+        return Err(LogCause::TooLong.at(0));
     }
     let (header, rest) = read_header(text, words)?;
     match begin_line(alloc, header.queues, rest, words) {
@@ -102,7 +102,7 @@ fn end_of<'t>(header: &Header, text: &'t [u8], words: &mut Vec<&'t [u8]>) -> Res
     let rest = read_words(line, text, words)?;
     let end = read_end(line, header.queues, words)?;
     if !rest.is_empty() {
-        return Err(Cause::TrailingText.at(line + 1));
+        return Err(LogCause::TrailingText.at(line + 1));
     }
     Ok(end)
 }

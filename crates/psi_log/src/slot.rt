@@ -7,7 +7,7 @@ ghost use Rattle.psi_log_words.specs.Refusal.{IsLogError};
 ghost use Rattle.psi_log_words.specs.Regions.{box_before};
 ghost use Rattle.psi_log_scan.specs.Scanned.{next_step};
 ghost use Rattle.psi_log_format.specs.Listed.{shown, HasWidth};
-ghost use Rattle.psi_log.specs.SlotsViews.{region_in, either, HasQueues, IsFilled, IsChangedBox, GoesOn};
+ghost use Rattle.psi_log.specs.Inner.SlotsViews.{region_in, either, HasQueues, IsFilled, IsChangedBox, GoesOn};
 
 use crate::steps::read_by_words;
 use psi_log_format::{BorrowedRegion, Header, ListedRegion, StateList};

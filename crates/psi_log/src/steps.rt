@@ -4,11 +4,11 @@ ghost use Rattle.std.specs.Prelude.{◌≡◌, ◌≤◌, length, map, Ok, IfOk,
 ghost use Rattle.psi_log_words.specs.Refusal.{IsLogError};
 ghost use Rattle.psi_log_scan.specs.Lines.{read_step};
 ghost use Rattle.psi_log_scan.specs.Scanned.{next_step};
-ghost use Rattle.psi_log.specs.SlotsViews.{entry_of, HasRegion};
+ghost use Rattle.psi_log.specs.Inner.SlotsViews.{entry_of, HasRegion};
 
 use psi_log_format::{Header, ListedRegion, StateList};
 use psi_log_scan::greatest_horizon;
-use psi_log_words::{Cause, LogError, form_of, number_in, read_given, read_words};
+use psi_log_words::{LogCause, LogError, form_of, number_in, read_given, read_words};
 use psi_state::{Bounds, MOST_EVENTS, Step};
 
 /// A step and the region after it.
@@ -39,10 +39,10 @@ fn read_step(
     ensures there { IfOk result (λ read. HasRegion header.now.queues states.new.states read) }
 {
     let [first, number, event, region @ ..] = words else {
-        return Err(Cause::Shape.at(line));
+        return Err(LogCause::Shape.at(line));
     };
     if *first != b"step".as_slice() {
-        return Err(Cause::Shape.at(line));
+        return Err(LogCause::Shape.at(line));
     }
     let form = match form_of(line, header.queues, before, region) {
         Ok(form) => form,

@@ -7,8 +7,8 @@ use Rattle.std.proofs.lemmas.List.Elements.{All-head, All-tail, All-get_or}
 use Rattle.std.proofs.lemmas.Option.{slice_get-get_or, get_or_from_slice_get, slice_get_within, slice_get-map}
 use Rattle.psi_state.specs.State.{Corners}
 use Rattle.psi_log_format.specs.Log.{LogRegion, in_box, in_set}
-use Rattle.psi_log_format.specs.declared.region_list.Place.{Place}
-use Rattle.psi_log_format.specs.declared.region_list.Place.TheVariants as place
+use Rattle.psi_log_format.specs.declared.region_list.RegionPlace.{RegionPlace}
+use Rattle.psi_log_format.specs.declared.region_list.RegionPlace.TheVariants as place
 use Rattle.psi_log_format.specs.Listed.{nothing, placed_region, IsPlaced}
 
 -- the box at a place, where it is the last one, and where it is put after the others
@@ -49,12 +49,12 @@ front_of old new first count kept there =
     ∙ ap (take count) (sym (drop-take first (length old - first) new) ∙ ap (λ (k : ℕ). drop first (take k new)) size ∙ ap (drop first) kept)
 
 module _ (boxes more : List Corners) (old new : List (List ℕ)) (front : take (length boxes) more ≡ boxes) (kept : take (length old) new ≡ old) where
-  region_kept : (p : Place) → IsPlaced boxes old p → placed_region more new p ≡ placed_region boxes old p
+  region_kept : (p : RegionPlace) → IsPlaced boxes old p → placed_region more new p ≡ placed_region boxes old p
   region_kept (place.Box i) there =
       ap (λ (c : Corners). in_box c) (sym (get_or-take (length boxes) more i nothing there) ∙ ap (λ (bs : List Corners). get_or bs i nothing) front)
   region_kept (place.Set first count) there = ap (λ (xs : List (List ℕ)). in_set xs) (front_of old new first count kept there)
 
-  pub regions_kept : (ps : List Place) → All (IsPlaced boxes old) ps → map (placed_region more new) ps ≡ map (placed_region boxes old) ps
+  pub regions_kept : (ps : List RegionPlace) → All (IsPlaced boxes old) ps → map (placed_region more new) ps ≡ map (placed_region boxes old) ps
   regions_kept [] all = refl
   regions_kept (p ∷ ps) all =
       both (region_kept p (All-head (IsPlaced boxes old) p ps all)) (regions_kept ps (All-tail (IsPlaced boxes old) p ps all))
@@ -63,20 +63,20 @@ module _ (boxes more : List Corners) (old new : List (List ℕ)) (front : take (
       both e f = cc
 
   -- and a region with them
-  pub regions_more : (ps qs : List Place) (p : Place) (r : LogRegion) → All (IsPlaced boxes old) ps → qs ≡ ps ++ p ∷ [] → placed_region more new p ≡ r
+  pub regions_more : (ps qs : List RegionPlace) (p : RegionPlace) (r : LogRegion) → All (IsPlaced boxes old) ps → qs ≡ ps ++ p ∷ [] → placed_region more new p ≡ r
       → map (placed_region more new) qs ≡ map (placed_region boxes old) ps ++ r ∷ []
   regions_more ps qs p r all is same =
       ap (map (placed_region more new)) is ∙ map-append (placed_region more new) ps (p ∷ []) ∙ ap (λ (rs : List LogRegion). rs ++ placed_region more new p ∷ []) (regions_kept ps all)
       ∙ ap (λ (q : LogRegion). map (placed_region boxes old) ps ++ q ∷ []) same
 
 -- the region at a place
-pub is_there : (boxes : List Corners) (states : List (List ℕ)) (ps : List Place) (i : ℕ) (p : Place) → All (IsPlaced boxes states) ps → i < length ps → p ≡ get_or ps i p → IsPlaced boxes states p
+pub is_there : (boxes : List Corners) (states : List (List ℕ)) (ps : List RegionPlace) (i : ℕ) (p : RegionPlace) → All (IsPlaced boxes states) ps → i < length ps → p ≡ get_or ps i p → IsPlaced boxes states p
 is_there boxes states ps i p all small is =
-    subst (λ (q : Place). IsPlaced boxes states q) (sym is) (All-get_or (IsPlaced boxes states) ps i p small all)
+    subst (λ (q : RegionPlace). IsPlaced boxes states q) (sym is) (All-get_or (IsPlaced boxes states) ps i p small all)
 
-pub region_there : (boxes : List Corners) (states : List (List ℕ)) (ps : List Place) (i : ℕ) (p : Place) (r : LogRegion) → i < length ps → p ≡ get_or ps i p → placed_region boxes states p ≡ r
+pub region_there : (boxes : List Corners) (states : List (List ℕ)) (ps : List RegionPlace) (i : ℕ) (p : RegionPlace) (r : LogRegion) → i < length ps → p ≡ get_or ps i p → placed_region boxes states p ≡ r
     → slice_get (map (placed_region boxes states) ps) i ≡ Some r
 region_there boxes states ps i p r small is same =
     slice_get-map (placed_region boxes states) ps i
-    ∙ ap (option_map (placed_region boxes states)) (slice_get-get_or ps i p small ∙ ap (λ (q : Place). Some q) (sym is))
+    ∙ ap (option_map (placed_region boxes states)) (slice_get-get_or ps i p small ∙ ap (λ (q : RegionPlace). Some q) (sym is))
     ∙ ap (λ (q : LogRegion). Some q) same

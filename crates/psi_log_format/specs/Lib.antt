@@ -2,6 +2,6 @@
 pub mod Log
 pub mod Text
 pub mod Room
-pub mod TableKept
+pub mod Inner
 pub mod Rows
 pub mod Listed

@@ -6,8 +6,8 @@ use Rattle.psi_log_format.specs.declared.listed_region.ListedRegion.{ListedRegio
 use Rattle.psi_log_format.specs.declared.listed_region.ListedRegion.TheVariants.{Box, Set}
 use Rattle.psi_log_format.specs.declared.listed_region.BorrowedRegion.{BorrowedRegion as Borrowed}
 use Rattle.psi_log_format.specs.declared.listed_region.BorrowedRegion.TheVariants as borrowed
-use Rattle.psi_log_format.specs.declared.region_list.Place.{Place}
-use Rattle.psi_log_format.specs.declared.region_list.Place.TheVariants as place
+use Rattle.psi_log_format.specs.declared.region_list.RegionPlace.{RegionPlace}
+use Rattle.psi_log_format.specs.declared.region_list.RegionPlace.TheVariants as place
 
 -- a region that is kept
 abbrev pub region_of : List (List ℕ) → ListedRegion → LogRegion
@@ -39,11 +39,11 @@ abbrev pub nothing : Corners
 nothing = record { lo = []; hi = [] }
 
 -- the region of a place in lists of boxes and of states
-abbrev pub placed_region : List Corners → List (List ℕ) → Place → LogRegion
+abbrev pub placed_region : List Corners → List (List ℕ) → RegionPlace → LogRegion
 placed_region boxes states (place.Box i) = in_box (slice_index_or boxes i nothing)
 placed_region boxes states (place.Set first count) = in_set (take count (drop first states))
 
 -- the box or the states of a place are in the lists
-abbrev pub IsPlaced : List Corners → List (List ℕ) → Place → Type 0
+abbrev pub IsPlaced : List Corners → List (List ℕ) → RegionPlace → Type 0
 IsPlaced boxes states (place.Box i) = i < length boxes
 IsPlaced boxes states (place.Set first count) = first + count ≤ length states

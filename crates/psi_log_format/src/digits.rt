@@ -2,7 +2,7 @@
 
 ghost use Rattle.std.specs.Prelude.{◌≡◌, ◌∷◌, ◌+◌, ◌<◌, ◌≤◌, length, decimal, IfOk};
 ghost use Rattle.psi_log_format.specs.Room.{Puts};
-ghost use Rattle.psi_log_format.specs.TableKept.{IsDigits, AreDigits};
+ghost use Rattle.psi_log_format.specs.Inner.TableKept.{IsDigits, AreDigits};
 
 use crate::put::put;
 use itoa::{Buffer, write_digits};

@@ -31,7 +31,7 @@ pub struct LineBuf {
 
 impl Model for LineBuf {
     ghost use Rattle.std.specs.Prelude.{ℕ, ◌≤◌, List, take, vec_len, vec_capacity};
-    ghost use Rattle.psi_log_format.specs.TableKept.{AreDigits};
+    ghost use Rattle.psi_log_format.specs.Inner.TableKept.{AreDigits};
 
     ghost Value = { List ℕ };
 

@@ -4,7 +4,7 @@ ghost use Rattle.std.specs.Prelude.{◌≡◌, ◌+◌, ◌*◌, ◌≤◌, leng
 ghost use Rattle.psi_log_format.specs.Log.{in_box, in_set};
 ghost use Rattle.psi_log_format.specs.Text.{region_words, move_words, header_text, begin_text, step_text, end_text};
 ghost use Rattle.psi_log_format.specs.Room.{Puts};
-ghost use Rattle.psi_log_format.specs.TableKept.{AreDigits};
+ghost use Rattle.psi_log_format.specs.Inner.TableKept.{AreDigits};
 
 use crate::digits::Digits;
 use crate::header::Header;

@@ -3,7 +3,7 @@
 ghost use Rattle.std.specs.Prelude.{◌≡◌, ◌∷◌, [], ◌++◌, ◌+◌, ◌≤◌, length, decimal, codes};
 ghost use Rattle.psi_log_format.specs.Text.{numbers_text, line_text, number_words};
 ghost use Rattle.psi_log_format.specs.Room.{Puts, spaced_words};
-ghost use Rattle.psi_log_format.specs.TableKept.{AreDigits};
+ghost use Rattle.psi_log_format.specs.Inner.TableKept.{AreDigits};
 
 use crate::digits::{Digits, put_first, put_next, put_number};
 use crate::put::put;

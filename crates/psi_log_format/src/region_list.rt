@@ -13,7 +13,7 @@ use std::marker::Model;
 
 // A region by its place: a box in a list of boxes, or `count` states of a list, from the place `first` on.
 #[derive(Clone, Copy, Debug)]
-enum Place {
+enum RegionPlace {
     Box { place: usize },
     Set { first: usize, count: usize },
 }
@@ -23,7 +23,7 @@ enum Place {
 /// or two for each number of its states; of each the list has room for up to an eighth more.
 #[derive(Drop)]
 pub struct RegionList {
-    places: Vec<Place>,
+    places: Vec<RegionPlace>,
     boxes: Vec<Bounds>,
     states: StateList,
 }
@@ -61,7 +61,7 @@ fn place_of(
     boxes: &mut Vec<Bounds>,
     states: &mut StateList,
     region: &BorrowedRegion<'_>,
-) -> Result<Place, AllocError>
+) -> Result<RegionPlace, AllocError>
     requires { HasWidth states.old.queues region.now }
     ensures queues { states.new.queues ≡ states.old.queues }
     ensures boxes { take (length boxes.old.items) boxes.new.items ≡ boxes.old.items }
@@ -72,12 +72,12 @@ fn place_of(
     match region {
         BorrowedRegion::Box(bounds) => {
             let place = box_place(boxes, bounds)?;
-            Ok(Place::Box { place })
+            Ok(RegionPlace::Box { place })
         }
         BorrowedRegion::Set(rows) => {
             let first = states.len();
             states.push_states(rows)?;
-            Ok(Place::Set {
+            Ok(RegionPlace::Set {
                 first,
                 count: rows.len(),
             })
@@ -123,8 +123,8 @@ impl RegionList {
         ensures { slice_get self.entry.now.regions i ≡ Some (shown result) }
     {
         match self.places[i] {
-            Place::Box { place } => BorrowedRegion::Box(&self.boxes[place]),
-            Place::Set { first, count } => {
+            RegionPlace::Box { place } => BorrowedRegion::Box(&self.boxes[place]),
+            RegionPlace::Set { first, count } => {
                 BorrowedRegion::Set(self.states.all().part(first, count))
             }
         }

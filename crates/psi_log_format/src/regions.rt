@@ -4,7 +4,7 @@ ghost use Rattle.std.specs.Prelude.{◌≡◌, ◌∷◌, [], ◌+◌, ◌*◌, 
 ghost use Rattle.psi_log_format.specs.Log.{in_box, in_set};
 ghost use Rattle.psi_log_format.specs.Text.{region_words, differs, change_to, change_text, move_words};
 ghost use Rattle.psi_log_format.specs.Room.{Puts, spaced_words, picked};
-ghost use Rattle.psi_log_format.specs.TableKept.{AreDigits};
+ghost use Rattle.psi_log_format.specs.Inner.TableKept.{AreDigits};
 
 use crate::digits::{Digits, put_first, put_next};
 use crate::pieces::put_state;

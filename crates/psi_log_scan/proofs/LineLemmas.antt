@@ -1,22 +1,25 @@
 -- Lines: each is told by its text, and its text is read as it.
-use Rattle.std.specs.Prelude.{◌≡◌, ℕ, ◌<◌, ◌≤◌, ◌^◌, List, [], ◌∷◌, ◌++◌, codes, true, ◌==◌, Ok, refl}
+use Rattle.std.specs.Prelude.{◌≡◌, ℕ, ◌<◌, ◌≤◌, ◌^◌, List, [], ◌∷◌, ◌++◌, codes, true, ◌==◌, Option, Ok, refl}
 use Rattle.std.specs.List.{join_with_byte, list_all}
 use Rattle.std.specs.Fmt.{decimal}
 use Rattle.std.specs.Str.{bytes_eq}
 use Rattle.std.proofs.Common.{ap, sym, ◌∙◌, subst, arith, inl, inr, append_assoc}
 use Rattle.std.proofs.lemmas.Bool.{and_from, cases_Bool}
+use Rattle.psi_state.specs.State.{Corners}
+use Rattle.psi_state.specs.declared.outcome.Step.{Step}
 use Rattle.psi_log_format.specs.declared.header.Header.{Header}
 use Rattle.psi_log_format.specs.Log.{LogRegion, in_box, in_set, Entry, greatest_horizon, IsHeader, IsRegion, IsEntry}
-use Rattle.psi_log_format.specs.Text.{line_text, number_words, next_words}
+use Rattle.psi_log_format.specs.Text.{line_text, number_words, next_words, step_text}
 use Rattle.psi_log_words.specs.Refusal.{refused, ◌>>=◌, holds_or}
 use Rattle.psi_log_words.specs.Words.{line_of, words_of, number_in, read_named}
-use Rattle.psi_log_words.specs.declared.refusals.Cause.TheVariants.{Shape}
+use Rattle.psi_log_words.specs.declared.refusals.LogCause.TheVariants.{Shape}
 use Rattle.psi_log_words.proofs.WordLemmas.{bind_ok, ok_same, held, same_word, own_word, lacks, split-join, join-split, lacks-join, line_found, line_again}
 use Rattle.psi_log_words.proofs.NumberLemmas.{number_found, number_again, decimal_lacks}
 use Rattle.psi_log_words.specs.Regions.{Given, form_of, read_given, box_before}
 use Rattle.psi_log_words.proofs.RegionLemmas.{words_after, IsBefore}
 use Rattle.psi_log_words.proofs.GivenLemmas.{region_found, region_again, words_lack}
 use Rattle.psi_log_scan.specs.Lines.{named_line, read_step}
+use Rattle.psi_log_scan.specs.Scanned.{next_step}
 
 -- a line that was cut from a text, by its words
 pub words_found : (n : ℕ) (text : List ℕ) (line : List ℕ × List ℕ) (words : List (List ℕ)) → line_of n text ≡ Ok line → words_of line.0 ≡ words → text ≡ line_text words ++ line.1
@@ -50,10 +53,8 @@ named_found n name least most (first ∷ number ∷ []) x small h =
     let rule = bind_ok (holds_or (refused n Shape) (bytes_eq first name)) (λ (u : Unit {0}). number_in n least most number) x h in
     let is = same_word first name (held (refused n Shape) (bytes_eq first name) rule.0 rule.1) in
     let found = number_found n least most number x small rule.2 in
-    (two is found.0, found.1, found.2)
-  where
-    two : {a b c d : List ℕ} → a ≡ c → b ≡ d → a ∷ b ∷ [] ≡ c ∷ d ∷ []
-    two p q = cc
+    let same = found.0 in
+    (cc, found.1, found.2)
 named_found n name least most (first ∷ number ∷ more ∷ words) x small h = absurd cc
 
 pub named_again : (n : ℕ) (name : List ℕ) (least most x : ℕ) → most < 2 ^ 64 → least ≤ x → x ≤ most → read_named n name least most (number_words name x) ≡ Ok x
@@ -131,16 +132,42 @@ step_found h n before (first ∷ number ∷ event ∷ words) e is region r =
     four : {a b c x y z : List ℕ} {ws vs : List (List ℕ)} → a ≡ x → b ≡ y → c ≡ z → ws ≡ vs → a ∷ b ∷ c ∷ ws ≡ x ∷ y ∷ z ∷ vs
     four p q r s = cc
 
+-- the words of a step are read where those of its region are
+step_read : (h : Header) (n : ℕ) (before : Option Corners) (s : Step) (r : LogRegion) (g : Given) (words : List (List ℕ)) → form_of n h.queues before words ≡ Ok g
+    → read_given n h.queues g ≡ Ok r → 1 ≤ s.number → s.number ≤ greatest_horizon h.version → s.event ≤ 1024
+    → read_step h n before (codes "step" ∷ decimal s.number ∷ decimal s.event ∷ words) ≡ Ok (record { step = s; region = r })
+unfolding read_step
+step_read h n before s r g words form given least high kind =
+    let most = horizon_small h.version in
+    let time : number_in n 1 (greatest_horizon h.version) (decimal s.number) ≡ Ok s.number = number_again n 1 (greatest_horizon h.version) s.number (omega arith) least high in
+    let event : number_in n 0 1024 (decimal s.event) ≡ Ok s.event = number_again n 0 1024 s.event (omega arith) (omega arith) kind in
+    rw (form, time, event, given) refl
+
+step_lack : (c : ℕ) (s : Step) (words : List (List ℕ)) → c < 44 → s.number < 2 ^ 64 → s.event < 2 ^ 64 → lacks c (codes "step") ≡ true → list_all (lacks c) words ≡ true
+    → list_all (lacks c) (codes "step" ∷ decimal s.number ∷ decimal s.event ∷ words) ≡ true
+step_lack c s words small number event step rest =
+    and_from (lacks c (codes "step")) (list_all (lacks c) (decimal s.number ∷ decimal s.event ∷ words)) step
+    (and_from (lacks c (decimal s.number)) (list_all (lacks c) (decimal s.event ∷ words)) (decimal_lacks c s.number (omega arith) number)
+    (and_from (lacks c (decimal s.event)) (list_all (lacks c) words) (decimal_lacks c s.event (omega arith) event) rest))
+
+-- and so is its line, at the beginning of a text
+pub next_read : (h : Header) (n : ℕ) (before : Option Corners) (s : Step) (r : LogRegion) (g : Given) (words : List (List ℕ)) (rest : List ℕ) → form_of n h.queues before words ≡ Ok g
+    → read_given n h.queues g ≡ Ok r → 1 ≤ s.number → s.number ≤ greatest_horizon h.version → s.event ≤ 1024 → list_all (lacks 10) words ≡ true → list_all (lacks 32) words ≡ true
+    → next_step h n before (step_text s words ++ rest) ≡ Ok (record { step = s; region = r }, rest)
+unfolding next_step step_text
+next_read h n before s r g words rest form given least high kind feeds spaces =
+    let most = horizon_small h.version in
+    let line = words_line n (codes "step" ∷ decimal s.number ∷ decimal s.event ∷ words) rest (step_lack 10 s words (omega arith) (omega arith) (omega arith) refl feeds) in
+    let cut = words_again (codes "step") (decimal s.number ∷ decimal s.event ∷ words) (step_lack 32 s words (omega arith) (omega arith) (omega arith) refl spaces) in
+    let step = step_read h n before s r g words form given least high kind in
+    rw (line, cut, step) refl
+
 pub step_again : (h : Header) (n : ℕ) (before : LogRegion) (e : Entry) → IsHeader h → IsRegion h.queues before → IsEntry h e
     → read_step h n (box_before h.version before) (codes "step" ∷ decimal e.step.number ∷ decimal e.step.event ∷ next_words h.version before e.region) ≡ Ok e
-unfolding read_step
 step_again h n before e is region entry =
     let read = region_again n h.queues (box_before h.version before) e.region is.some is.few (before_is h.queues h.version before region) entry.region in
-    let most = horizon_small h.version in
-    let time : number_in n 1 (greatest_horizon h.version) (decimal e.step.number) ≡ Ok e.step.number =
-    number_again n 1 (greatest_horizon h.version) e.step.number (omega arith) entry.least entry.most in
-    let kind : number_in n 0 1024 (decimal e.step.event) ≡ Ok e.step.event = number_again n 0 1024 e.step.event (omega arith) (omega arith) entry.event in
-    rw (next_after h.version before e.region, read.form, time, kind, read.region) refl
+    ap (λ (ws : List (List ℕ)). read_step h n (box_before h.version before) (codes "step" ∷ decimal e.step.number ∷ decimal e.step.event ∷ ws)) (next_after h.version before e.region)
+    ∙ step_read h n (box_before h.version before) e.step e.region read.given _ read.form read.region entry.least entry.most entry.event
 
 pub step_lacks : (c : ℕ) (h : Header) (before : LogRegion) (e : Entry) → c < 44 → IsHeader h → IsRegion h.queues before → IsEntry h e
     → lacks c (codes "step") ≡ true → lacks c (codes "box") ≡ true → lacks c (codes "set") ≡ true → lacks c (codes "move") ≡ true
@@ -149,9 +176,6 @@ step_lacks c h before e small is region entry step box set move =
     let most = horizon_small h.version in
     let high = entry.most in
     let kind = entry.event in
-    let words : list_all (lacks c) (next_words h.version before e.region) ≡ true =
-    ap (list_all (lacks c)) (next_after h.version before e.region)
-    ∙ words_lack c h.queues (box_before h.version before) e.region small is.few (before_is h.queues h.version before region) entry.region box set move in
-    and_from (lacks c (codes "step")) (list_all (lacks c) (decimal e.step.number ∷ decimal e.step.event ∷ next_words h.version before e.region)) step
-    (and_from (lacks c (decimal e.step.number)) (list_all (lacks c) (decimal e.step.event ∷ next_words h.version before e.region)) (decimal_lacks c e.step.number (omega arith) (omega arith))
-    (and_from (lacks c (decimal e.step.event)) (list_all (lacks c) (next_words h.version before e.region)) (decimal_lacks c e.step.event (omega arith) (omega arith)) words))
+    step_lack c e.step (next_words h.version before e.region) small (omega arith) (omega arith) step
+    (ap (list_all (lacks c)) (next_after h.version before e.region)
+    ∙ words_lack c h.queues (box_before h.version before) e.region small is.few (before_is h.queues h.version before region) entry.region box set move)

@@ -1,10 +1,10 @@
 -- The line of a step with a box that is written by what changed, read in one pass.
-use Rattle.std.specs.Prelude.{◌≡◌, ℕ, ◌+◌, ◌<◌, ◌≤◌, ◌^◌, List, [], ◌∷◌, ◌++◌, length, map, take, drop, codes, true, ◌&&◌, nat_lt, nat_le, slice_set, Some, Ok, refl}
+use Rattle.std.specs.Prelude.{◌≡◌, ℕ, ◌+◌, ◌<◌, ◌≤◌, ◌^◌, List, [], ◌∷◌, ◌++◌, length, map, take, drop, codes, true, nat_lt, slice_set, Some, Ok, refl}
 use Rattle.std.specs.List.{list_all}
 use Rattle.std.specs.Fmt.{decimal}
 use Rattle.std.proofs.Common.{ap, sym, ◌∙◌, subst, arith, append_assoc, inl, inr}
-use Rattle.std.proofs.lemmas.Bool.{and_parts, and_from, le-leb, ltb-true}
-use Rattle.std.proofs.lemmas.List.{take-append-drop, append-nil, length-map, map-append}
+use Rattle.std.proofs.lemmas.Bool.{and_parts, and_from, ltb-true}
+use Rattle.std.proofs.lemmas.List.{take-append-drop, append-nil, map-append}
 use Rattle.psi_state.specs.State.{Corners}
 use Rattle.psi_state.specs.Members.{In}
 use Rattle.psi_state.specs.declared.outcome.Step.{Step}
@@ -15,16 +15,14 @@ use Rattle.psi_log_format.specs.Room.{spaced_words}
 use Rattle.psi_log_format.proofs.JoinedLemmas.{then, then_words, one_word, three_pieces}
 use Rattle.psi_log_format.proofs.LinePiecesLemmas.{step_pieces}
 use Rattle.psi_log_words.specs.Refusal.{each}
-use Rattle.psi_log_words.specs.Words.{number_in, pieces_of}
 use Rattle.psi_log_words.proofs.WordLemmas.{lacks}
-use Rattle.psi_log_words.proofs.NumberLemmas.{number_again, decimal_lacks, each_again}
-use Rattle.psi_log_words.specs.Regions.{form_of, move_form, queues_ascend, is_change, changed, read_change, read_given}
-use Rattle.psi_log_words.proofs.RegionLemmas.{IsChange, change_again, changes_shaped, changes_lack}
+use Rattle.psi_log_words.specs.Regions.{queues_ascend, is_change, changed}
+use Rattle.psi_log_words.proofs.RegionLemmas.{IsChange, changes_lack}
+use Rattle.psi_log_words.proofs.GivenLemmas.{moves_read}
 use Rattle.psi_log_words.proofs.MovedLemmas.{behind_last, IsMoved, moved_none, moved_more}
-use Rattle.psi_log_scan.specs.Lines.{read_step}
 use Rattle.psi_log_scan.specs.Scanned.{Stands, with_comma, AreChanged, next_step}
 use Rattle.psi_log_scan.proofs.ScanLemmas.{in_push}
-use Rattle.psi_log_scan.proofs.LineLemmas.{words_line, words_again, horizon_small}
+use Rattle.psi_log_scan.proofs.LineLemmas.{next_read}
 
 -- a change stands in the text by its three numbers
 pub change_stands : (text : List ℕ) (at comma next end q l g : ℕ) → Stands text at comma (with_comma q) → Stands text comma next (with_comma l) → Stands text next end (decimal g)
@@ -99,39 +97,6 @@ moved_so_all queues from text at end next to are =
       words = are.words;
     }
 
--- the line of such a step
-module _ (h : Header) (n : ℕ) (from : Corners) (s : Step) (cs : List Change) (few : length cs ≤ 32) (small : h.queues ≤ 32) (all : (c : Change) → In c cs → IsChange h.queues c)
-    (ascend : queues_ascend cs ≡ true) (differ : list_all (is_change from) cs ≡ true) (least : 1 ≤ s.number) (high : s.number ≤ greatest_horizon h.version) (kind : s.event ≤ 1024) where
-  move_step_again : read_step h n (Some from) (codes "step" ∷ decimal s.number ∷ decimal s.event ∷ codes "move" ∷ map change_text cs) ≡ Ok (record { step = s; region = in_box (changed from cs) })
-  unfolding read_step form_of move_form read_given
-  move_step_again =
-      let most = horizon_small h.version in
-      let count : nat_le (length (map change_text cs)) 32 ≡ true = le-leb (length (map change_text cs)) 32 (omega (arith, length-map cs change_text)) in
-      let shaped = changes_shaped h.queues cs small all in
-      let read : each (λ word. read_change n h.queues (pieces_of word)) (map change_text cs) ≡ Ok cs =
-      each_again (λ word. read_change n h.queues (pieces_of word)) change_text (IsChange h.queues) (λ c is. change_again n h.queues c small is) cs all in
-      let time : number_in n 1 (greatest_horizon h.version) (decimal s.number) ≡ Ok s.number = number_again n 1 (greatest_horizon h.version) s.number (omega arith) least high in
-      let event : number_in n 0 1024 (decimal s.event) ≡ Ok s.event = number_again n 0 1024 s.event (omega arith) (omega arith) kind in
-      let order : (queues_ascend cs && list_all (is_change from) cs) ≡ true = and_from (queues_ascend cs) (list_all (is_change from) cs) ascend differ in
-      rw (count, shaped, time, event, read, order) refl
-
-  move_step_lacks : (b : ℕ) → b < 44 → lacks b (codes "step") ≡ true → lacks b (codes "move") ≡ true
-      → list_all (lacks b) (codes "step" ∷ decimal s.number ∷ decimal s.event ∷ codes "move" ∷ map change_text cs) ≡ true
-  move_step_lacks b below step move =
-      let most = horizon_small h.version in
-      and_from (lacks b (codes "step")) (list_all (lacks b) (decimal s.number ∷ decimal s.event ∷ codes "move" ∷ map change_text cs)) step
-      (and_from (lacks b (decimal s.number)) (list_all (lacks b) (decimal s.event ∷ codes "move" ∷ map change_text cs)) (decimal_lacks b s.number (omega arith) (omega arith))
-      (and_from (lacks b (decimal s.event)) (list_all (lacks b) (codes "move" ∷ map change_text cs)) (decimal_lacks b s.event (omega arith) (omega arith))
-      (and_from (lacks b (codes "move")) (list_all (lacks b) (map change_text cs)) move (changes_lack b h.queues cs below small all))))
-
-  pub move_next_again : (rest : List ℕ) → next_step h n (Some from) (step_text s (codes "move" ∷ map change_text cs) ++ rest) ≡ Ok (record { step = s; region = in_box (changed from cs) }, rest)
-  unfolding next_step step_text
-  move_next_again rest =
-      let line = words_line n (codes "step" ∷ decimal s.number ∷ decimal s.event ∷ codes "move" ∷ map change_text cs) rest (move_step_lacks 10 (omega arith) refl refl) in
-      let cut = words_again (codes "step") (decimal s.number ∷ decimal s.event ∷ codes "move" ∷ map change_text cs) (move_step_lacks 32 (omega arith) refl refl) in
-      let step = move_step_again in
-      rw (line, cut, step) refl
-
 -- a line that stands at the beginning of a text is read as its step
 pub move_line : (h : Header) (n : ℕ) (from to : Corners) (text : List ℕ) (at end : ℕ) (s : Step) → h.queues ≤ 32
     → 1 ≤ s.number → s.number ≤ greatest_horizon h.version → s.event ≤ 1024 → Stands text 0 at (codes "step" ++ spaced_words (decimal s.number ∷ decimal s.event ∷ []))
@@ -147,6 +112,10 @@ move_line h n from to text at end s small least high kind head name are feed =
     three_pieces _ _ _ _ head words feed (step_pieces s (codes "move" ∷ map change_text are.changes)) in
     let text_is : text ≡ step_text s (codes "move" ∷ map change_text are.changes) ++ drop (end + 1) text =
     sym (take-append-drop (end + 1) text) ∙ ap (λ (t : List ℕ). t ++ drop (end + 1) text) line.front in
+    let read = moves_read n h.queues from are.changes (omega arith) small all are.ascend are.differ in
+    let lack : (c : ℕ) → c < 44 → lacks c (codes "move") ≡ true → list_all (lacks c) (codes "move" ∷ map change_text are.changes) ≡ true =
+    λ c below name. and_from (lacks c (codes "move")) (list_all (lacks c) (map change_text are.changes)) name (changes_lack c h.queues are.changes below small all) in
     ap (next_step h n (Some from)) text_is
-    ∙ move_next_again h n from s are.changes (omega arith) small all are.ascend are.differ least high kind (drop (end + 1) text)
+    ∙ next_read h n (Some from) s (in_box (changed from are.changes)) _ (codes "move" ∷ map change_text are.changes) (drop (end + 1) text) read.0 read.1 least high kind
+    (lack 10 (omega arith) refl) (lack 32 (omega arith) refl)
     ∙ ap (λ (b : Corners). Ok (record { step = s; region = in_box b }, drop (end + 1) text)) (sym are.made)

@@ -17,7 +17,7 @@ use Rattle.psi_log_format.proofs.RowsLemmas.{less_differs}
 use Rattle.psi_log_words.specs.Regions.{ascends}
 use Rattle.psi_log_words.proofs.OrderLemmas.{order_none, order_last, order_next}
 use Rattle.psi_log_scan.specs.Scanned.{Stands, with_comma, with_commas}
-use Rattle.psi_log_scan.specs.RowsViews.{EndsIn, IsRead}
+use Rattle.psi_log_scan.specs.Inner.RowsViews.{EndsIn, IsRead}
 use Rattle.psi_log_scan.proofs.ScanLemmas.{scanned_more}
 
 -- so many digits

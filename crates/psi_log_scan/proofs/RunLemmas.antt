@@ -9,7 +9,7 @@ use Rattle.std.proofs.Math.Seq.{take-add, drop-append_seam}
 use Rattle.psi_log_format.specs.Text.{numbers_text}
 use Rattle.psi_log_format.proofs.JoinedLemmas.{then}
 use Rattle.psi_log_scan.specs.Scanned.{Stands, with_commas}
-use Rattle.psi_log_scan.specs.RowsViews.{IsAlike, IsRun}
+use Rattle.psi_log_scan.specs.Inner.RowsViews.{IsAlike, IsRun}
 use Rattle.psi_log_scan.specs.declared.runs.Run.{Run}
 use Rattle.psi_log_scan.proofs.RowsLemmas.{text_front}
 use Rattle.psi_log_scan.proofs.ScanLemmas.{digit_stands, digit_first, two_digits}

@@ -1,9 +1,7 @@
 -- The line of a step with a set, read in one pass.
 use Rattle.std.specs.Prelude.{◌≡◌, ℕ, ◌+◌, ◌-◌, ◌<◌, ◌≤◌, List, [], ◌∷◌, ◌++◌, length, map, take, drop, codes, true, Option, Some, None, Ok, refl}
-use Rattle.std.specs.List.{list_all}
 use Rattle.std.specs.Fmt.{decimal}
 use Rattle.std.proofs.Common.{ap, sym, ◌∙◌, subst, arith}
-use Rattle.std.proofs.lemmas.Bool.{and_from}
 use Rattle.std.proofs.lemmas.List.{take-append-drop, take_all, append-nil, length-drop, length-take-le, drop-take}
 use Rattle.std.proofs.Math.Seq.{drop-append_seam}
 use Rattle.psi_state.specs.State.{Corners}
@@ -14,16 +12,12 @@ use Rattle.psi_log_format.specs.Text.{numbers_text, region_words, step_text}
 use Rattle.psi_log_format.specs.Room.{spaced_words}
 use Rattle.psi_log_format.proofs.JoinedLemmas.{then, then_words, one_word}
 use Rattle.psi_log_format.proofs.LinePiecesLemmas.{step_pieces}
-use Rattle.psi_log_words.specs.Words.{number_in}
-use Rattle.psi_log_words.proofs.WordLemmas.{lacks}
-use Rattle.psi_log_words.proofs.NumberLemmas.{number_again, decimal_lacks}
 use Rattle.psi_log_words.specs.Regions.{form_of, ascends}
 use Rattle.psi_log_words.proofs.StateLemmas.{rising_found}
 use Rattle.psi_log_words.proofs.RegionLemmas.{words_after}
 use Rattle.psi_log_words.proofs.GivenLemmas.{set_again, region_lacks}
-use Rattle.psi_log_scan.specs.Lines.{read_step}
 use Rattle.psi_log_scan.specs.Scanned.{Stands, AreScanned, TellsSet, next_step}
-use Rattle.psi_log_scan.proofs.LineLemmas.{words_line, words_again, horizon_small}
+use Rattle.psi_log_scan.proofs.LineLemmas.{next_read}
 
 -- the beginning of a step's line
 pub step_stands : (text : List ℕ) (a b end number event : ℕ) → Stands text 0 5 (codes "step ") → Stands text 5 a (decimal number) → Stands text a b (32 ∷ []) → Stands text b end (decimal event)
@@ -34,41 +28,9 @@ step_stands text a b end number event first second space third =
     (then (decimal number) (32 ∷ decimal event) (decimal number ++ (32 ∷ decimal event)) second (then (32 ∷ []) (decimal event) (32 ∷ decimal event) space third refl) refl)
     (ap (λ (t : List ℕ). codes "step " ++ (decimal number ++ (32 ∷ t))) (sym (append-nil (decimal event))))
 
-whole : (before : Option Corners) (xs : List (List ℕ)) → words_after before (in_set xs) ≡ region_words (in_set xs)
-whole None xs = refl
-whole (Some from) xs = refl
-
-set_step_again : (h : Header) (n : ℕ) (before : Option Corners) (s : Step) (xs : List (List ℕ)) → 1 ≤ h.queues → IsSet h.queues xs
-    → 1 ≤ s.number → s.number ≤ greatest_horizon h.version → s.event ≤ 1024
-    → read_step h n before (codes "step" ∷ decimal s.number ∷ decimal s.event ∷ region_words (in_set xs)) ≡ Ok (record { step = s; region = in_set xs })
-unfolding read_step
-set_step_again h n before s xs some is least high kind =
-    let read = set_again n h.queues before xs some is in
-    let form : form_of n h.queues before (region_words (in_set xs)) ≡ Ok read.given = ap (form_of n h.queues before) (sym (whole before xs)) ∙ read.form in
-    let most = horizon_small h.version in
-    let time : number_in n 1 (greatest_horizon h.version) (decimal s.number) ≡ Ok s.number = number_again n 1 (greatest_horizon h.version) s.number (omega arith) least high in
-    let event : number_in n 0 1024 (decimal s.event) ≡ Ok s.event = number_again n 0 1024 s.event (omega arith) (omega arith) kind in
-    rw (form, time, event, read.region) refl
-
-set_step_lacks : (c queues : ℕ) (s : Step) (xs : List (List ℕ)) → c < 44 → IsSet queues xs → s.number ≤ 4194304 → s.event ≤ 1024
-    → lacks c (codes "step") ≡ true → lacks c (codes "box") ≡ true → lacks c (codes "set") ≡ true
-    → list_all (lacks c) (codes "step" ∷ decimal s.number ∷ decimal s.event ∷ region_words (in_set xs)) ≡ true
-set_step_lacks c queues s xs small is high kind step box set =
-    and_from (lacks c (codes "step")) (list_all (lacks c) (decimal s.number ∷ decimal s.event ∷ region_words (in_set xs))) step
-    (and_from (lacks c (decimal s.number)) (list_all (lacks c) (decimal s.event ∷ region_words (in_set xs))) (decimal_lacks c s.number (omega arith) (omega arith))
-    (and_from (lacks c (decimal s.event)) (list_all (lacks c) (region_words (in_set xs))) (decimal_lacks c s.event (omega arith) (omega arith))
-    (region_lacks c queues (in_set xs) small is box set)))
-
-next_again : (h : Header) (n : ℕ) (before : Option Corners) (s : Step) (xs : List (List ℕ)) (rest : List ℕ) → 1 ≤ h.queues → IsSet h.queues xs
-    → 1 ≤ s.number → s.number ≤ greatest_horizon h.version → s.event ≤ 1024
-    → next_step h n before (step_text s (region_words (in_set xs)) ++ rest) ≡ Ok (record { step = s; region = in_set xs }, rest)
-unfolding next_step step_text
-next_again h n before s xs rest some is least high kind =
-    let most = horizon_small h.version in
-    let line = words_line n (codes "step" ∷ decimal s.number ∷ decimal s.event ∷ region_words (in_set xs)) rest (set_step_lacks 10 h.queues s xs (omega arith) is (omega arith) kind refl refl refl) in
-    let cut = words_again (codes "step") (decimal s.number ∷ decimal s.event ∷ region_words (in_set xs)) (set_step_lacks 32 h.queues s xs (omega arith) is (omega arith) kind refl refl refl) in
-    let step = set_step_again h n before s xs some is least high kind in
-    rw (line, cut, step) refl
+whole_words : (before : Option Corners) (xs : List (List ℕ)) → words_after before (in_set xs) ≡ region_words (in_set xs)
+whole_words None xs = refl
+whole_words (Some from) xs = refl
 
 -- a line that stands at the beginning of a text is read as its step
 pub set_line : (h : Header) (n : ℕ) (before : Option Corners) (text line : List ℕ) (at end : ℕ) (s : Step) (xs : List (List ℕ)) → 1 ≤ h.queues
@@ -81,7 +43,10 @@ set_line h n before text line at end s xs some least high kind head tells there 
     let whole : Stands text 0 end (step_text s words) = then front line (step_text s words) head there all in
     let text_is : text ≡ step_text s words ++ drop end text =
     sym (take-append-drop end text) ∙ ap (λ (t : List ℕ). t ++ drop end text) whole.front in
-    ap (next_step h n before) text_is ∙ next_again h n before s xs (drop end text) some tells.set least high kind
+    let read = set_again n h.queues before xs some tells.set in
+    ap (next_step h n before) text_is
+    ∙ next_read h n before s (in_set xs) read.given words (drop end text) (ap (form_of n h.queues before) (sym (whole_words before xs)) ∙ read.form) read.region least high kind
+    (region_lacks 10 h.queues (in_set xs) (omega arith) tells.set refl refl) (region_lacks 32 h.queues (in_set xs) (omega arith) tells.set refl refl)
 
 -- what stands in a text is a part of it
 pub part_is : (text word : List ℕ) (at end : ℕ) → at ≤ length text → Stands text at end word → take (end - at) (drop at text) ≡ word

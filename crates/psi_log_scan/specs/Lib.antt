@@ -2,4 +2,4 @@
 pub mod Lines
 pub mod Scanned
 pub mod LinesViews
-pub mod RowsViews
+pub mod Inner

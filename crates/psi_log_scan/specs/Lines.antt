@@ -6,7 +6,7 @@ use Rattle.psi_log_format.specs.declared.header.Header.{Header}
 use Rattle.psi_log_format.specs.Log.{Entry, greatest_horizon}
 use Rattle.psi_log_words.specs.Refusal.{Refusal, refused, ◌>>=◌, holds_or}
 use Rattle.psi_log_words.specs.Words.{line_of, words_of, number_in, read_version, read_named}
-use Rattle.psi_log_words.specs.declared.refusals.Cause.TheVariants.{Shape}
+use Rattle.psi_log_words.specs.declared.refusals.LogCause.TheVariants.{Shape}
 use Rattle.psi_log_words.specs.Regions.{form_of, read_given}
 
 -- the line n of a name and a number, which begins the text, and what follows it

@@ -5,7 +5,7 @@ ghost use Rattle.std.specs.Prelude.{◌≡◌, ◌∷◌, ◌+◌, ◌-◌, ◌<
 ghost use Rattle.psi_log_format.specs.Text.{numbers_text};
 ghost use Rattle.psi_log_words.specs.Regions.{ascends};
 ghost use Rattle.psi_log_scan.specs.Scanned.{Stands, AreScanned};
-ghost use Rattle.psi_log_scan.specs.RowsViews.{EndsIn, IsNextRow, IsRead};
+ghost use Rattle.psi_log_scan.specs.Inner.RowsViews.{EndsIn, IsNextRow, IsRead};
 
 use crate::runs::{read_run, run_of};
 use crate::scan::{has_byte, read_row};

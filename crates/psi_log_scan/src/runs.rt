@@ -5,9 +5,9 @@ ghost use Rattle.std.specs.Prelude.{◌≡◌, ◌⊎◌, ◌∷◌, ◌++◌, �
 ghost use Rattle.psi_log_format.specs.Text.{numbers_text};
 ghost use Rattle.psi_log_format.specs.Rows.{rows};
 ghost use Rattle.psi_log_scan.specs.Scanned.{Stands, with_commas};
-ghost use Rattle.psi_log_scan.specs.RowsViews.{IsAlike, IsRun, IsRead, EndsIn};
+ghost use Rattle.psi_log_scan.specs.Inner.RowsViews.{IsAlike, IsRun, IsRead, EndsIn};
 
-use crate::rows::{keep_range, width};
+use crate::rows::width;
 use crate::scan::{digit_of, small_at};
 use psi_log_format::StateList;
 use std::alloc::AllocError;
@@ -54,6 +54,7 @@ fn padded(row: &[u16]) -> [u16; 32]
     requires { length row.now ≤ 32 }
     ensures front { take (length row.now) result ≡ row.now }
     ensures count { length result ≡ 32 }
+    ensures range { (i : ℕ) → slice_index row.now i < 2 ^ 16 }
 {
     let mut numbers = [0; 32];
     numbers[..row.len()].copy_from_slice(row);
@@ -294,8 +295,6 @@ pub(crate) fn read_run(
     ensures queues { states.new.queues ≡ states.old.queues }
     ensures read { IfOk result (λ end. IsRead (length row.now) text.now at end states.old.states states.new.states) }
 {
-    // Called for its clause: the range of the numbers.
-    keep_range(row);
     let first = padded(row);
     let mut numbers = [0; 160];
     let mut filled = 0;

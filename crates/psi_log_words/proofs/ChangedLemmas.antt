@@ -1,7 +1,7 @@
 -- A box with changes is a box.
 use Rattle.std.specs.Prelude.{◌≡◌, ℕ, ◌<◌, ◌≤◌, ◌^◌, List, [], ◌∷◌, slice_index, slice_set, true, not, ◌&&◌, ◌==◌, nat_le, refl}
 use Rattle.std.specs.List.{list_all}
-use Rattle.std.proofs.Common.{get_or, set, ap, sym, ◌∙◌, subst, arith, inl, inr}
+use Rattle.std.proofs.Common.{get_or, set, ap, sym, ◌∙◌, arith, inl, inr}
 use Rattle.std.proofs.lemmas.Bool.{and_parts, leb-true, cases_eq}
 use Rattle.std.proofs.lemmas.List.{length-set, get_or-set_same, get_or-set_other}
 use Rattle.psi_state.specs.State.{Corners}
@@ -9,6 +9,7 @@ use Rattle.psi_state.specs.Members.{In}
 use Rattle.psi_log_format.specs.Log.{IsState, IsBox}
 use Rattle.psi_log_format.specs.Text.{Change}
 use Rattle.psi_log_words.specs.Regions.{is_change, changed}
+use Rattle.psi_log_words.proofs.NumberLemmas.{all_each}
 use Rattle.psi_log_words.proofs.RegionLemmas.{IsChange}
 
 set_state : (queues : ℕ) (x : List ℕ) (q v : ℕ) → IsState queues x → q < queues → v < 2 ^ 16 → IsState queues (set x q v)
@@ -49,11 +50,6 @@ changed_box queues b (c ∷ cs) is order all =
     (one_changed queues b c is (order c (inl refl)) (all c (inl refl))) (λ d there. order d (inr there)) (λ d there. all d (inr there))
 
 pub changes_ordered : (from : Corners) (cs : List Change) → list_all (is_change from) cs ≡ true → (c : Change) → In c cs → c.least ≤ c.greatest
-changes_ordered from [] are c there = absurd there
-changes_ordered from (d ∷ ds) are c there =
-    let parts = and_parts (is_change from d) (list_all (is_change from) ds) are in
-    elim there [
-      | inl e ↦ subst (λ (k : Change). k.least ≤ k.greatest) (sym e)
-          (leb-true d.least d.greatest (and_parts (nat_le d.least d.greatest) (not (slice_index from.lo d.queue == d.least && slice_index from.hi d.queue == d.greatest)) parts.0).0)
-      | inr t ↦ changes_ordered from ds parts.1 c t
-    ]
+changes_ordered from cs are c there =
+    leb-true c.least c.greatest (and_parts (nat_le c.least c.greatest) (not (slice_index from.lo c.queue == c.least && slice_index from.hi c.queue == c.greatest))
+    (all_each (is_change from) cs c are there)).0

@@ -6,11 +6,12 @@ use Rattle.std.proofs.Common.{ap, sym, ◌∙◌, subst, arith}
 use Rattle.std.proofs.lemmas.Bool.{and_parts, and_from, le-leb}
 use Rattle.std.proofs.lemmas.List.{length-map}
 use Rattle.psi_state.specs.State.{Corners}
+use Rattle.psi_state.specs.Members.{In}
 use Rattle.psi_log_format.specs.Log.{LogRegion, in_box, in_set, IsBox, IsSet, IsRegion}
 use Rattle.psi_log_format.specs.Text.{numbers_text, region_words, Change, changes, change_text, move_words}
 use Rattle.psi_log_words.specs.Refusal.{refused, ◌>>=◌, holds_or, each}
 use Rattle.psi_log_words.specs.Words.{pieces_of, has_pieces}
-use Rattle.psi_log_words.specs.declared.refusals.Cause.TheVariants.{Shape}
+use Rattle.psi_log_words.specs.declared.refusals.LogCause.TheVariants.{Shape}
 use Rattle.psi_log_words.proofs.WordLemmas.{bind_ok, ok_same, held, lacks}
 use Rattle.psi_log_words.proofs.NumberLemmas.{each_found, each_again}
 use Rattle.psi_log_words.specs.Regions.{Given, given_box, given_set, given_move, box_form, set_form, move_form, form_of, read_state, read_change, ascends, queues_ascend, is_change, changed, read_given}
@@ -64,7 +65,8 @@ move_given n queues from words r some few before h =
     let cs = first.0 in
     let rule = bind_ok (holds_or (refused n Shape) (queues_ascend first.0 && list_all (is_change from) first.0)) (λ (u : Unit {0}). Ok (in_box (changed from first.0))) r first.2 in
     let parts = and_parts (queues_ascend first.0) (list_all (is_change from) first.0) (held (refused n Shape) (queues_ascend first.0 && list_all (is_change from) first.0) rule.0 rule.1) in
-    let found = each_found (λ word. read_change n queues (pieces_of word)) change_text (IsChange queues) (λ a c read. change_found n queues a c some few read) words first.0 first.1 in
+    let found = each_found (λ word. read_change n queues (pieces_of word)) change_text (IsChange queues) words first.0
+    (λ a c there read. change_found n queues a c some few read) first.1 in
     let lo = before.lo.count in
     let hi = before.hi.count in
     let same : changes from (changed from first.0) ≡ first.0 =
@@ -133,32 +135,32 @@ set_again n queues (Some from) xs some is = record {
   region = rw (states_again n queues xs some is.each, rising_again xs is.rising) refl;
 }
 
-move_shape : (queues : ℕ) (from to : Corners) → queues ≤ 32 → IsBox queues from → IsBox queues to
-    → (nat_le (length (map change_text (changes from to))) 32 && list_all (has_pieces 3) (map change_text (changes from to))) ≡ true
-move_shape queues from to few before after =
-    let count : length (map change_text (changes from to)) ≡ length (changes from to) = length-map (changes from to) change_text in
-    let most = changes_count from to in
-    let lo = before.lo.count in
-    and_from (nat_le (length (map change_text (changes from to))) 32) (list_all (has_pieces 3) (map change_text (changes from to))) (le-leb _ _ (omega arith))
-    (changes_shaped queues (changes from to) few (moved_are queues from to before after))
+-- changes in order are read as the box that they make
+pub moves_read : (n queues : ℕ) (from : Corners) (cs : List Change) → length cs ≤ 32 → queues ≤ 32 → ((c : Change) → In c cs → IsChange queues c) → queues_ascend cs ≡ true
+    → list_all (is_change from) cs ≡ true → (form_of n queues (Some from) (codes "move" ∷ map change_text cs) ≡ Ok (given_move from (map change_text cs)))
+    × (read_given n queues (given_move from (map change_text cs)) ≡ Ok (in_box (changed from cs)))
+unfolding form_of move_form read_given
+moves_read n queues from cs few small all ascend differ =
+    let count : nat_le (length (map change_text cs)) 32 ≡ true = le-leb (length (map change_text cs)) 32 (omega (arith, length-map cs change_text)) in
+    let shaped = changes_shaped queues cs small all in
+    let read : each (λ word. read_change n queues (pieces_of word)) (map change_text cs) ≡ Ok cs =
+    each_again (λ word. read_change n queues (pieces_of word)) change_text (IsChange queues) (λ c is. change_again n queues c small is) cs all in
+    let order : (queues_ascend cs && list_all (is_change from) cs) ≡ true = and_from (queues_ascend cs) (list_all (is_change from) cs) ascend differ in
+    (rw (count, shaped) refl, rw (read, order) refl)
 
 move_again : (n queues : ℕ) (from to : Corners) → queues ≤ 32 → IsBox queues from → IsBox queues to → IsRead n queues (Some from) (in_box to)
-unfolding form_of move_form read_given
 move_again n queues from to few before after =
     let from_lo = before.lo.count in
     let from_hi = before.hi.count in
     let to_lo = after.lo.count in
     let to_hi = after.hi.count in
-    let cs = changes from to in
-    let read : each (λ word. read_change n queues (pieces_of word)) (map change_text (changes from to)) ≡ Ok (changes from to) =
-    each_again (λ word. read_change n queues (pieces_of word)) change_text (IsChange queues) (λ c is. change_again n queues c few is) (changes from to) (moved_are queues from to before after) in
-    let order : (queues_ascend (changes from to) && list_all (is_change from) (changes from to)) ≡ true =
-    and_from (queues_ascend (changes from to)) (list_all (is_change from) (changes from to)) (changes_ascend from to)
+    let most = changes_count from to in
+    let read = moves_read n queues from (changes from to) (omega arith) few (moved_are queues from to before after) (changes_ascend from to)
     (changes_are from to (λ q less. after.below.each q (omega arith))) in
     record {
       given = given_move from (map change_text (changes from to));
-      form = rw (move_shape queues from to few before after) refl;
-      region = rw (read, order, changes_again from to (omega arith) (omega arith) (omega arith)) refl;
+      form = read.0;
+      region = read.1 ∙ ap (λ (b : Corners). Ok (in_box b)) (changes_again from to (omega arith) (omega arith) (omega arith));
     }
 
 -- the words of a region are read as it

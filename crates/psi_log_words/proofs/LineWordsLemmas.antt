@@ -9,7 +9,7 @@ use Rattle.std.proofs.lemmas.List.Splits.{slice_split_none, slice_split_first}
 use Rattle.std.proofs.lemmas.List.Sums.{prefix_len-le-length, position_or_len_is, fails_before_first, passes_at_first}
 use Rattle.psi_log_words.specs.Refusal.{refused}
 use Rattle.psi_log_words.specs.Words.{is_feed, is_space, cut_at, line_of, words_of}
-use Rattle.psi_log_words.specs.declared.refusals.Cause.TheVariants.{Truncated}
+use Rattle.psi_log_words.specs.declared.refusals.LogCause.TheVariants.{Truncated}
 
 -- the front of a list stays when its own front is taken first
 pub take_onto : {X : Type 0} (n : ℕ) (xs ys : List X) → take n (take n xs ++ ys) ≡ take n (xs ++ ys)

@@ -11,7 +11,7 @@ use Rattle.psi_log_format.specs.Text.{Change}
 use Rattle.psi_log_words.specs.Refusal.{Refusal, refused, each, IsLogError}
 use Rattle.psi_log_words.specs.Words.{pieces_of}
 use Rattle.psi_log_words.specs.declared.refusals.LogError.{LogError}
-use Rattle.psi_log_words.specs.declared.refusals.Cause.TheVariants.{Shape}
+use Rattle.psi_log_words.specs.declared.refusals.LogCause.TheVariants.{Shape}
 use Rattle.psi_log_words.specs.Regions.{read_change, queues_ascend, is_change, changed, read_given, given_move}
 use Rattle.psi_log_words.proofs.TurnLemmas.{onto, onto_none, turn, turn_ends}
 use Rattle.psi_log_words.proofs.PieceTurnsLemmas.{bind_refused}
@@ -91,25 +91,19 @@ moved_stop from cs to next ordered c is fails = record {
   value = λ on. absurd cc;
 }
   where
-    left : (a b x y : Bool) → (a && b) ≡ false → ((a && x) && (b && y)) ≡ false
-    left true true x y off = absurd cc
-    left true false true y off = refl
-    left true false false y off = refl
-    left false b x y off = refl
-
-    right : (a b x y : Bool) → (x ≡ false) ⊎ (y ≡ false) → ((a && x) && (b && y)) ≡ false
-    right false b x y off = refl
-    right true b false y off = refl
-    right true false true y off = refl
-    right true true true false off = refl
-    right true true true true off = elim off [ inl e ↦ absurd cc | inr e ↦ absurd cc ]
+    stops : (a b x y : Bool) → ((a && b) ≡ false) ⊎ ((x ≡ false) ⊎ (y ≡ false)) → ((a && x) && (b && y)) ≡ false
+    stops false b x y off = refl
+    stops true b false y off = refl
+    stops true false true y off = refl
+    stops true true true false off = refl
+    stops true true true true off = elim off [ inl e ↦ absurd cc | inr o ↦ elim o [ inl e ↦ absurd cc | inr e ↦ absurd cc ] ]
 
     go : (t : Bool) → t ≡ (queues_ascend cs && list_all (is_change from) cs) → (t ≡ true → next ≡ behind_last cs) → (t ≡ true → (c.queue < next) ⊎ (is_change from c ≡ false))
         → ((queues_ascend cs && nat_le (behind_last cs) c.queue) && (list_all (is_change from) cs && is_change from c)) ≡ false
-    go false test least off = left (queues_ascend cs) (list_all (is_change from) cs) (nat_le (behind_last cs) c.queue) (is_change from c) (sym test)
+    go false test least off = stops (queues_ascend cs) (list_all (is_change from) cs) (nat_le (behind_last cs) c.queue) (is_change from c) (inl (sym test))
     go true test least off =
-        right (queues_ascend cs) (list_all (is_change from) cs) (nat_le (behind_last cs) c.queue) (is_change from c)
-        (elim (off refl) [ inl less ↦ inl (lt-leb (behind_last cs) c.queue (let next_is = least refl in omega arith)) | inr other ↦ inr other ])
+        stops (queues_ascend cs) (list_all (is_change from) cs) (nat_le (behind_last cs) c.queue) (is_change from c)
+        (inr (elim (off refl) [ inl less ↦ inl (lt-leb (behind_last cs) c.queue (let next_is = least refl in omega arith)) | inr other ↦ inr other ]))
 
 -- what is read of all changes
 pub move_read : (n queues : ℕ) (from : Corners) (words : List (List ℕ)) (cs : List Change) (to : Corners) (next : ℕ) → IsMoved from cs to next true

@@ -5,12 +5,13 @@ use Rattle.std.specs.Fmt.{decimal}
 use Rattle.std.specs.Str.Parse.{digits_value}
 use Rattle.std.proofs.Common.{get_or, ap, sym, ◌∙◌, subst, arith, rules, cond, inl, inr}
 use Rattle.std.proofs.lemmas.Bool.{and_parts, and_from, not-true, not_from_false, le-leb, leb-true, ne_eqb, eqb-false}
+use Rattle.std.proofs.lemmas.List.Folds.{list_all-map}
 use Rattle.std.proofs.lemmas.Fmt.{decimal_nonempty, first_decimal, decimal_digit, digits_decimal, digits_value-decimal, decimal-digits_value}
 use Rattle.std.proofs.lemmas.Str.Parse.{IsNumeralModel, numerals_by_value}
 use Rattle.psi_state.specs.Members.{In}
 use Rattle.psi_log_words.specs.Refusal.{Refusal, refused, ◌>>=◌, each}
 use Rattle.psi_log_words.specs.Words.{is_digit, is_numeral, number_in}
-use Rattle.psi_log_words.specs.declared.refusals.Cause.TheVariants.{Number}
+use Rattle.psi_log_words.specs.declared.refusals.LogCause.TheVariants.{Number}
 use Rattle.psi_log_words.proofs.WordLemmas.{bind_ok, ok_same, lacks}
 
 pub own : IsNumeralModel (λ word. list_all is_digit word ≡ true) (digits_value 10)
@@ -63,6 +64,20 @@ number_again n least most x small low high =
     let value : digits_value 10 (decimal x) ≡ x = digits_value-decimal own x (omega arith) in
     rw (numeral_decimal x (omega arith), value, le-leb least x low, le-leb x most high) refl
 
+-- a test of all members tells of each, and the other way round
+pub all_each : {X : Type 0} (p : X → Bool) (xs : List X) (x : X) → list_all p xs ≡ true → In x xs → p x ≡ true
+all_each p [] x all member = absurd member
+all_each p (y ∷ ys) x all member =
+    let parts = and_parts (p y) (list_all p ys) all in
+    elim member [ inl e ↦ ap p e ∙ parts.0 | inr rest ↦ all_each p ys x parts.1 rest ]
+
+pub all_from : {X : Type 0} (p : X → Bool) (xs : List X) → ((x : X) → In x xs → p x ≡ true) → list_all p xs ≡ true
+all_from p [] each = refl
+all_from p (y ∷ ys) each = ap (λ b. b && list_all p ys) (each y (inl refl)) ∙ all_from p ys (λ x member. each x (inr member))
+
+pub all_map : {X Y : Type 0} (p : Y → Bool) (f : X → Y) (xs : List X) → ((x : X) → In x xs → p (f x) ≡ true) → list_all p (map f xs) ≡ true
+all_map p f xs each = list_all-map p f xs ∙ all_from (λ x. p (f x)) xs each
+
 -- digits are no spaces, commas and line feeds
 digits_lack : (c : ℕ) (word : List ℕ) → c < 48 → list_all is_digit word ≡ true → lacks c word ≡ true
 digits_lack c [] small h = refl
@@ -75,16 +90,15 @@ pub decimal_lacks : (c n : ℕ) → c < 48 → n < 2 ^ 64 → lacks c (decimal n
 decimal_lacks c n small fits = digits_lack c (decimal n) small (digits_decimal own n fits)
 
 -- where each member is told by what is read of it, so is the list
-pub each_found : {A B : Type 0} (reading : A → Result B Refusal) (text : B → A) (P : B → Type 0)
-    → ((a : A) (b : B) → reading a ≡ Ok b → (a ≡ text b) × P b)
-    → (members : List A) (bs : List B) → each reading members ≡ Ok bs → (members ≡ map text bs) × ((b : B) → In b bs → P b)
+pub each_found : {A B : Type 0} (reading : A → Result B Refusal) (text : B → A) (P : B → Type 0) (members : List A) (bs : List B)
+    → ((a : A) (b : B) → In a members → reading a ≡ Ok b → (a ≡ text b) × P b) → each reading members ≡ Ok bs → (members ≡ map text bs) × ((b : B) → In b bs → P b)
 unfolding each
-each_found reading text P one [] bs h = subst (λ (cs : List _). ([] ≡ map text cs) × ((b : _) → In b cs → P b)) (ok_same [] bs h) (refl, λ b there. absurd there)
-each_found {A} {B} reading text P one (a ∷ rest) bs h =
+each_found reading text P [] bs one h = subst (λ (cs : List _). ([] ≡ map text cs) × ((b : _) → In b cs → P b)) (ok_same [] bs h) (refl, λ b there. absurd there)
+each_found {A} {B} reading text P (a ∷ rest) bs one h =
     let first = bind_ok (reading a) (λ (b : B). each reading rest >>= (λ (cs : List B). Ok (b ∷ cs))) bs h in
     let others = bind_ok (each reading rest) (λ (cs : List B). Ok (first.0 ∷ cs)) bs first.2 in
-    let tail = each_found reading text P one rest others.0 others.1 in
-    let head = one a first.0 first.1 in
+    let tail = each_found reading text P rest others.0 (λ x b there. one x b (inr there)) others.1 in
+    let head = one a first.0 (inl refl) first.1 in
     subst (λ (cs : List B). (a ∷ rest ≡ map text cs) × ((b : B) → In b cs → P b)) (ok_same (first.0 ∷ others.0) bs others.2)
     (list_of head.0 tail.0, λ b there. elim there [ inl e ↦ subst (λ (c : B). P c) (sym e) head.1 | inr t ↦ tail.1 b t ])
   where

@@ -13,7 +13,7 @@ use Rattle.std.proofs.lemmas.Str.{digit_value_digit}
 use Rattle.std.proofs.lemmas.Str.Parse.{digits_value-take-le}
 use Rattle.psi_log_words.specs.Refusal.{refused}
 use Rattle.psi_log_words.specs.Words.{is_digit, is_numeral, number_in}
-use Rattle.psi_log_words.specs.declared.refusals.Cause.TheVariants.{Number}
+use Rattle.psi_log_words.specs.declared.refusals.LogCause.TheVariants.{Number}
 use Rattle.psi_log_words.proofs.NumberLemmas.{numeral_from, numeral_parts}
 
 -- the bytes so far are digits

@@ -10,7 +10,7 @@ use Rattle.std.proofs.lemmas.List.Splits.{slice_split_none, slice_split_first}
 use Rattle.std.proofs.lemmas.List.Sums.{prefix_len_passes, prefix_len_stops, prefix_len-le-length, position_or_len_is, fails_before_first, passes_at_first}
 use Rattle.psi_log_words.specs.Refusal.{refused}
 use Rattle.psi_log_words.specs.Words.{is_comma, is_digit, is_numeral, pieces_of, number_in}
-use Rattle.psi_log_words.specs.declared.refusals.Cause.TheVariants.{Number}
+use Rattle.psi_log_words.specs.declared.refusals.LogCause.TheVariants.{Number}
 use Rattle.psi_log_words.proofs.NumeralLemmas.{digit_range, is_small, other_behind, not_number, not_small, too_large, too_small, is_number}
 
 -- a digit is no comma

@@ -4,16 +4,16 @@ use Rattle.std.specs.List.{list_all}
 use Rattle.std.specs.Fmt.{decimal}
 use Rattle.std.specs.Str.{bytes_eq}
 use Rattle.std.proofs.Common.{ap, sym, ◌∙◌, subst, arith, inl, inr}
-use Rattle.std.proofs.lemmas.Bool.{and_parts, and_from, leb-true, eq-eqb}
+use Rattle.std.proofs.lemmas.Bool.{and_parts, leb-true, eq-eqb}
 use Rattle.psi_state.specs.State.{Corners}
 use Rattle.psi_state.specs.Members.{In}
 use Rattle.psi_log_format.specs.Log.{LogRegion, in_box, in_set, IsBox}
 use Rattle.psi_log_format.specs.Text.{region_words, Change, changes, change_text, move_words}
 use Rattle.psi_log_words.specs.Refusal.{Refusal, refused, ◌>>=◌, holds_or}
 use Rattle.psi_log_words.specs.Words.{pieces_of, has_pieces, number_in}
-use Rattle.psi_log_words.specs.declared.refusals.Cause.TheVariants.{Shape}
+use Rattle.psi_log_words.specs.declared.refusals.LogCause.TheVariants.{Shape}
 use Rattle.psi_log_words.proofs.WordLemmas.{bind_ok, ok_same, held, same_word, lacks}
-use Rattle.psi_log_words.proofs.NumberLemmas.{number_found, number_again}
+use Rattle.psi_log_words.proofs.NumberLemmas.{number_found, number_again, all_map}
 use Rattle.psi_log_words.specs.Regions.{Given, given_box, given_set, given_move, box_form, set_form, move_form, form_of, read_change}
 use Rattle.psi_log_words.proofs.StateLemmas.{numbers_pieces, numbers_from_pieces, numbers_text_lacks}
 use Rattle.psi_log_words.proofs.MoveLemmas.{changes_in}
@@ -87,17 +87,11 @@ change_shaped : (queues : ℕ) (c : Change) → queues ≤ 32 → IsChange queue
 change_shaped queues c few is = eq-eqb (length (pieces_of (change_text c))) 3 (ap length (change_pieces queues c few is))
 
 pub changes_shaped : (queues : ℕ) (cs : List Change) → queues ≤ 32 → ((c : Change) → In c cs → IsChange queues c) → list_all (has_pieces 3) (map change_text cs) ≡ true
-changes_shaped queues [] few all = refl
-changes_shaped queues (c ∷ cs) few all =
-    and_from (has_pieces 3 (change_text c)) (list_all (has_pieces 3) (map change_text cs)) (change_shaped queues c few (all c (inl refl)))
-    (changes_shaped queues cs few (λ d there. all d (inr there)))
+changes_shaped queues cs few all = all_map (has_pieces 3) change_text cs (λ c there. change_shaped queues c few (all c there))
 
 pub changes_lack : (b queues : ℕ) (cs : List Change) → b < 44 → queues ≤ 32 → ((c : Change) → In c cs → IsChange queues c) → list_all (lacks b) (map change_text cs) ≡ true
-changes_lack b queues [] small few all = refl
-changes_lack b queues (c ∷ cs) small few all =
-    and_from (lacks b (change_text c)) (list_all (lacks b) (map change_text cs))
-    (numbers_text_lacks b (c.queue ∷ c.least ∷ c.greatest ∷ []) small (three_small queues c few (all c (inl refl))))
-    (changes_lack b queues cs small few (λ d there. all d (inr there)))
+changes_lack b queues cs small few all =
+    all_map (lacks b) change_text cs (λ c there. numbers_text_lacks b (c.queue ∷ c.least ∷ c.greatest ∷ []) small (three_small queues c few (all c there)))
 
 -- what changed between two boxes are changes
 pub moved_are : (queues : ℕ) (from to : Corners) → IsBox queues from → IsBox queues to → (c : Change) → In c (changes from to) → IsChange queues c

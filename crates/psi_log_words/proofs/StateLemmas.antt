@@ -1,5 +1,5 @@
 -- States: their words, and what is read of them.
-use Rattle.std.specs.Prelude.{◌≡◌, ℕ, zero, suc, ◌<◌, ◌≤◌, ◌^◌, List, [], ◌∷◌, length, map, slice_index, true, false, ◌==◌, nat_le, Result, Ok, refl}
+use Rattle.std.specs.Prelude.{◌≡◌, ℕ, zero, suc, ◌<◌, ◌≤◌, ◌^◌, List, [], ◌∷◌, length, map, slice_index, true, false, ◌==◌, nat_le, Ok, refl}
 use Rattle.std.specs.List.{join_with_byte, list_all}
 use Rattle.std.specs.Fmt.{decimal}
 use Rattle.std.specs.Cmp.Lexicographic.{pointwise}
@@ -16,11 +16,10 @@ use Rattle.psi_state.specs.Ascending.{IsRising}
 use Rattle.psi_state.proofs.AscendingLemmas.{cmp-through}
 use Rattle.psi_log_format.specs.Log.{IsState}
 use Rattle.psi_log_format.specs.Text.{numbers_text}
-use Rattle.psi_log_words.specs.Refusal.{Refusal, each}
+use Rattle.psi_log_words.specs.Refusal.{each}
 use Rattle.psi_log_words.specs.Words.{pieces_of, has_pieces, number_in}
-use Rattle.psi_log_words.specs.Refusal.{◌>>=◌}
-use Rattle.psi_log_words.proofs.WordLemmas.{bind_ok, ok_same, lacks, split-join, join-split, lacks-join}
-use Rattle.psi_log_words.proofs.NumberLemmas.{number_found, number_again, decimal_lacks, each_found, each_again}
+use Rattle.psi_log_words.proofs.WordLemmas.{lacks, split-join, join-split, lacks-join}
+use Rattle.psi_log_words.proofs.NumberLemmas.{number_found, number_again, decimal_lacks, all_each, all_map, each_found, each_again}
 use Rattle.psi_log_words.specs.Regions.{read_state, ascends}
 
 -- what holds of each member holds at each place, and the other way round
@@ -38,9 +37,7 @@ below_members k (w ∷ x) all v there = elim there [
 
 -- numbers of 64 bits have no bytes below 48 in their digits
 pub numbers_lack : (c : ℕ) (x : List ℕ) → c < 48 → ((v : ℕ) → In v x → v < 2 ^ 64) → list_all (lacks c) (map decimal x) ≡ true
-numbers_lack c [] small all = refl
-numbers_lack c (v ∷ x) small all =
-    and_from (lacks c (decimal v)) (list_all (lacks c) (map decimal x)) (decimal_lacks c v small (all v (inl refl))) (numbers_lack c x small (λ w there. all w (inr there)))
+numbers_lack c x small all = all_map (lacks c) decimal x (λ v there. decimal_lacks c v small (all v there))
 
 -- the word of numbers has their digits as its pieces
 pub numbers_pieces : (x : List ℕ) → 1 ≤ length x → ((v : ℕ) → In v x → v < 2 ^ 64) → pieces_of (numbers_text x) ≡ map decimal x
@@ -68,8 +65,8 @@ wide queues x is v there = (let small : v < 2 ^ 16 = below_members (2 ^ 16) x is
 pub state_found : (n queues : ℕ) (word x : List ℕ) → has_pieces queues word ≡ true → read_state n word ≡ Ok x → (word ≡ numbers_text x) × IsState queues x
 unfolding read_state
 state_found n queues word x shaped h =
-    let read = each_found (number_in n 0 65535) decimal (λ v. v < 2 ^ 16)
-    (λ a b r. (let f = number_found n 0 65535 a b (omega arith) r in (f.0, omega arith))) (pieces_of word) x h in
+    let read = each_found (number_in n 0 65535) decimal (λ v. v < 2 ^ 16) (pieces_of word) x
+    (λ a b there r. (let f = number_found n 0 65535 a b (omega arith) r in (f.0, omega arith))) h in
     let count : length (pieces_of word) ≡ length x = ap length read.0 ∙ length-map x decimal in
     let pieces : length (pieces_of word) ≡ queues = eqb-same (length (pieces_of word)) queues shaped in
     (numbers_from_pieces word x read.0, record { count = omega arith; each = below_places (2 ^ 16) x (omega arith) read.1 })
@@ -97,39 +94,17 @@ state_lacks c queues x small is = numbers_text_lacks c x small (wide queues x is
 -- states that are read one after another
 pub states_found : (n queues : ℕ) (words xs : List (List ℕ)) → list_all (has_pieces queues) words ≡ true → each (read_state n) words ≡ Ok xs
     → (words ≡ map numbers_text xs) × ((x : List ℕ) → In x xs → IsState queues x)
-unfolding each
-states_found n queues [] xs shaped h = (let e = empty xs h in subst (λ (ys : List (List ℕ)). ([] ≡ map numbers_text ys) × ((x : List ℕ) → In x ys → IsState queues x)) e (refl, λ x there. absurd there))
-  where
-    empty : (ys : List (List ℕ)) → ◌≡◌ {A = Result (List (List ℕ)) Refusal} (Ok []) (Ok ys) → [] ≡ ys
-    empty ys h = cc
-states_found n queues (word ∷ words) xs shaped h =
-    let parts = and_parts (has_pieces queues word) (list_all (has_pieces queues) words) shaped in
-    let first = bind_ok (read_state n word) (λ (b : List ℕ). each (read_state n) words >>= (λ (cs : List (List ℕ)). Ok (b ∷ cs))) xs h in
-    let others = bind_ok (each (read_state n) words) (λ (cs : List (List ℕ)). Ok (first.0 ∷ cs)) xs first.2 in
-    let head = state_found n queues word first.0 parts.0 first.1 in
-    let tail = states_found n queues words others.0 parts.1 others.1 in
-    subst (λ (cs : List (List ℕ)). (word ∷ words ≡ map numbers_text cs) × ((x : List ℕ) → In x cs → IsState queues x)) (ok_same (first.0 ∷ others.0) xs others.2) (
-      list_of word (numbers_text first.0) words (map numbers_text others.0) head.0 tail.0,
-      λ x there. elim there [ inl e ↦ subst (λ (y : List ℕ). IsState queues y) (sym e) head.1 | inr t ↦ tail.1 x t ],
-    )
-  where
-    list_of : (a b : List ℕ) (xs ys : List (List ℕ)) → a ≡ b → xs ≡ ys → a ∷ xs ≡ b ∷ ys
-    list_of a b xs ys e f = cc
+states_found n queues words xs shaped h =
+    each_found (read_state n) numbers_text (IsState queues) words xs (λ word x there r. state_found n queues word x (all_each (has_pieces queues) words word shaped there) r) h
 
 pub states_again : (n queues : ℕ) (xs : List (List ℕ)) → 1 ≤ queues → ((x : List ℕ) → In x xs → IsState queues x) → each (read_state n) (map numbers_text xs) ≡ Ok xs
 states_again n queues xs some all = each_again (read_state n) numbers_text (IsState queues) (λ x is. state_again n queues x some is) xs all
 
 pub states_shaped : (queues : ℕ) (xs : List (List ℕ)) → 1 ≤ queues → ((x : List ℕ) → In x xs → IsState queues x) → list_all (has_pieces queues) (map numbers_text xs) ≡ true
-states_shaped queues [] some all = refl
-states_shaped queues (x ∷ xs) some all =
-    and_from (has_pieces queues (numbers_text x)) (list_all (has_pieces queues) (map numbers_text xs)) (state_shaped queues x some (all x (inl refl)))
-    (states_shaped queues xs some (λ y there. all y (inr there)))
+states_shaped queues xs some all = all_map (has_pieces queues) numbers_text xs (λ x there. state_shaped queues x some (all x there))
 
 pub states_lack : (c queues : ℕ) (xs : List (List ℕ)) → c < 44 → ((x : List ℕ) → In x xs → IsState queues x) → list_all (lacks c) (map numbers_text xs) ≡ true
-states_lack c queues [] small all = refl
-states_lack c queues (x ∷ xs) small all =
-    and_from (lacks c (numbers_text x)) (list_all (lacks c) (map numbers_text xs)) (state_lacks c queues x small (all x (inl refl)))
-    (states_lack c queues xs small (λ y there. all y (inr there)))
+states_lack c queues xs small all = all_map (lacks c) numbers_text xs (λ x there. state_lacks c queues x small (all x there))
 
 -- the componentwise order, by a test
 pub below_found : (l h : List ℕ) → pointwise nat_le l h ≡ true → IsBelow l h

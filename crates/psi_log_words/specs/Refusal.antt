@@ -1,12 +1,12 @@
 -- The refusals of a text as a log, and what a function that reads may answer.
 use Rattle.std.specs.Prelude.{◌≡◌, ℕ, List, [], ◌∷◌, Bool, true, false, Result, Ok, Err}
-use Rattle.psi_log_words.specs.declared.refusals.Cause.{Cause}
-use Rattle.psi_log_words.specs.declared.refusals.Cause.TheVariants.{NotLog, Version, Number, Shape, Truncated, TrailingText, TooLong}
+use Rattle.psi_log_words.specs.declared.refusals.LogCause.{LogCause}
+use Rattle.psi_log_words.specs.declared.refusals.LogCause.TheVariants.{NotLog, Version, Number, Shape, Truncated, TrailingText, TooLong}
 use Rattle.psi_log_words.specs.declared.refusals.LogError.{LogError}
 use Rattle.psi_log_words.specs.declared.refusals.LogError.TheVariants.{Refused, OutOfMemory}
 
 -- the number of a cause
-abbrev pub code_of : Cause → ℕ
+abbrev pub code_of : LogCause → ℕ
 code_of NotLog = 1
 code_of Version = 2
 code_of Number = 3
@@ -21,7 +21,7 @@ pub record Refusal : Type 0 where
   pub cause : ℕ
 
 -- the refusal of a line
-abbrev pub refused : ℕ → Cause → Refusal
+abbrev pub refused : ℕ → LogCause → Refusal
 refused n cause = record { line = n; cause = code_of cause }
 
 -- one reading after another: the first refusal is the answer

@@ -10,7 +10,7 @@ use Rattle.psi_log_format.specs.Log.{LogRegion, in_box, in_set}
 use Rattle.psi_log_format.specs.Text.{Change}
 use Rattle.psi_log_words.specs.Refusal.{Refusal, refused, ◌>>=◌, holds_or, each}
 use Rattle.psi_log_words.specs.Words.{pieces_of, has_pieces, number_in}
-use Rattle.psi_log_words.specs.declared.refusals.Cause.TheVariants.{Shape}
+use Rattle.psi_log_words.specs.declared.refusals.LogCause.TheVariants.{Shape}
 
 -- a region's words in their form
 pub data Given : Type 0 where

@@ -4,7 +4,7 @@ use Rattle.std.specs.List.{position, slice_split, list_all}
 use Rattle.std.specs.Str.{bytes_eq}
 use Rattle.std.specs.Str.Parse.{digits_value}
 use Rattle.psi_log_words.specs.Refusal.{Refusal, refused, ◌>>=◌, holds_or}
-use Rattle.psi_log_words.specs.declared.refusals.Cause.TheVariants.{NotLog, Version, Number, Shape, Truncated}
+use Rattle.psi_log_words.specs.declared.refusals.LogCause.TheVariants.{NotLog, Version, Number, Shape, Truncated}
 
 -- a line feed
 abbrev pub is_feed : ℕ → Bool

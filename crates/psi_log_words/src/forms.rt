@@ -7,7 +7,7 @@ ghost use Rattle.psi_log_words.specs.Words.{has_pieces};
 ghost use Rattle.psi_log_words.specs.Regions.{box_form, set_form, move_form, form_of};
 ghost use Rattle.psi_log_words.specs.FormsViews.{given, HasForm};
 
-use crate::refusals::{Cause, LogError};
+use crate::refusals::{LogCause, LogError};
 use crate::words::has_pieces;
 use psi_state::{Bounds, MOST_SPLIT};
 
@@ -46,10 +46,10 @@ fn box_form<'w>(line: u32, queues: u8, words: &'w [&'w [u8]]) -> Result<Given<'w
             if has_pieces(queues as usize, lo) && has_pieces(queues as usize, hi) {
                 Ok(Given::Box(lo, hi))
             } else {
-                Err(Cause::Shape.at(line))
+                Err(LogCause::Shape.at(line))
             }
         }
-        _ => Err(Cause::Shape.at(line)),
+        _ => Err(LogCause::Shape.at(line)),
     }
 }
 
@@ -65,7 +65,7 @@ fn set_form<'w>(line: u32, queues: u8, words: &'w [&'w [u8]]) -> Result<Given<'w
     {
         Ok(Given::Set(words))
     } else {
-        Err(Cause::Shape.at(line))
+        Err(LogCause::Shape.at(line))
     }
 }
 
@@ -78,7 +78,7 @@ fn move_form<'w>(line: u32, from: &'w Bounds, words: &'w [&'w [u8]]) -> Result<G
     if words.len() <= 32 && are_shaped(3, words) {
         Ok(Given::Move(from, words))
     } else {
-        Err(Cause::Shape.at(line))
+        Err(LogCause::Shape.at(line))
     }
 }
 
@@ -100,7 +100,7 @@ pub fn form_of<'w>(
     ensures form { IfOk result (λ given. HasForm queues given) }
 {
     let [name, words @ ..] = words else {
-        return Err(Cause::Shape.at(line));
+        return Err(LogCause::Shape.at(line));
     };
     if *name == b"set".as_slice() {
         return set_form(line, queues, words);
@@ -108,6 +108,6 @@ pub fn form_of<'w>(
     match before {
         Some(from) if *name == b"move".as_slice() => move_form(line, from, words),
         None if *name == b"box".as_slice() => box_form(line, queues, words),
-        _ => Err(Cause::Shape.at(line)),
+        _ => Err(LogCause::Shape.at(line)),
     }
 }

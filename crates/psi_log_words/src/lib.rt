@@ -12,6 +12,6 @@ mod words;
 pub use forms::{Given, form_of};
 pub use moves::{Change, is_change};
 pub use numbers::{number_in, piece_in};
-pub use refusals::{Cause, LogError};
+pub use refusals::{LogCause, LogError};
 pub use regions::{read_given, read_state};
 pub use words::{has_pieces, line_of, read_named, read_version, read_words};

@@ -9,7 +9,7 @@ ghost use Rattle.psi_log_words.specs.Regions.{read_change, is_change, read_given
 ghost use Rattle.psi_log_words.specs.ChangesViews.{change};
 
 use crate::numbers::piece_in;
-use crate::refusals::{Cause, LogError};
+use crate::refusals::{LogCause, LogError};
 use psi_state::Bounds;
 
 /// A queue, with the least and the greatest number of customers that it holds from now on.
@@ -82,7 +82,7 @@ pub(crate) fn read_move(
         }
     }
     if !ordered {
-        return Err(Cause::Shape.at(line));
+        return Err(LogCause::Shape.at(line));
     }
     Ok(to)
 }

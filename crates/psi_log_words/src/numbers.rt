@@ -6,7 +6,7 @@ ghost use Rattle.std.specs.Str.Parse.{digits_value};
 ghost use Rattle.psi_log_words.specs.Refusal.{Gives};
 ghost use Rattle.psi_log_words.specs.Words.{is_comma, is_digit, is_numeral, number_in};
 
-use crate::refusals::{Cause, LogError};
+use crate::refusals::{LogCause, LogError};
 
 // The number with one digit more, where it has 64 bits.
 fn with_digit(value: u64, byte: u8) -> Option<u64>
@@ -60,12 +60,12 @@ pub fn number_in(line: u32, least: u64, most: u64, word: &[u8]) -> Result<u64, L
     ensures range { IfOk result (λ n. (least ≤ n) × (n ≤ most)) }
 {
     let Some((value, count)) = numeral(word) else {
-        return Err(Cause::Number.at(line));
+        return Err(LogCause::Number.at(line));
     };
     if count == word.len() && least <= value && value <= most {
         return Ok(value);
     }
-    Err(Cause::Number.at(line))
+    Err(LogCause::Number.at(line))
 }
 
 /// Returns the number from 0 to `most` that is the first piece of a word, and what follows the comma after it; nothing
@@ -80,10 +80,10 @@ pub fn piece_in(line: u32, most: u64, word: &[u8]) -> Result<(u64, &[u8]), LogEr
     ensures rest { IfOk result (λ read. read.1.now ≡ after_first is_comma word.now) }
 {
     let Some((value, count)) = numeral(word) else {
-        return Err(Cause::Number.at(line));
+        return Err(LogCause::Number.at(line));
     };
     if value > most {
-        return Err(Cause::Number.at(line));
+        return Err(LogCause::Number.at(line));
     }
     if count == word.len() {
         return Ok((value, &[]));
@@ -92,5 +92,5 @@ pub fn piece_in(line: u32, most: u64, word: &[u8]) -> Result<(u64, &[u8]), LogEr
         let (_, rest) = word.split_at(count + 1);
         return Ok((value, rest));
     }
-    Err(Cause::Number.at(line))
+    Err(LogCause::Number.at(line))
 }

@@ -8,7 +8,7 @@ use std::alloc::{AllocError, AllocFailed};
 
 /// Why a line is refused.
 #[derive(Clone, Copy, PartialEq, Eq, Debug)]
-pub enum Cause {
+pub enum LogCause {
     /// 1: line 1 doesn't begin with `psi-log ` and its space.
     NotLog,
     /// 2: line 1 goes on with anything but `1` or `2`.
@@ -33,26 +33,26 @@ pub enum LogError {
     Refused {
         /// The first line that is refused, counted from 1; 0 where the text is too long.
         line: u32,
-        /// The number of the line's first cause, 1 to 7, as [`Cause`] has them.
+        /// The number of the line's first cause, 1 to 7, as [`LogCause`] has them.
         cause: u8,
     },
     /// Memory ran out.
     OutOfMemory,
 }
 
-impl Cause {
+impl LogCause {
     /// Returns the number of the cause.
     pub fn code(self) -> u8
         ensures { result ≡ code_of self }
     {
         match self {
-            Cause::NotLog => 1,
-            Cause::Version => 2,
-            Cause::Number => 3,
-            Cause::Shape => 4,
-            Cause::Truncated => 5,
-            Cause::TrailingText => 6,
-            Cause::TooLong => 7,
+            LogCause::NotLog => 1,
+            LogCause::Version => 2,
+            LogCause::Number => 3,
+            LogCause::Shape => 4,
+            LogCause::Truncated => 5,
+            LogCause::TrailingText => 6,
+            LogCause::TooLong => 7,
         }
     }
 

@@ -12,7 +12,7 @@ ghost use Rattle.psi_log_format.specs.Log.{in_box};
 use crate::forms::Given;
 use crate::moves::read_move;
 use crate::numbers::piece_in;
-use crate::refusals::{Cause, LogError};
+use crate::refusals::{LogCause, LogError};
 use psi_log_format::{ListedRegion, StateList};
 use psi_state::{Bounds, State};
 
@@ -103,7 +103,7 @@ fn read_box(line: u32, queues: u8, lo: &[u8], hi: &[u8]) -> Result<Bounds, LogEr
     let lo = read_state(line, queues, lo)?;
     let hi = read_state(line, queues, hi)?;
     if !lo.leq(&hi) {
-        return Err(Cause::Shape.at(line));
+        return Err(LogCause::Shape.at(line));
     }
     Ok(Bounds::new(lo, hi))
 }
@@ -131,7 +131,7 @@ fn read_set(
     let first = states.len();
     read_states(line, queues, words, states)?;
     if !ascends(states, first) {
-        return Err(Cause::Shape.at(line));
+        return Err(LogCause::Shape.at(line));
     }
     Ok(ListedRegion::Set {
         first,

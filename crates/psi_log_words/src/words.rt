@@ -7,7 +7,7 @@ ghost use Rattle.psi_log_words.specs.Refusal.{Gives, IsLogError};
 ghost use Rattle.psi_log_words.specs.Words.{is_feed, is_comma, line_of, words_of, has_pieces, read_version, read_named};
 
 use crate::numbers::number_in;
-use crate::refusals::{Cause, LogError};
+use crate::refusals::{LogCause, LogError};
 use std::alloc::AllocError;
 
 // One word more than a line may have: that of a step with a set has `step`, two numbers, `set`, and 4,096 states.
@@ -35,7 +35,7 @@ pub fn line_of(line: u32, text: &[u8]) -> Result<(&[u8], &[u8]), LogError>
             let (_, rest) = text.split_at(at + 1);
             Ok((first, rest))
         }
-        None => Err(Cause::Truncated.at(line)),
+        None => Err(LogCause::Truncated.at(line)),
     }
 }
 
@@ -78,7 +78,7 @@ pub fn read_words<'t>(
             first = at + 1;
         }
     }
-    Err(Cause::Truncated.at(line))
+    Err(LogCause::Truncated.at(line))
 }
 
 // The number of commas.
@@ -114,11 +114,11 @@ pub fn read_version(line: &[u8]) -> Result<u8, LogError>
     ensures { Gives (λ version. version) result (read_version line.now) }
 {
     if line.len() < 8 {
-        return Err(Cause::NotLog.at(1));
+        return Err(LogCause::NotLog.at(1));
     }
     let (front, rest) = line.split_at(8);
     if front != b"psi-log ".as_slice() {
-        return Err(Cause::NotLog.at(1));
+        return Err(LogCause::NotLog.at(1));
     }
     if rest == b"1".as_slice() {
         return Ok(1);
@@ -126,7 +126,7 @@ pub fn read_version(line: &[u8]) -> Result<u8, LogError>
     if rest == b"2".as_slice() {
         return Ok(2);
     }
-    Err(Cause::Version.at(1))
+    Err(LogCause::Version.at(1))
 }
 
 /// Returns the number from `least` to `most` that the words of a line name.
@@ -149,10 +149,10 @@ pub fn read_named(
     match words {
         [first, number] => {
             if *first != name {
-                return Err(Cause::Shape.at(line));
+                return Err(LogCause::Shape.at(line));
             }
             number_in(line, least, most, number)
         }
-        _ => Err(Cause::Shape.at(line)),
+        _ => Err(LogCause::Shape.at(line)),
     }
 }

@@ -10,7 +10,7 @@ use Rattle.psi_state.specs.Hull.{corners}
 use Rattle.psi_state.proofs.MembersLemmas.{In-of_map, In-of_numbers_from}
 use Rattle.psi_event.specs.Law.{IsClosed}
 use Rattle.psi_rate.specs.Rates.{total, least_power, event_of}
-use Rattle.psi_rate.specs.Composition.{Parts, AreClosed}
+use Rattle.psi_rate.specs.Composition.{SystemParts, AreClosed}
 use Rattle.psi_rate.proofs.RatesLemmas.{event_at-below}
 use Rattle.psi_region.specs.Region.{Area, start, splits, step}
 use Rattle.psi_region.proofs.RegionLemmas.{step-has, step-split, step-box}
@@ -22,8 +22,9 @@ use Rattle.psi_log_format.specs.Log.{LogRegion, in_box, in_set, Entry, greatest_
 use Rattle.psi_log_words.specs.Refusal.{Refusal, ◌>>=◌, holds_or}
 use Rattle.psi_log_words.proofs.StateLemmas.{below_again}
 use Rattle.psi_replay.specs.Verdict.{rejected, states_of, has, covers, is_within, is_small, holds_all, judge_step, judge_steps, judge_end, judged, verdict_of, event_numbers}
-use Rattle.psi_replay.specs.declared.causes.Cause.TheVariants.{Header, StepNumber, WrongEvent, OutsideBox, NotCovered, SplitTooLarge, NotSingle, WrongState}
-use Rattle.psi_replay.proofs.ListLemmas.{all_from, has-from_In}
+use Rattle.psi_replay.specs.declared.causes.RuleCause.TheVariants.{Header, StepNumber, WrongEvent, OutsideBox, NotCovered, SplitTooLarge, NotSingle, WrongState}
+use Rattle.psi_log_words.proofs.NumberLemmas.{all_from}
+use Rattle.psi_replay.proofs.ListLemmas.{has-from_In}
 use Rattle.psi_log_writer.specs.Recorded.{region_of, entry_after, recorded}
 use Rattle.psi_log_writer.specs.Accepted.{LogsAreAccepted}
 use Rattle.psi_log_writer.proofs.WalkingLemmas.{region_of-set}
@@ -209,7 +210,7 @@ logs-accepted split f caps events limit h state runs head ends =
     }
 
 -- the log of a network's run
-pub events-few : {E : Type 0} (system : Parts E) (words : ℕ → ℕ) (t : ℕ) → length system.rates ≤ 1024 → event_numbers system words t ≤ 1024
+pub events-few : {E : Type 0} (system : SystemParts E) (words : ℕ → ℕ) (t : ℕ) → length system.rates ≤ 1024 → event_numbers system words t ≤ 1024
 unfolding event_of
 events-few system words t few =
     let below : event_numbers system words t ≤ length system.rates = event_at-below system.rates (words (t - 1) % least_power (total system.rates)) in

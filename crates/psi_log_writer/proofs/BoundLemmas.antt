@@ -22,20 +22,53 @@ use Rattle.psi_log_writer.proofs.WalkingLemmas.{next-set}
 use Rattle.psi_log_writer.proofs.TextLemmas.{front_text-more, log_text-recorded}
 use Rattle.psi_log_writer.proofs.RegionLemmas.{length-image, kept-after, state-below}
 
+-- one more of a number of things
+pub times-more : (k m : ℕ) → suc k * m ≡ m + k * m
+times-more k m = omega arith
+
+-- each number of a list has at most so many digits
+abbrev pub AreShort : ℕ → List ℕ → Type 0
+AreShort w x = (i : ℕ) → length (decimal (slice_index x i)) ≤ w
+
+numbers-within : (w : ℕ) (x : List ℕ) → AreShort w x → length (numbers_text x) ≤ length x * suc w
+unfolding numbers_text
+numbers-within w [] each = omega arith
+numbers-within w (a ∷ []) each = (let own : length (decimal a) ≤ w = each 0 in let one = times-more 0 (suc w) in omega arith)
+numbers-within w (a ∷ b ∷ x) each =
+    let own : length (decimal a) ≤ w = each 0 in
+    let rest : length (numbers_text (b ∷ x)) ≤ length (b ∷ x) * suc w = numbers-within w (b ∷ x) (λ i. each (suc i)) in
+    let count : length (numbers_text (a ∷ b ∷ x)) ≡ length (decimal a) + length (44 ∷ numbers_text (b ∷ x)) = length-append (decimal a) (44 ∷ numbers_text (b ∷ x)) in
+    let all = times-more (length (b ∷ x)) (suc w) in
+    omega arith
+
+-- the words of states of so many queues
+set-within : (n w : ℕ) (xs : List (List ℕ)) → ((x : List ℕ) → In x xs → (length x ≡ n) × AreShort w x) → length (spaced_words (map numbers_text xs)) ≤ length xs * suc (n * suc w)
+unfolding spaced_words
+set-within n w [] each = omega arith
+set-within n w (x ∷ xs) each =
+    let own = each x (inl refl) in
+    let size : length x ≡ n = own.0 in
+    let text : length (numbers_text x) ≤ n * suc w = subst (λ k. length (numbers_text x) ≤ k * suc w) size (numbers-within w x own.1) in
+    let rest = set-within n w xs (λ y member. each y (inr member)) in
+    let count : length (spaced_words (map numbers_text (x ∷ xs))) ≡ length (32 ∷ numbers_text x) + length (spaced_words (map numbers_text xs)) = length-append (32 ∷ numbers_text x) (spaced_words (map numbers_text xs)) in
+    let all : length (x ∷ xs) * suc (n * suc w) ≡ suc (n * suc w) + length xs * suc (n * suc w) = times-more (length xs) (suc (n * suc w)) in
+    omega arith
+
+-- the words of a set with its name
+pub named-set : (n w : ℕ) (xs : List (List ℕ)) → ((x : List ℕ) → In x xs → (length x ≡ n) × AreShort w x)
+    → length (spaced_words (region_words (in_set xs))) ≤ 4 + length xs * suc (n * suc w)
+unfolding spaced_words
+named-set n w xs each =
+    let own = set-within n w xs each in
+    let count : length (spaced_words (region_words (in_set xs))) ≡ 4 + length (spaced_words (map numbers_text xs)) = length-append (32 ∷ codes "set") (spaced_words (map numbers_text xs)) in
+    omega arith
+
 -- a number of 16 bits has at most five digits
 number-short : (n : ℕ) → n < 2 ^ 16 → length (decimal n) ≤ 5
 number-short n small = length-decimal-le 5 n (omega arith) (omega arith) (omega arith)
 
--- the text of such numbers
 pub numbers-short : (x : List ℕ) → ((i : ℕ) → slice_index x i < 2 ^ 16) → length (numbers_text x) ≤ 6 * length x
-unfolding numbers_text
-numbers-short [] each = omega arith
-numbers-short (a ∷ []) each = (let own = number-short a (each 0) in omega arith)
-numbers-short (a ∷ b ∷ x) each =
-    let own = number-short a (each 0) in
-    let rest : length (numbers_text (b ∷ x)) ≤ 6 * length (b ∷ x) = numbers-short (b ∷ x) (λ i. each (suc i)) in
-    let count : length (numbers_text (a ∷ b ∷ x)) ≡ length (decimal a) + length (44 ∷ numbers_text (b ∷ x)) = length-append (decimal a) (44 ∷ numbers_text (b ∷ x)) in
-    omega arith
+numbers-short x each = (let all = numbers-within 5 x (λ i. number-short (slice_index x i) (each i)) in omega arith)
 
 pub end-short : (x : List ℕ) → IsVector x → length (end_text x) ≤ 200
 end-short x vector =
@@ -43,23 +76,6 @@ end-short x vector =
     let few = vector.few in
     let count : length (end_text x) ≡ 3 + length ((32 ∷ numbers_text x) ++ codes "\n") = ap (λ (t : List ℕ). length t) (end_pieces x) ∙ length-append (codes "end") ((32 ∷ numbers_text x) ++ codes "\n") in
     let rest : length ((32 ∷ numbers_text x) ++ codes "\n") ≡ length (32 ∷ numbers_text x) + 1 = length-append (32 ∷ numbers_text x) (codes "\n") in
-    omega arith
-
--- one more of a number of things
-pub times-more : (k m : ℕ) → suc k * m ≡ m + k * m
-times-more k m = omega arith
-
--- the words of states of so many queues
-set-short : (n : ℕ) (xs : List (List ℕ)) → ((x : List ℕ) → In x xs → IsState n x) → length (spaced_words (map numbers_text xs)) ≤ length xs * (6 * n + 1)
-unfolding spaced_words
-set-short n [] each = omega arith
-set-short n (x ∷ xs) each =
-    let own = each x (inl refl) in
-    let text : length (numbers_text x) ≤ 6 * length x = numbers-short x own.each in
-    let size : length x ≡ n = own.count in
-    let rest = set-short n xs (λ y member. each y (inr member)) in
-    let count : length (spaced_words (map numbers_text (x ∷ xs))) ≡ length (32 ∷ numbers_text x) + length (spaced_words (map numbers_text xs)) = length-append (32 ∷ numbers_text x) (spaced_words (map numbers_text xs)) in
-    let all : length (x ∷ xs) * (6 * n + 1) ≡ (6 * n + 1) + length xs * (6 * n + 1) = times-more (length xs) (6 * n + 1) in
     omega arith
 
 -- the line of a step
@@ -77,13 +93,11 @@ step-short s words number event =
     ap (λ (t : List ℕ). length t) (step_pieces s words) ∙ length-append (codes "step" ++ head) (spaced_words words ++ codes "\n") in
     omega arith
 
--- the words of a set with its name
 named-short : (n : ℕ) (xs : List (List ℕ)) → ((x : List ℕ) → In x xs → IsState n x) → length (spaced_words (region_words (in_set xs))) ≤ 4 + length xs * (6 * n + 1)
-unfolding spaced_words
 named-short n xs each =
-    let own = set-short n xs each in
-    let count : length (spaced_words (region_words (in_set xs))) ≡ 4 + length (spaced_words (map numbers_text xs)) = length-append (32 ∷ codes "set") (spaced_words (map numbers_text xs)) in
-    omega arith
+    let e : suc (n * 6) ≡ 6 * n + 1 = omega arith in
+    subst (λ k. length (spaced_words (region_words (in_set xs))) ≤ 4 + length xs * k) e
+    (named-set n 5 xs (λ x member. ((each x member).count, λ i. number-short (slice_index x i) ((each x member).each i))))
 
 module _ (split : ℕ) (f : ℕ → List ℕ → List ℕ) (caps : List ℕ) (events : ℕ → ℕ) (horizon : ℕ) where
   -- a set of so many states at most

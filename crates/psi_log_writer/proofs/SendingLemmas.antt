@@ -173,12 +173,8 @@ sent-next a b block held line after text next more is s =
 
 -- what waits is written at the end
 pub sends-last : (r : Result (Unit {0}) SinkFault) (a b c : SinkState) (waiting text : List ℕ) → IsSent a b waiting text → Sends r b c [] waiting → Sends r a c [] text
-sends-last (Ok done) a b c waiting text s r =
-    subst (λ (xs : List ℕ). IsSent a c [] xs) (append-nil text)
-    (sent-more a b c waiting [] text [] s (subst (λ (xs : List ℕ). IsSent b c [] xs) (sym (append-nil waiting)) r))
-sends-last (Err fault) a b c waiting text s r =
-    subst (λ (xs : List ℕ). IsStopped a c xs) (append-nil text)
-    (stopped-more a b c waiting text [] s (subst (λ (xs : List ℕ). IsStopped b c xs) (sym (append-nil waiting)) r))
+sends-last (Ok done) a b c waiting text s r = sent-on a b c waiting [] text s r
+sends-last (Err fault) a b c waiting text s r = stopped-on a b c waiting text [] text (append-nil text) s r
 
 -- what an answer says where nothing waits
 pub sends-whole : (r : Result (Unit {0}) SinkFault) (a b : SinkState) (text : List ℕ) → Sends r a b [] text → OnOk r (b.held ≡ appended a.held text)

@@ -2,7 +2,7 @@
 use Rattle.std.proofs.Common.{◌≡◌, ℕ, zero, suc, ◌+◌, ◌-◌, ◌<◌, ◌≤◌, List, [], ◌∷◌, ◌++◌, length, Bool, map, if◌then◌else◌, refl, sym, ◌∙◌, ap, subst, append_assoc, append-nil, arith}
 use Rattle.std.proofs.lemmas.Bool.{lt-ltb, le-ltb}
 use Rattle.psi_state.specs.State.{numbers_from}
-use Rattle.psi_rate.specs.Composition.{Parts, system_functions}
+use Rattle.psi_rate.specs.Composition.{SystemParts, system_functions}
 use Rattle.psi_region.specs.Region.{start}
 use Rattle.psi_horizon.specs.Runs.{region_after}
 use Rattle.psi_log_format.specs.declared.header.Header.{Header}
@@ -141,7 +141,7 @@ module _ (split : ℕ) (f : ℕ → List ℕ → List ℕ) (caps : List ℕ) (ev
       (ap (λ (b : Bool). if b then 8192 else 0) (le-ltb done h.horizon (omega arith))) held (line_at-end h state done (omega arith)) is
 
 -- the lemmas on `text_before`, for `text_in` of a network's runs under these words
-module _ {E : Type 0} (function : E → List ℕ → List ℕ) (system : Parts E) (words : ℕ → ℕ) (h : Header) (state : List ℕ) where
+module _ {E : Type 0} (function : E → List ℕ → List ℕ) (system : SystemParts E) (words : ℕ → ℕ) (h : Header) (state : List ℕ) where
   pub text_in-none : text_in function system words h state 0 ≡ []
   text_in-none = text_before-none system.split (system_functions function system words) system.caps (event_numbers system words) h state
 
@@ -160,8 +160,8 @@ pub same-both : {A B : Type 0} (P : A → B → Type 0) (s t : A) (v w : B) → 
 same-both P s t v w first second is = subst (λ a. P a w) first (subst (λ b. P s b) second is)
 
 -- the line that is held, where nothing was held before it
-pub line-only : {E : Type 0} (function : E → List ℕ → List ℕ) (s t : Parts E) (v w : ℕ → ℕ) (h : Header) (state : List ℕ) (place : ℕ) (old new bytes : List ℕ) → s ≡ t → v ≡ w → old ≡ []
+pub line-only : {E : Type 0} (function : E → List ℕ → List ℕ) (s t : SystemParts E) (v w : ℕ → ℕ) (h : Header) (state : List ℕ) (place : ℕ) (old new bytes : List ℕ) → s ≡ t → v ≡ w → old ≡ []
     → new ≡ old ++ line_in function s v h state place → bytes ≡ new → bytes ≡ line_in function t w h state place
 line-only {E} function s t v w h state place old new bytes first second none is held =
-    same-both (λ (p : Parts E) (x : ℕ → ℕ). bytes ≡ line_in function p x h state place) s t v w first second
+    same-both (λ (p : SystemParts E) (x : ℕ → ℕ). bytes ≡ line_in function p x h state place) s t v w first second
     (held ∙ is ∙ ap (λ (xs : List ℕ). xs ++ line_in function s v h state place) none)

@@ -1,10 +1,11 @@
 -- What a run tells of its regions gives the words of their lines.
 use Rattle.std.proofs.Common.{◌≡◌, ℕ, suc, ◌+◌, ◌-◌, ◌<◌, ◌≤◌, List, ◌++◌, Bool, true, Option, Some, None, IfSome, if◌then◌else◌, refl, sym, ◌∙◌, ap, subst, add-one, arith}
+use Rattle.std.proofs.lemmas.Option.{IfSome_then}
 use Rattle.psi_state.specs.State.{Corners, IsBelow}
 use Rattle.psi_state.specs.Hull.{corners}
 use Rattle.psi_state.specs.declared.outcome.Step.{Step}
 use Rattle.psi_state.proofs.StatesLemmas.{corners-box}
-use Rattle.psi_rate.specs.Composition.{Parts, system_functions}
+use Rattle.psi_rate.specs.Composition.{SystemParts, system_functions}
 use Rattle.psi_region.specs.Region.{Area, ShowsBox}
 use Rattle.psi_horizon.specs.Planned.{Running, Planned, onward}
 use Rattle.psi_horizon.specs.Runs.{region_after}
@@ -63,10 +64,6 @@ pub if_some-onward : (S : ℕ → ℕ → Type 0) (o : Option Running) → IfSom
 if_some-onward S None is = tt
 if_some-onward S (Some r) is = subst (λ n. S r.horizon n) (add-one r.done) is
 
-pub if_some-map : {A : Type 0} (P Q : A → Type 0) (o : Option A) → ((a : A) → P a → Q a) → IfSome o P → IfSome o Q
-if_some-map P Q None each is = tt
-if_some-map P Q (Some a) each is = each a is
-
 -- what is told of a plan's region after a step
 pub told-next : {E P : Type 0} (function : E → List ℕ → List ℕ) (words : P → ℕ → ℕ) (old new : Planned E P) (told : Option Corners) → new ≡ record old { run = onward old.run }
     → IfSome new.run (λ r. ShowsBox (region_after new.system.split (system_functions function new.system (words new.past)) new.system.caps r.horizon r.done) told)
@@ -78,10 +75,10 @@ told-next {E} {P} function words old new told is shown ordered within =
     let here : IfSome (onward old.run) (λ r. ShowsBox (region_after system.split f system.caps r.horizon r.done) told) =
     subst (λ (p : Planned E P). IfSome p.run (λ r. ShowsBox (region_after p.system.split (system_functions function p.system (words p.past)) p.system.caps r.horizon r.done) told)) is shown in
     let below : IfSome told (λ b. IsBelow b.hi system.caps) = subst (λ (p : Planned E P). IfSome told (λ b. IsBelow b.hi p.system.caps)) is within in
-    if_some-map (λ r. ShowsBox (region_after system.split f system.caps r.horizon (suc r.done)) told)
-    (λ r. IsToldAfter function system (words old.past) r.horizon (suc r.done) told) old.run
-    (λ r shows. record { shown = shows; ordered = ordered; within = below })
+    IfSome_then old.run {P = λ r. ShowsBox (region_after system.split f system.caps r.horizon (suc r.done)) told}
+    {Q = λ r. IsToldAfter function system (words old.past) r.horizon (suc r.done) told}
     (if_some-onward (λ horizon done. ShowsBox (region_after system.split f system.caps horizon done) told) old.run here)
+    (λ r shows. record { shown = shows; ordered = ordered; within = below })
 
 -- and what its states are
 pub states-next : {E P : Type 0} (function : E → List ℕ → List ℕ) (words : P → ℕ → ℕ) (old new : Planned E P) (states : List (List ℕ)) → new ≡ record old { run = onward old.run }
@@ -94,7 +91,7 @@ states-next {E} {P} function words old new states is shown =
     (subst (λ (p : Planned E P). IfSome p.run (λ r. states ≡ (region_after p.system.split (system_functions function p.system (words p.past)) p.system.caps r.horizon r.done).states)) is shown)
 
 -- the line of a step after which the region is a box
-pub line-box : {E : Type 0} (function : E → List ℕ → List ℕ) (system : Parts E) (words : ℕ → ℕ) (o : Option Running) (s : Step) (before : Option Corners) (to : Corners) (front line : List ℕ)
+pub line-box : {E : Type 0} (function : E → List ℕ → List ℕ) (system : SystemParts E) (words : ℕ → ℕ) (o : Option Running) (s : Step) (before : Option Corners) (to : Corners) (front line : List ℕ)
     → IfSome o (λ r. s.number ≡ r.horizon - r.done) → s.event ≡ event_numbers system words s.number
     → IfSome o (λ r. IsToldAfter function system words r.horizon r.done before) → IfSome o (λ r. IsToldAfter function system words r.horizon (suc r.done) (Some to))
     → line ≡ front ++ step_text s (box_words before to) → IfSome o (λ r. line ≡ front ++ line_of function system words r.horizon r.done)
@@ -105,7 +102,7 @@ line-box function system words (Some r) s before to front line number event firs
     (next-box system.caps (region_after system.split f system.caps r.horizon r.done) (region_after system.split f system.caps r.horizon (suc r.done)) before to first second))
 
 -- and of one after which it is a set
-pub line-set : {E : Type 0} (function : E → List ℕ → List ℕ) (system : Parts E) (words : ℕ → ℕ) (o : Option Running) (s : Step) (states : List (List ℕ)) (front line : List ℕ)
+pub line-set : {E : Type 0} (function : E → List ℕ → List ℕ) (system : SystemParts E) (words : ℕ → ℕ) (o : Option Running) (s : Step) (states : List (List ℕ)) (front line : List ℕ)
     → IfSome o (λ r. s.number ≡ r.horizon - r.done) → s.event ≡ event_numbers system words s.number
     → IfSome o (λ r. IsToldAfter function system words r.horizon (suc r.done) None)
     → IfSome o (λ r. states ≡ (region_after system.split (system_functions function system words) system.caps r.horizon (suc r.done)).states)
@@ -122,10 +119,10 @@ if_some-at : {A : Type 0} (P : A → Type 0) (o : Option A) (a : A) → o ≡ So
 if_some-at P o a is some = subst (λ v. IfSome v P) is some
 
 -- a line that is put after others
-pub line-same : {E : Type 0} (function : E → List ℕ → List ℕ) (s t : Parts E) (v w : ℕ → ℕ) (h : Header) (state : List ℕ) (place : ℕ) (old new : List ℕ) → s ≡ t → v ≡ w
+pub line-same : {E : Type 0} (function : E → List ℕ → List ℕ) (s t : SystemParts E) (v w : ℕ → ℕ) (h : Header) (state : List ℕ) (place : ℕ) (old new : List ℕ) → s ≡ t → v ≡ w
     → new ≡ old ++ line_in function s v h state place → new ≡ old ++ line_in function t w h state place
 line-same {E} function s t v w h state place old new first second is =
-    same-both (λ (p : Parts E) (x : ℕ → ℕ). new ≡ old ++ line_in function p x h state place) s t v w first second is
+    same-both (λ (p : SystemParts E) (x : ℕ → ℕ). new ≡ old ++ line_in function p x h state place) s t v w first second is
 
 -- a run of which so many steps are done
 abbrev some-run : ℕ → ℕ → Option Running

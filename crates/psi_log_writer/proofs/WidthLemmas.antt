@@ -1,5 +1,5 @@
 -- How long the lines of a run are at most, by the digits of the capacities, the number of the queues and the split number.
-use Rattle.std.proofs.Common.{◌≡◌, ◌⊎◌, ℕ, zero, suc, ◌+◌, ◌-◌, ◌*◌, ◌<◌, ◌≤◌, ◌^◌, List, [], ◌∷◌, ◌++◌, length, map, codes, Bool, false, slice_index, inl, inr, refl, sym, ◌∙◌, ap, subst, arith, length-append, ⊎_elim}
+use Rattle.std.proofs.Common.{◌≡◌, ◌⊎◌, ℕ, zero, suc, ◌+◌, ◌-◌, ◌*◌, ◌<◌, ◌≤◌, ◌^◌, List, [], ◌∷◌, ◌++◌, length, map, codes, Bool, false, slice_index, inl, inr, refl, sym, ◌∙◌, ap, arith, length-append, ⊎_elim}
 use Rattle.std.specs.Prelude.{cond}
 use Rattle.std.specs.Fmt.{decimal}
 use Rattle.std.specs.List.{filter}
@@ -8,14 +8,13 @@ use Rattle.std.proofs.lemmas.Fmt.{length-decimal-le}
 use Rattle.std.proofs.lemmas.Bool.{true≢false, cases_Bool, cases_lt}
 use Rattle.std.proofs.lemmas.List.{get_or_past}
 use Rattle.psi_state.specs.State.{Corners, IsBelow, IsVector, AreCapacities, numbers_from}
-use Rattle.psi_state.specs.Members.{In}
 use Rattle.psi_state.specs.Hull.{lows, highs, corners, HaveLength, IsTight}
 use Rattle.psi_state.specs.Boxes.{IsBetween}
 use Rattle.psi_state.proofs.BoxesLemmas.{below-through}
 use Rattle.psi_state.proofs.HullLemmas.{corners-tight}
 use Rattle.psi_state.specs.declared.outcome.Step.{Step}
 use Rattle.psi_event.specs.Law.{IsClosed}
-use Rattle.psi_rate.specs.Composition.{Parts, AreClosed, system_functions}
+use Rattle.psi_rate.specs.Composition.{SystemParts, AreClosed, system_functions}
 use Rattle.psi_rate.specs.System.{IsSystem}
 use Rattle.psi_rate.proofs.FunctionsLemmas.{functions-closed}
 use Rattle.psi_rate.proofs.PowersLemmas.{pow-order}
@@ -24,21 +23,17 @@ use Rattle.psi_region.proofs.RegionLemmas.{tight-high}
 use Rattle.psi_horizon.specs.Runs.{region_after}
 use Rattle.psi_log_format.specs.declared.header.Header.{Header}
 use Rattle.psi_log_format.specs.Log.{LogRegion, in_box, in_set}
-use Rattle.psi_log_format.specs.Text.{numbers_text, region_words, differs, change_to, change_text, move_words, next_words, step_text, end_text, log_text}
+use Rattle.psi_log_format.specs.Text.{numbers_text, region_words, differs, change_to, change_text, move_words, next_words, step_text, log_text}
 use Rattle.psi_log_format.specs.Room.{spaced_words, picked}
 use Rattle.psi_log_format.proofs.JoinedLemmas.{spaced-append, one_word, picked-append, moved}
 use Rattle.psi_replay.specs.Verdict.{event_numbers}
 use Rattle.psi_log_writer.specs.Recorded.{region_of, recorded, log_of}
 use Rattle.psi_log_writer.specs.Walking.{step_line, front_text, text_in, IsRoomy, IsAmpleAfter}
 use Rattle.psi_log_writer.proofs.WalkingLemmas.{next-set}
-use Rattle.psi_log_writer.proofs.TextLemmas.{front_text-more, log_text-recorded, text_before-front}
+use Rattle.psi_log_writer.proofs.TextLemmas.{text_before-front}
 use Rattle.psi_log_writer.proofs.AcceptedLemmas.{events-few}
 use Rattle.psi_log_writer.proofs.RegionLemmas.{IsKept, kept-after, state-below, region_of-plain}
-use Rattle.psi_log_writer.proofs.BoundLemmas.{HasFew, few-next, step-short, times-more, log-from, log-ample}
-
--- each number of a list has at most so many digits
-abbrev pub AreShort : ℕ → List ℕ → Type 0
-AreShort w x = (i : ℕ) → length (decimal (slice_index x i)) ≤ w
+use Rattle.psi_log_writer.proofs.BoundLemmas.{AreShort, named-set, HasFew, few-next, step-short, times-more, log-from, log-ample}
 
 -- the numbers of a state have no more digits than its capacities
 below-short : (w : ℕ) (caps x : List ℕ) → 0 < w → AreCapacities caps → ((i : ℕ) → slice_index caps i < 10 ^ w) → IsBelow x caps → AreShort w x
@@ -50,30 +45,6 @@ below-short w caps x some valid each below i =
       | inr past ↦ (let none : slice_index x i ≡ 0 = get_or_past x i 0 past in omega arith)
     ] in
     length-decimal-le w (slice_index x i) some small (omega arith)
-
-numbers-within : (w : ℕ) (x : List ℕ) → AreShort w x → length (numbers_text x) ≤ length x * suc w
-unfolding numbers_text
-numbers-within w [] each = omega arith
-numbers-within w (a ∷ []) each = (let own : length (decimal a) ≤ w = each 0 in let one = times-more 0 (suc w) in omega arith)
-numbers-within w (a ∷ b ∷ x) each =
-    let own : length (decimal a) ≤ w = each 0 in
-    let rest : length (numbers_text (b ∷ x)) ≤ length (b ∷ x) * suc w = numbers-within w (b ∷ x) (λ i. each (suc i)) in
-    let count : length (numbers_text (a ∷ b ∷ x)) ≡ length (decimal a) + length (44 ∷ numbers_text (b ∷ x)) = length-append (decimal a) (44 ∷ numbers_text (b ∷ x)) in
-    let all = times-more (length (b ∷ x)) (suc w) in
-    omega arith
-
--- the words of states of so many queues
-set-within : (n w : ℕ) (xs : List (List ℕ)) → ((x : List ℕ) → In x xs → (length x ≡ n) × AreShort w x) → length (spaced_words (map numbers_text xs)) ≤ length xs * suc (n * suc w)
-unfolding spaced_words
-set-within n w [] each = omega arith
-set-within n w (x ∷ xs) each =
-    let own = each x (inl refl) in
-    let size : length x ≡ n = own.0 in
-    let text : length (numbers_text x) ≤ n * suc w = subst (λ k. length (numbers_text x) ≤ k * suc w) size (numbers-within w x own.1) in
-    let rest = set-within n w xs (λ y member. each y (inr member)) in
-    let count : length (spaced_words (map numbers_text (x ∷ xs))) ≡ length (32 ∷ numbers_text x) + length (spaced_words (map numbers_text xs)) = length-append (32 ∷ numbers_text x) (spaced_words (map numbers_text xs)) in
-    let all : length (x ∷ xs) * suc (n * suc w) ≡ suc (n * suc w) + length xs * suc (n * suc w) = times-more (length xs) (suc (n * suc w)) in
-    omega arith
 
 -- the word of a queue
 change-within : (w q least greatest : ℕ) → q < 100 → length (decimal least) ≤ w → length (decimal greatest) ≤ w
@@ -93,14 +64,6 @@ no-words = refl
 named-move : (ws : List (List ℕ)) → length (spaced_words (codes "move" ∷ ws)) ≡ 5 + length (spaced_words ws)
 unfolding spaced_words
 named-move ws = length-append (32 ∷ codes "move") (spaced_words ws)
-
-named-set : (n w : ℕ) (xs : List (List ℕ)) → ((x : List ℕ) → In x xs → (length x ≡ n) × AreShort w x)
-    → length (spaced_words (region_words (in_set xs))) ≤ 4 + length xs * suc (n * suc w)
-unfolding spaced_words
-named-set n w xs each =
-    let own = set-within n w xs each in
-    let count : length (spaced_words (region_words (in_set xs))) ≡ 4 + length (spaced_words (map numbers_text xs)) = length-append (32 ∷ codes "set") (spaced_words (map numbers_text xs)) in
-    omega arith
 
 -- one queue changed, or it didn't
 filter-one : (p : ℕ → Bool) (q : ℕ) → (filter p (q ∷ []) ≡ q ∷ []) ⊎ (filter p (q ∷ []) ≡ [])
@@ -203,12 +166,12 @@ log-wide split f caps events h state done room valid closed most named version o
     state room order vector roomy.enough
 
 -- what both ways to know that the lines that are left fit ask of a network's run
-pub record IsShort {E : Type 0} (function : E → List ℕ → List ℕ) (system : Parts E) (words : ℕ → ℕ) (horizon : ℕ) : Type 0 where
+pub record IsShort {E : Type 0} (function : E → List ℕ → List ℕ) (system : SystemParts E) (words : ℕ → ℕ) (horizon : ℕ) : Type 0 where
   pub closed : AreClosed system.caps (system_functions function system words)
   pub most : horizon < 10 ^ 7
   pub named : (t : ℕ) → event_numbers system words t < 10 ^ 4
 
-run-short : {E : Type 0} (capacities : E → List ℕ) (function : E → List ℕ → List ℕ) (system : Parts E) (words : ℕ → ℕ) (horizon : ℕ)
+run-short : {E : Type 0} (capacities : E → List ℕ) (function : E → List ℕ → List ℕ) (system : SystemParts E) (words : ℕ → ℕ) (horizon : ℕ)
     → ((event : E) → IsClosed (capacities event) (function event)) → IsSystem capacities system → horizon ≤ 2 ^ system.limit → IsShort function system words horizon
 run-short capacities function system words horizon law fit most =
     let powered : 2 ^ system.limit ≤ 2 ^ 22 = pow-order system.limit 22 fit.most_limit in
@@ -219,7 +182,7 @@ run-short capacities function system words horizon law fit most =
     }
 
 -- what is left of the whole text from the place of a step or of the end on
-whole-fits : {E : Type 0} (function : E → List ℕ → List ℕ) (system : Parts E) (words : ℕ → ℕ) (h : Header) (state : List ℕ) (place room : ℕ) → 2 ≤ place → place ≤ h.horizon + 2
+whole-fits : {E : Type 0} (function : E → List ℕ → List ℕ) (system : SystemParts E) (words : ℕ → ℕ) (h : Header) (state : List ℕ) (place room : ℕ) → 2 ≤ place → place ≤ h.horizon + 2
     → h.version ≡ 2
     → length (log_text (log_of function system words h state))
     ≤ length (front_text system.split (system_functions function system words) system.caps (event_numbers system words) h (place - 2)) + room
@@ -231,7 +194,7 @@ whole-fits function system words h state place room low high version fits =
     omega arith
 
 -- the lines that are left fit by one of the two ways
-pub left-fits : {E : Type 0} (capacities : E → List ℕ) (function : E → List ℕ → List ℕ) (system : Parts E) (words : ℕ → ℕ) (h : Header) (state : List ℕ) (place room : ℕ)
+pub left-fits : {E : Type 0} (capacities : E → List ℕ) (function : E → List ℕ → List ℕ) (system : SystemParts E) (words : ℕ → ℕ) (h : Header) (state : List ℕ) (place room : ℕ)
     → ((event : E) → IsClosed (capacities event) (function event)) → IsSystem capacities system → h.horizon ≤ 2 ^ system.limit → 2 ≤ place → place ≤ h.horizon + 2
     → h.version ≡ 2 → IsVector state
     → IsRoomy system.caps system.split (h.horizon - (place - 2)) room ⊎ IsAmpleAfter function system words (h.horizon - (place - 2)) room h.horizon (place - 2)

@@ -3,7 +3,7 @@
 use Rattle.std.specs.Prelude.{ℕ, suc, ◌-◌, List, length, map, if◌then◌else◌}
 use Rattle.psi_state.specs.State.{numbers_from}
 use Rattle.psi_state.specs.Hull.{corners}
-use Rattle.psi_rate.specs.Composition.{Functions, Parts, system_functions}
+use Rattle.psi_rate.specs.Composition.{Functions, SystemParts, system_functions}
 use Rattle.psi_region.specs.Region.{Area, start}
 use Rattle.psi_horizon.specs.Runs.{region_after}
 use Rattle.psi_log_format.specs.declared.header.Header.{Header}
@@ -37,6 +37,6 @@ abbrev pub header_of : List ℕ → ℕ → ℕ → ℕ → Header
 header_of caps seed stream horizon = record { version = 2; queues = length caps; seed = seed; stream = stream; horizon = horizon }
 
 -- the log of a network's run under these words
-abbrev pub log_of : {E : Type 0} → (E → List ℕ → List ℕ) → Parts E → (ℕ → ℕ) → Header → List ℕ → Certificate
+abbrev pub log_of : {E : Type 0} → (E → List ℕ → List ℕ) → SystemParts E → (ℕ → ℕ) → Header → List ℕ → Certificate
 log_of function system words h state =
     recorded system.split (system_functions function system words) system.caps (event_numbers system words) h state

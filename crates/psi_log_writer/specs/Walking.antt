@@ -1,7 +1,7 @@
 -- The text of the log of a run, from one step to the next.
 use Rattle.std.specs.Prelude.{◌≡◌, ℕ, zero, suc, ◌+◌, ◌-◌, ◌*◌, ◌^◌, ◌<◌, ◌≤◌, slice_index, List, [], ◌++◌, length, map, true, nat_lt, if◌then◌else◌, Option, Some, None, IfSome}
 use Rattle.psi_state.specs.State.{Corners, IsBelow, numbers_from}
-use Rattle.psi_rate.specs.Composition.{Functions, Parts, system_functions}
+use Rattle.psi_rate.specs.Composition.{Functions, SystemParts, system_functions}
 use Rattle.psi_region.specs.Region.{Area, start, ShowsBox}
 use Rattle.psi_horizon.specs.Planned.{Planned}
 use Rattle.psi_horizon.specs.Runs.{region_after}
@@ -70,27 +70,27 @@ module _ (split : ℕ) (f : Functions) (caps : List ℕ) (events : ℕ → ℕ) 
   text_before h state (suc place) = text_before h state place ++ line_at h state place
 
 -- `step_line`, of a network's runs under these words
-abbrev pub line_of : {E : Type 0} → (E → List ℕ → List ℕ) → Parts E → (ℕ → ℕ) → ℕ → ℕ → List ℕ
+abbrev pub line_of : {E : Type 0} → (E → List ℕ → List ℕ) → SystemParts E → (ℕ → ℕ) → ℕ → ℕ → List ℕ
 line_of function system words horizon done =
     step_line system.split (system_functions function system words) system.caps (event_numbers system words) horizon done
 
 -- `line_at`, of a network's runs under these words
-abbrev pub line_in : {E : Type 0} → (E → List ℕ → List ℕ) → Parts E → (ℕ → ℕ) → Header → List ℕ → ℕ → List ℕ
+abbrev pub line_in : {E : Type 0} → (E → List ℕ → List ℕ) → SystemParts E → (ℕ → ℕ) → Header → List ℕ → ℕ → List ℕ
 line_in function system words h state place =
     line_at system.split (system_functions function system words) system.caps (event_numbers system words) h state place
 
 -- `text_before`, of a network's runs under these words
-abbrev pub text_in : {E : Type 0} → (E → List ℕ → List ℕ) → Parts E → (ℕ → ℕ) → Header → List ℕ → ℕ → List ℕ
+abbrev pub text_in : {E : Type 0} → (E → List ℕ → List ℕ) → SystemParts E → (ℕ → ℕ) → Header → List ℕ → ℕ → List ℕ
 text_in function system words h state place =
     text_before system.split (system_functions function system words) system.caps (event_numbers system words) h state place
 
 -- what is told of the region of a network's run after so many steps
-abbrev pub IsToldAfter : {E : Type 0} → (E → List ℕ → List ℕ) → Parts E → (ℕ → ℕ) → ℕ → ℕ → Option Corners → Type 0
+abbrev pub IsToldAfter : {E : Type 0} → (E → List ℕ → List ℕ) → SystemParts E → (ℕ → ℕ) → ℕ → ℕ → Option Corners → Type 0
 IsToldAfter function system words horizon done told =
     IsTold system.caps (region_after system.split (system_functions function system words) system.caps horizon done) told
 
 -- there is ample room, as `IsAmple` says it, after so many steps of a network's run
-abbrev pub IsAmpleAfter : {E : Type 0} → (E → List ℕ → List ℕ) → Parts E → (ℕ → ℕ) → ℕ → ℕ → ℕ → ℕ → Type 0
+abbrev pub IsAmpleAfter : {E : Type 0} → (E → List ℕ → List ℕ) → SystemParts E → (ℕ → ℕ) → ℕ → ℕ → ℕ → ℕ → Type 0
 IsAmpleAfter function system words left room horizon done =
     IsAmple system.caps (region_after system.split (system_functions function system words) system.caps horizon done) left room
 

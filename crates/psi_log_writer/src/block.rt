@@ -83,8 +83,12 @@ impl Block {
     }
 }
 
-// Writes a piece to the sink, past the block.
-fn write_piece<O: Sink>(piece: &[u8], out: &mut O) -> Result<(), SinkFault>
+/// Writes a piece to the sink, past the block.
+///
+/// # Errors
+///
+/// [`SinkFault::Failed`] only where the sink's count rose in this call or stands at the greatest u64.
+pub fn write_piece<O: Sink>(piece: &[u8], out: &mut O) -> Result<(), SinkFault>
     ensures { Sends result
         (record { held = O.held out.old; took = O.took out.old; faults = O.faults out.old; takes = O.takes out.old })
         (record { held = O.held out.new; took = O.took out.new; faults = O.faults out.new; takes = O.takes out.new })

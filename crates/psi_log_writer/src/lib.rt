@@ -7,7 +7,7 @@ mod laws;
 mod steps;
 mod writing;
 
-pub use block::Block;
+pub use block::{Block, write_piece};
 pub use laws::logs_are_accepted;
 pub use writing::{log_fits, write_log};
 

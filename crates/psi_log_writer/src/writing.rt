@@ -3,6 +3,7 @@
 ghost use Rattle.std.specs.Prelude.{◌≡◌, ℕ, ◌^◌, ◌++◌, suc, ◌+◌, ◌-◌, ◌*◌, ◌<◌, ◌≤◌, ◌↔◌, [], length, slice_index, IsTrue, IsSome, IfSome, IsOk, OnOk, OnErr, MatchOption};
 ghost use Rattle.psi_io.specs.Counts.{Rose};
 ghost use Rattle.psi_io.specs.Sink.{appended, GrewByPrefix, TookPrefix};
+ghost use Rattle.psi_rate.specs.System.{IsSystem};
 ghost use Rattle.psi_log_writer.specs.Recorded.{log_of};
 ghost use Rattle.psi_log_writer.specs.Sending.{Sends};
 ghost use Rattle.psi_log_writer.specs.Walking.{text_in, IsRoomy, IsToldAfter, IsAmpleAfter, IsWalking};
@@ -150,6 +151,7 @@ fn is_ample<E: EventLaw, P: Past + Drop, F: Follower + Drop>(
     left: u32,
     room: usize,
 ) -> bool
+    requires fit { IsSystem E.capacities plan.old.system }
     requires begun { IsSome plan.old.run }
     requires told { IfSome plan.old.run (λ r. IsToldAfter E.function plan.old.system (P.words plan.old.past) r.horizon r.done told.now) }
     ensures ample { IsTrue result → IfSome plan.old.run (λ r. IsAmpleAfter E.function plan.old.system (P.words plan.old.past) left room r.horizon r.done) }
@@ -158,8 +160,6 @@ fn is_ample<E: EventLaw, P: Past + Drop, F: Follower + Drop>(
     if left % 64 != 0 || told.is_some() {
         return false;
     }
-    // Called for its clause: the system's parts fit each other.
-    let _limit = plan.limit();
     let states = plan.states();
     let width = 22 + states.len() * (6 * states[0].len() as usize + 1);
     left as usize * width + 200 <= room

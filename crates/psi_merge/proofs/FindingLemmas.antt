@@ -1,7 +1,7 @@
 -- What is found of files.
 use Rattle.std.specs.Prelude.{◌≡◌, Vec, ℕ, ◌+◌, ◌<◌, ◌≤◌, List, [], ◌∷◌, ◌++◌, take, length, map, drop, Option, Some, None, option_and_then, Result, Ok, Err, IsOk, IfSome, IfOk, IfErr, true, false, refl}
 use Rattle.std.proofs.Common.{get_or, ap, sym, ◌∙◌, subst, append_assoc, inl, inr, arith}
-use Rattle.std.proofs.lemmas.Bool.{cases_order, lt-leb}
+use Rattle.std.proofs.lemmas.Bool.{cases_lt, lt-leb}
 use Rattle.std.proofs.lemmas.List.{take_all, length-take-le, take-append-drop, drop_more, map_more, map-append, append-nil}
 use Rattle.std.specs.declared.alloc.Global.{Global}
 use Rattle.psi_io.specs.Shelf.{Read}
@@ -28,13 +28,10 @@ use Rattle.psi_merge.specs.Spared.{AreNextGiven, HasRead}
 -- the front of a file is judged as the file
 report_in-take : (bytes : List ℕ) → report_in (take 1048577 bytes) ≡ report_in bytes
 unfolding report_in
-report_in-take bytes = elim (cases_order (length bytes) 1048577) [
-  | inl same ↦ ap report_in (take_all 1048577 bytes (omega arith))
-  | inr apart ↦ elim apart [
-    | inl less ↦ ap report_in (take_all 1048577 bytes (omega arith))
-    | inr more ↦ (let count : length (take 1048577 bytes) ≡ 1048577 = length-take-le 1048577 bytes (omega arith) in
-        rw (lt-leb (length bytes) 1048576 (omega arith), lt-leb (length (take 1048577 bytes)) 1048576 (omega arith)) refl)
-  ]
+report_in-take bytes = elim (cases_lt 1048577 (length bytes)) [
+  | inl more ↦ (let count : length (take 1048577 bytes) ≡ 1048577 = length-take-le 1048577 bytes (omega arith) in
+      rw (lt-leb (length bytes) 1048576 (omega arith), lt-leb (length (take 1048577 bytes)) 1048576 (omega arith)) refl)
+  | inr few ↦ ap report_in (take_all 1048577 bytes few)
 ]
 
 -- what is read of a file
@@ -58,11 +55,8 @@ unread-may name OutOfMemory whole is = tt
 unread-missed : (shelf : ShelfSeen) (name : List ℕ) (ending : Ending) → IsUnreadOf name ending → IsUnread shelf name → IsMissed shelf name ending
 unread-missed shelf name (Merged text) is rose = is
 unread-missed shelf name Usage is rose = is
-unread-missed shelf name (Refused line) is rose = tt
-unread-missed shelf name (OtherNetwork line) is rose = tt
-unread-missed shelf name (TooLarge line) is rose = tt
 unread-missed shelf name (Unread line) is rose = (rose, is)
-unread-missed shelf name OutOfMemory is rose = tt
+unread-missed shelf name ending is rose = tt
 
 may-some : (t : Option (Result Contents Reply)) (ending : Ending) → ((whole : Result Contents Reply) → MayEnd ending whole) → IfSome t (MayBe (Err ending))
 may-some None ending may = tt

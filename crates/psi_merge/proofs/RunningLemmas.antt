@@ -28,15 +28,17 @@ module _ (call : Call) where
 
   is-program : IsProgram faults status.Usage IsReplied IsReported IsDone (IsReplyTo call.words) call (reply_to_call call) (unread_line_of call) (HasFiles call) HasNoFiles
   is-program = record {
-    usage_replied = tt;
-    read_fault = λ kind. kind;
-    write_fault = λ kind. kind;
-    out_of_memory = λ kind. kind;
-    read_write = λ e. absurd cc;
-    read_memory = λ e. absurd cc;
-    write_memory = λ e. absurd cc;
-    silent = λ kind. kind;
-    printed = λ s done. subst IsReplied (sym done) tt;
+    statuses = record {
+      usage_replied = tt;
+      no_read = λ kind. kind;
+      no_write = λ kind. kind;
+      no_memory = λ kind. kind;
+      read_write = λ e. absurd cc;
+      read_memory = λ e. absurd cc;
+      write_memory = λ e. absurd cc;
+      silent = λ kind. kind;
+      printed = λ s done. subst IsReplied (sym done) tt;
+    };
     own = λ given is. record { replied = is.replied; other = is.usage; told = is.no_files; reported = is.reported; printed = is.printed };
     asked = λ files none. absurd cc;
     read = λ cause. cause.files;

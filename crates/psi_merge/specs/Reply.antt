@@ -10,8 +10,8 @@ use Rattle.psi_report_reader.specs.declared.error.MergeError.{MergeError}
 use Rattle.psi_report_reader.specs.declared.error.MergeError.TheVariants as merge
 use Rattle.psi_merge.specs.declared.status.Status.{Status}
 use Rattle.psi_merge.specs.declared.status.Status.TheVariants.{Done, Usage, Refused, OtherNetwork, TooLarge}
-use Rattle.psi_merge.specs.declared.reports.Cause.{Cause}
-use Rattle.psi_merge.specs.declared.reports.Cause.TheVariants.{TooLong, Row, Text, Samples}
+use Rattle.psi_merge.specs.declared.reports.ReportCause.{ReportCause}
+use Rattle.psi_merge.specs.declared.reports.ReportCause.TheVariants.{TooLong, Row, Text, Samples}
 use Rattle.psi_merge.specs.Reports.{Refusal, report_in}
 
 -- ---- the lines of err
@@ -25,7 +25,7 @@ abbrev pub memory_line : List ℕ
 memory_line = codes "psi_merge: out of memory\n"
 
 -- the number and the name of a cause
-abbrev pub cause_text : Cause → List ℕ
+abbrev pub cause_text : ReportCause → List ℕ
 cause_text TooLong = codes "0 TooLong"
 cause_text Row = codes "1 Row"
 cause_text Text = codes "2 Text"

@@ -3,13 +3,13 @@ use Rattle.std.specs.Prelude.{ℕ, List, length, ◌==◌, nat_le, Option, Some,
 use Rattle.psi_report.specs.Contents.{Contents}
 use Rattle.psi_report_reader.specs.Reading.{read}
 use Rattle.psi_report_reader.specs.Sound.{flaw_of}
-use Rattle.psi_merge.specs.declared.reports.Cause.{Cause}
-use Rattle.psi_merge.specs.declared.reports.Cause.TheVariants.{TooLong, Row, Text, Samples}
+use Rattle.psi_merge.specs.declared.reports.ReportCause.{ReportCause}
+use Rattle.psi_merge.specs.declared.reports.ReportCause.TheVariants.{TooLong, Row, Text, Samples}
 
 -- why a file is no report: the line, 0 for the text as a whole, and the cause
 pub record Refusal : Type 0 where
   pub line : ℕ
-  pub cause : Cause
+  pub cause : ReportCause
 
 -- no row of a report stands on the line, or the text as a whole isn't that of its rows
 abbrev pub unread_at : ℕ → Refusal

@@ -14,14 +14,14 @@ ghost use Rattle.psi_merge.specs.Spared.{AreNextGiven, AreGiven, HasRead};
 
 use crate::ending::Ending;
 use crate::lines::{refused_line, unmerged_line, unread_line};
-use crate::reports::{Cause, MOST_BYTES, ReportError, report_in};
+use crate::reports::{MOST_BYTES, ReportCause, ReportError, report_in};
 use psi_io::{Shelf, ShelfFault};
 use psi_report::Report;
 use psi_report_reader::{MergeError, merged};
 use std::alloc::Global;
 
 // The ending on a file that is no report.
-fn refused(alloc: Global, name: &str, line: u64, cause: Cause) -> Ending
+fn refused(alloc: Global, name: &str, line: u64, cause: ReportCause) -> Ending
     ensures ending { MayEnd result (Err (line_reply status.Refused (refused_line name.now (record { line = line; cause = cause })))) }
     ensures told { IsTold result }
 {

@@ -4,19 +4,19 @@ ghost use Rattle.std.specs.Prelude.{◌≡◌, ◌++◌, codes, OnOk, IfOk};
 ghost use Rattle.std.specs.Fmt.{decimal};
 ghost use Rattle.psi_merge.specs.Reply.{cause_text, refused_line, unread_line};
 
-use crate::reports::Cause;
+use crate::reports::ReportCause;
 use itoa::Buffer;
 use std::alloc::{AllocError, Global};
 
 // The number and the name of a cause.
-fn cause_text(cause: Cause) -> &'static [u8]
+fn cause_text(cause: ReportCause) -> &'static [u8]
     ensures { result.now ≡ cause_text cause }
 {
     match cause {
-        Cause::TooLong => b"0 TooLong".as_slice(),
-        Cause::Row => b"1 Row".as_slice(),
-        Cause::Text => b"2 Text".as_slice(),
-        Cause::Samples => b"3 Samples".as_slice(),
+        ReportCause::TooLong => b"0 TooLong".as_slice(),
+        ReportCause::Row => b"1 Row".as_slice(),
+        ReportCause::Text => b"2 Text".as_slice(),
+        ReportCause::Samples => b"3 Samples".as_slice(),
     }
 }
 
@@ -44,7 +44,7 @@ pub(crate) fn refused_line(
     alloc: Global,
     name: &str,
     line: u64,
-    cause: Cause,
+    cause: ReportCause,
 ) -> Result<Vec<u8>, AllocError>
     ensures { IfOk result (λ text. text.items ≡ refused_line name.now (record { line = line; cause = cause })) }
 {

@@ -13,7 +13,7 @@ pub(crate) const MOST_BYTES: u32 = 1_048_576;
 
 /// Why a file is no report.
 #[derive(Clone, Copy, PartialEq, Eq, Debug)]
-pub enum Cause {
+pub enum ReportCause {
     /// It has more than 1,048,576 bytes.
     TooLong,
     /// The line is no row of a report.
@@ -34,7 +34,7 @@ pub(crate) enum ReportError {
         /// The line, counted from 1; 0 for the text as a whole.
         line: u64,
         /// The cause.
-        cause: Cause,
+        cause: ReportCause,
     },
     /// Memory ran out.
     OutOfMemory,
@@ -44,7 +44,11 @@ pub(crate) enum ReportError {
 fn unread_at(line: u64) -> ReportError
     ensures { result ≡ refused (unread_at line) }
 {
-    let cause = if line == 0 { Cause::Text } else { Cause::Row };
+    let cause = if line == 0 {
+        ReportCause::Text
+    } else {
+        ReportCause::Row
+    };
     ReportError::Refused { line, cause }
 }
 
@@ -56,14 +60,14 @@ pub(crate) fn report_in(alloc: Global, bytes: &[u8]) -> Result<Report, ReportErr
     if bytes.len() > MOST_BYTES as usize {
         return Err(ReportError::Refused {
             line: 0,
-            cause: Cause::TooLong,
+            cause: ReportCause::TooLong,
         });
     }
     match read(alloc, bytes) {
         Ok(report) => match flaw_of(&report) {
             Some(line) => Err(ReportError::Refused {
                 line,
-                cause: Cause::Samples,
+                cause: ReportCause::Samples,
             }),
             None => Ok(report),
         },

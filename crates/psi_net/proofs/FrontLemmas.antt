@@ -4,7 +4,7 @@ use Rattle.std.proofs.Common.{inl, inr, ap, sym, ◌∙◌, arith}
 use Rattle.std.proofs.lemmas.Bool.{cases_lt, lt-leb}
 use Rattle.std.proofs.lemmas.List.{take_all, length-take-le}
 use Rattle.psi_net_document.specs.Refusal.{at_place, top}
-use Rattle.psi_net_document.specs.declared.refusals.Cause.TheVariants.{TooLong}
+use Rattle.psi_net_document.specs.declared.refusals.NetCause.TheVariants.{TooLong}
 use Rattle.psi_net.specs.Reading.{file_text, network_of}
 
 -- a file of more bytes is too long, whatever they are

@@ -11,7 +11,7 @@ use Rattle.psi_net_document.specs.Values.{elements_in, table_in, each}
 use Rattle.psi_net_model.specs.Expansion.{source_of, servers_at, expanded, AreSourced, values_of, count_key}
 use Rattle.psi_net.specs.EventTables.{event_of, within_limits, are_within, Listed, event_step, events_in, events_of}
 use Rattle.psi_net_model.specs.Valid.{AreListed}
-use Rattle.psi_net_document.specs.declared.refusals.Cause.TheVariants.{NoEvents}
+use Rattle.psi_net_document.specs.declared.refusals.NetCause.TheVariants.{NoEvents}
 use Rattle.psi_net_document.specs.declared.refusals.Place.{Place}
 use Rattle.psi_net_model.specs.declared.entries.Queue.{Queue}
 use Rattle.psi_net_model.specs.declared.entries.NamedEvent.{NamedEvent}

@@ -28,7 +28,7 @@ use Rattle.psi_net_model.specs.Expansion.{first_server}
 use Rattle.psi_net.specs.PartTables.{part_keys, part_queue, part_numbers, unless_empty, part_of, part_step, parts_in, guarded_of}
 use Rattle.psi_net.specs.EventTables.{kind_of}
 use Rattle.psi_net_model.specs.Valid.{IsAccepted}
-use Rattle.psi_net_document.specs.declared.refusals.Cause.TheVariants.{OutOfRange}
+use Rattle.psi_net_document.specs.declared.refusals.NetCause.TheVariants.{OutOfRange}
 use Rattle.psi_net_document.specs.declared.refusals.Place.{Place}
 use Rattle.psi_net_document.specs.declared.refusals.NetRefusal.{NetRefusal}
 use Rattle.psi_net.specs.declared.words.KindWord.{KindWord}

@@ -7,7 +7,7 @@ use Rattle.psi_net_document.specs.Refusal.{top}
 use Rattle.psi_net_document.specs.Values.{elements_in}
 use Rattle.psi_net.specs.QueueTables.{queue_of, queue_step, queues_in, queues_of}
 use Rattle.psi_net_model.specs.Valid.{IsQueue, AreListed}
-use Rattle.psi_net_document.specs.declared.refusals.Cause.TheVariants.{MissingKey}
+use Rattle.psi_net_document.specs.declared.refusals.NetCause.TheVariants.{MissingKey}
 use Rattle.psi_net_document.specs.declared.refusals.Place.{Place}
 use Rattle.psi_net_model.specs.declared.entries.Queue.{Queue}
 use Rattle.psi_net_document.proofs.ReadingLemmas.{bind_ok, required_ok, number_range, elements_count, each_kept}

@@ -13,7 +13,7 @@ use Rattle.psi_net.specs.RewardTables.{reward_step, rewards_in, rewards_of}
 use Rattle.psi_net.specs.Reading.{version_in, top_keys, most_limit, default_limit, default_split, numbers_of, document_network, text_network}
 use Rattle.psi_net_model.specs.Valid.{IsNetwork}
 use Rattle.psi_net.specs.declared.reading.TopNumbers.{TopNumbers}
-use Rattle.psi_net_document.specs.declared.refusals.Cause.TheVariants.{NotToml}
+use Rattle.psi_net_document.specs.declared.refusals.NetCause.TheVariants.{NotToml}
 use Rattle.psi_net_document.proofs.ReadingLemmas.{bind_ok, ok_same, held, optional_kept, number_range, each_kept}
 use Rattle.psi_net.proofs.KeptQueuesLemmas.{queues_kept}
 use Rattle.psi_net.proofs.KeptEventsLemmas.{events_kept}

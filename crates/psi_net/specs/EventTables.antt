@@ -10,7 +10,7 @@ use Rattle.psi_net_document.specs.Names.{name_in, unless_taken}
 use Rattle.psi_net_model.specs.Expansion.{source_of, expanded, values_of, most_index_values, count_key}
 use Rattle.psi_net.specs.KindTables.{arrival_of, service_of, index_of, batch_of, negative_of, fork_of, join_of}
 use Rattle.psi_net.specs.PartTables.{guarded_of}
-use Rattle.psi_net_document.specs.declared.refusals.Cause.TheVariants.{UnknownKind, TooMany, NoEvents, TotalTooLarge}
+use Rattle.psi_net_document.specs.declared.refusals.NetCause.TheVariants.{UnknownKind, TooMany, NoEvents, TotalTooLarge}
 use Rattle.psi_net_document.specs.declared.refusals.Place.{Place}
 use Rattle.psi_net_document.specs.declared.refusals.NetRefusal.{NetRefusal}
 use Rattle.psi_net_model.specs.declared.entries.Queue.{Queue}

@@ -11,7 +11,7 @@ use Rattle.psi_kinds.specs.declared.Kind.TheVariants as kind
 use Rattle.psi_net_document.specs.Refusal.{◌>>=◌, holds_or, at_key}
 use Rattle.psi_net_document.specs.Values.{required, optional, number_in, counted_in, each}
 use Rattle.psi_net_document.specs.References.{queue_in, target_in, targets_in, some_targets_in}
-use Rattle.psi_net_document.specs.declared.refusals.Cause.TheVariants.{WrongType, OutOfRange, BatchTooLarge}
+use Rattle.psi_net_document.specs.declared.refusals.NetCause.TheVariants.{WrongType, OutOfRange, BatchTooLarge}
 use Rattle.psi_net_document.specs.declared.refusals.Place.{Place}
 use Rattle.psi_net_document.specs.declared.refusals.NetRefusal.{NetRefusal}
 use Rattle.psi_net_model.specs.Expansion.{first_server}

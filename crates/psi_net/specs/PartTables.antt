@@ -8,7 +8,7 @@ use Rattle.psi_kinds.specs.declared.Kind.TheVariants as kind
 use Rattle.psi_net_document.specs.Refusal.{◌>>=◌, holds_or, at_key}
 use Rattle.psi_net_document.specs.Values.{no_unknown, required, optional, number_in, integer_in, elements_in, each}
 use Rattle.psi_net_document.specs.References.{queue_in}
-use Rattle.psi_net_document.specs.declared.refusals.Cause.TheVariants.{WrongType, OutOfRange, RepeatedTarget, EmptyGuard}
+use Rattle.psi_net_document.specs.declared.refusals.NetCause.TheVariants.{WrongType, OutOfRange, RepeatedTarget, EmptyGuard}
 use Rattle.psi_net_document.specs.declared.refusals.Place.{Place}
 use Rattle.psi_net_document.specs.declared.refusals.NetRefusal.{NetRefusal}
 

@@ -4,7 +4,7 @@ use Rattle.toml.specs.Data.{Data, Members, get_member}
 use Rattle.psi_net_document.specs.Refusal.{◌>>=◌, top, queue_place}
 use Rattle.psi_net_document.specs.Values.{no_unknown, required, optional, number_in, elements_in, table_in, each}
 use Rattle.psi_net_document.specs.Names.{name_in, unless_taken}
-use Rattle.psi_net_document.specs.declared.refusals.Cause.TheVariants.{MissingKey}
+use Rattle.psi_net_document.specs.declared.refusals.NetCause.TheVariants.{MissingKey}
 use Rattle.psi_net_document.specs.declared.refusals.NetRefusal.{NetRefusal}
 use Rattle.psi_net_document.specs.declared.refusals.Place.{Place}
 use Rattle.psi_net_model.specs.declared.entries.Queue.{Queue}

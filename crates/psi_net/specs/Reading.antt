@@ -10,7 +10,7 @@ use Rattle.psi_net_document.specs.Values.{no_unknown, required, optional, number
 use Rattle.psi_net.specs.QueueTables.{queues_of}
 use Rattle.psi_net.specs.EventTables.{events_of}
 use Rattle.psi_net.specs.RewardTables.{rewards_of}
-use Rattle.psi_net_document.specs.declared.refusals.Cause.TheVariants.{TooLong, NotToml, Version, WrongType}
+use Rattle.psi_net_document.specs.declared.refusals.NetCause.TheVariants.{TooLong, NotToml, Version, WrongType}
 use Rattle.psi_net_document.specs.declared.refusals.NetRefusal.{NetRefusal}
 use Rattle.psi_net.specs.declared.reading.TopNumbers.{TopNumbers}
 

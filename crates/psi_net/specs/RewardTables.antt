@@ -9,7 +9,7 @@ use Rattle.psi_net_document.specs.Values.{no_unknown, required, optional, number
 use Rattle.psi_net_document.specs.Names.{name_in, unless_taken}
 use Rattle.psi_net_document.specs.References.{some_targets_in}
 use Rattle.psi_net_model.specs.Network.{NamedReward}
-use Rattle.psi_net_document.specs.declared.refusals.Cause.TheVariants.{UnknownKind, TooMany}
+use Rattle.psi_net_document.specs.declared.refusals.NetCause.TheVariants.{UnknownKind, TooMany}
 use Rattle.psi_net_document.specs.declared.refusals.Place.{Place}
 use Rattle.psi_net_document.specs.declared.refusals.NetRefusal.{NetRefusal}
 use Rattle.psi_net.specs.declared.words.RewardWord.{RewardWord}

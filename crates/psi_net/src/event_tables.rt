@@ -24,8 +24,8 @@ use crate::words::KindWord;
 use indexmap::IndexSet;
 use psi_kinds::Kind;
 use psi_net_document::{
-    Cause, NetRefusal, Place, Section, elements_in, find, no_unknown, present, read, required_name,
-    required_number, table_in, text_in, unless_taken,
+    NetCause, NetRefusal, Place, Section, elements_in, find, no_unknown, present, read,
+    required_name, required_number, table_in, text_in, unless_taken,
 };
 use psi_net_model::{MOST_INDEX_VALUES, Name, NamedEvent, index_values, servers_at, source_of};
 use psi_state::{MOST_EVENTS, MOST_TOTAL};
@@ -66,7 +66,7 @@ fn kind_word(place: Place, version: u32, value: Option<&Value>) -> Result<KindWo
     let text = read!(text_in(place, "kind", value));
     match kind_named(version, text) {
         Some(word) => Ok(word),
-        None => Err(Cause::UnknownKind.at_key(place, "kind")),
+        None => Err(NetCause::UnknownKind.at_key(place, "kind")),
     }
 }
 
@@ -193,18 +193,18 @@ fn counted(
         } else {
             "kind"
         };
-        return Err(Cause::TooMany.at_key(place, key));
+        return Err(NetCause::TooMany.at_key(place, key));
     }
     let Some(own) = index_values(&event.kind) else {
-        return Err(Cause::TooMany.at_key(place, "table"));
+        return Err(NetCause::TooMany.at_key(place, "table"));
     };
     let values = list.values + servers as u32 * own;
     if values > MOST_INDEX_VALUES {
-        return Err(Cause::TooMany.at_key(place, "table"));
+        return Err(NetCause::TooMany.at_key(place, "table"));
     }
     let rates = list.rates + servers as u32 * event.rate;
     if rates > MOST_TOTAL {
-        return Err(Cause::TotalTooLarge.at_key(place, "rate"));
+        return Err(NetCause::TotalTooLarge.at_key(place, "rate"));
     }
     Ok(Counts {
         count,
@@ -286,13 +286,13 @@ pub(crate) fn events(
             let values = judged!(elements_in(
                 Place::TOP,
                 "event",
-                Cause::NoEvents,
+                NetCause::NoEvents,
                 MOST_EVENTS as usize,
                 value
             ));
             let list = read!(all_events(alloc, version, known, values));
             Ok(list.events)
         }
-        None => Err(NetError::Refused(Cause::NoEvents.at_key(Place::TOP, "event"))),
+        None => Err(NetError::Refused(NetCause::NoEvents.at_key(Place::TOP, "event"))),
     }
 }

@@ -16,7 +16,7 @@ use crate::known_queues::KnownQueues;
 use crate::net_error::NetError;
 use psi_kinds::{Kind, Tables};
 use psi_net_document::{
-    Cause, KnownNames, NetRefusal, Place, counted_in, find, number_in, number_or, present,
+    KnownNames, NetCause, NetRefusal, Place, counted_in, find, number_in, number_or, present,
     queue_in, read, required_number, required_queue, required_target, required_targets, target_in,
     targets_in,
 };
@@ -67,10 +67,10 @@ fn full_in(place: Place, value: &Value) -> Result<Full, NetRefusal>
             } else if text == "stay" {
                 Ok(Full::Stay)
             } else {
-                Err(Cause::OutOfRange.at_key(place, "full"))
+                Err(NetCause::OutOfRange.at_key(place, "full"))
             }
         }
-        _ => Err(Cause::WrongType.at_key(place, "full")),
+        _ => Err(NetCause::WrongType.at_key(place, "full")),
     }
 }
 
@@ -192,10 +192,10 @@ fn size_fits(
     ensures { Gives (λ n. n) result (size_fits place caps.now has_source to.now size) }
 {
     if has_source && size != 1 {
-        return Err(Cause::OutOfRange.at_key(place, "size"));
+        return Err(NetCause::OutOfRange.at_key(place, "size"));
     }
     if !are_roomy(caps, to, size) {
-        return Err(Cause::BatchTooLarge.at_key(place, "size"));
+        return Err(NetCause::BatchTooLarge.at_key(place, "size"));
     }
     Ok(size as u16)
 }

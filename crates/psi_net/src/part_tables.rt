@@ -10,7 +10,7 @@ use crate::known_queues::KnownQueues;
 use psi_guard::{Part, Parts};
 use psi_kinds::Kind;
 use psi_net_document::{
-    Cause, KnownNames, NetRefusal, Place, elements_in, find, integer_or_zero, no_unknown,
+    KnownNames, NetCause, NetRefusal, Place, elements_in, find, integer_or_zero, no_unknown,
     number_or, present, queue_in, read,
 };
 use psi_state::MOST_CUSTOMERS;
@@ -23,7 +23,7 @@ fn part_table(place: Place, value: &Value) -> Result<&Table, NetRefusal>
 {
     match value {
         Value::Table(table) => Ok(table),
-        _ => Err(Cause::WrongType.at_key(place, "part")),
+        _ => Err(NetCause::WrongType.at_key(place, "part")),
     }
 }
 
@@ -41,7 +41,7 @@ fn part_queue(
     let value = read!(present(place, "queue", value));
     let queue = read!(queue_in(place, "queue", known, value));
     if earlier.names(queue) {
-        return Err(Cause::RepeatedTarget.at_key(place, "queue"));
+        return Err(NetCause::RepeatedTarget.at_key(place, "queue"));
     }
     Ok(queue)
 }
@@ -73,10 +73,10 @@ fn unless_empty(place: Place, part: Part) -> Result<Part, NetRefusal>
     ensures { Gives (λ part. part) result (unless_empty place part) }
 {
     if part.least > part.most {
-        return Err(Cause::EmptyGuard.at_key(place, "least"));
+        return Err(NetCause::EmptyGuard.at_key(place, "least"));
     }
     if part.floor > part.ceiling {
-        return Err(Cause::EmptyGuard.at_key(place, "floor"));
+        return Err(NetCause::EmptyGuard.at_key(place, "floor"));
     }
     Ok(part)
 }
@@ -135,7 +135,7 @@ fn parts(place: Place, known: &KnownQueues, value: Option<&Value>) -> Result<Par
     ensures { Gives (λ parts. parts) result (required place (codes "part") (parts_in place known.now.names.list.keys known.now.caps) (seen value.entry)) }
 {
     let value = read!(present(place, "part", value));
-    let values = read!(elements_in(place, "part", Cause::OutOfRange, 32, value));
+    let values = read!(elements_in(place, "part", NetCause::OutOfRange, 32, value));
     all_parts(place, known, values)
 }
 

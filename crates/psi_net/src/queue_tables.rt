@@ -14,7 +14,7 @@ use crate::known_queues::KnownQueues;
 use crate::net_error::NetError;
 use indexmap::IndexSet;
 use psi_net_document::{
-    Cause, KnownNames, NetRefusal, Place, Section, elements_in, find, no_unknown, number_or,
+    KnownNames, NetCause, NetRefusal, Place, Section, elements_in, find, no_unknown, number_or,
     present, read, required_name, required_number, table_in, unless_taken,
 };
 use psi_net_model::{Name, Queue, capacities};
@@ -97,7 +97,7 @@ fn listed_queues(alloc: Global, value: Option<&Value>) -> Result<QueueList, NetE
     let values = judged!(elements_in(
         Place::TOP,
         "queue",
-        Cause::MissingKey,
+        NetCause::MissingKey,
         MOST_QUEUES as usize,
         value
     ));

@@ -15,7 +15,7 @@ use crate::net_error::NetError;
 use crate::queue_tables::queues;
 use crate::reward_tables::rewards;
 use psi_net_document::{
-    Cause, MOST_NET_BYTES, NetRefusal, Place, find, no_unknown, number_or, present, read,
+    MOST_NET_BYTES, NetCause, NetRefusal, Place, find, no_unknown, number_or, present, read,
 };
 use psi_net_model::{Draft, Net, expand};
 use psi_state::{MOST_LIMIT, MOST_SPLIT};
@@ -33,10 +33,10 @@ fn version_in(value: &Value) -> Result<u32, NetRefusal>
             if *number == 1 || *number == 2 {
                 Ok(*number as u32)
             } else {
-                Err(Cause::Version.at_key(Place::TOP, "version"))
+                Err(NetCause::Version.at_key(Place::TOP, "version"))
             }
         }
-        _ => Err(Cause::WrongType.at_key(Place::TOP, "version")),
+        _ => Err(NetCause::WrongType.at_key(Place::TOP, "version")),
     }
 }
 
@@ -118,11 +118,11 @@ fn file_text(bytes: &[u8]) -> Result<&str, NetRefusal>
     ensures { Gives (λ text. text.now) result (file_text bytes.now) }
 {
     if bytes.len() > MOST_NET_BYTES as usize {
-        return Err(Cause::TooLong.at_place(Place::TOP));
+        return Err(NetCause::TooLong.at_place(Place::TOP));
     }
     match std::str::from_utf8(bytes) {
         Ok(text) => Ok(text),
-        Err(_) => Err(Cause::NotToml.at_place(Place::TOP)),
+        Err(_) => Err(NetCause::NotToml.at_place(Place::TOP)),
     }
 }
 
@@ -139,7 +139,7 @@ fn text_draft(alloc: Global, text: &str) -> Result<Draft, NetError>
             if error.is_memory() {
                 Err(NetError::OutOfMemory)
             } else {
-                Err(NetError::Refused(Cause::NotToml.at_place(Place::TOP)))
+                Err(NetError::Refused(NetCause::NotToml.at_place(Place::TOP)))
             }
         }
     }

@@ -19,7 +19,7 @@ use crate::net_error::NetError;
 use crate::words::RewardWord;
 use indexmap::IndexSet;
 use psi_net_document::{
-    Cause, KnownNames, NetRefusal, Place, Section, array_in, counted_in, find, integer_in,
+    KnownNames, NetCause, NetRefusal, Place, Section, array_in, counted_in, find, integer_in,
     no_unknown, present, read, required_name, required_number, some_targets_in, table_in, text_in,
     unless_taken,
 };
@@ -57,7 +57,7 @@ fn reward_word(place: Place, value: Option<&Value>) -> Result<RewardWord, NetRef
     let text = read!(text_in(place, "kind", value));
     match reward_named(text) {
         Some(word) => Ok(word),
-        None => Err(Cause::UnknownKind.at_key(place, "kind")),
+        None => Err(NetCause::UnknownKind.at_key(place, "kind")),
     }
 }
 
@@ -327,7 +327,7 @@ pub(crate) fn rewards(
         Some(value) => {
             let values = judged!(array_in(Place::TOP, "reward", value));
             if values.len() > 64 {
-                return Err(NetError::Refused(Cause::TooMany.at_key(Place::TOP, "reward")));
+                return Err(NetError::Refused(NetCause::TooMany.at_key(Place::TOP, "reward")));
             }
             all_rewards(alloc, known, values)
         }

@@ -1,6 +1,6 @@
 -- Marks of the queues that a list names.
 use Rattle.std.proofs.Common.{◌≡◌, ℕ, zero, suc, [], replicate, slice_index, refl, arith}
-use Rattle.psi_net_document.specs.MarksKept.{AreMarked}
+use Rattle.psi_net_document.specs.Inner.MarksKept.{AreMarked}
 
 zero-at : (n q : ℕ) → slice_index (replicate n 0) q ≡ 0
 zero-at zero q = refl

@@ -9,7 +9,7 @@ use Rattle.toml.specs.Data.{Data}
 use Rattle.psi_net_document.specs.Refusal.{◌>>=◌, holds_or}
 use Rattle.psi_net_document.specs.Values.{required, optional, number_in, integer_in, elements_in, counted_in, each}
 use Rattle.psi_net_document.specs.References.{number_of, queue_in}
-use Rattle.psi_net_document.specs.declared.refusals.Cause.{Cause}
+use Rattle.psi_net_document.specs.declared.refusals.NetCause.{NetCause}
 use Rattle.psi_net_document.specs.declared.refusals.Place.{Place}
 use Rattle.psi_net_document.specs.declared.refusals.NetRefusal.{NetRefusal}
 
@@ -50,7 +50,7 @@ unfolding integer_in
 integer_range place key most d z h = grind arith
 
 -- an array that isn't empty has at least one element, and at most so many
-pub elements_count : (place : Place) (key : List ℕ) (empty : Cause) (most : ℕ) (d : Data) (ds : List Data) → elements_in place key empty most d ≡ Ok ds → (1 ≤ length ds) × (length ds ≤ most)
+pub elements_count : (place : Place) (key : List ℕ) (empty : NetCause) (most : ℕ) (d : Data) (ds : List Data) → elements_in place key empty most d ≡ Ok ds → (1 ≤ length ds) × (length ds ≤ most)
 unfolding elements_in
 elements_count place key empty most d ds h = grind arith
 

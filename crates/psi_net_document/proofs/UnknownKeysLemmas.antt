@@ -13,7 +13,7 @@ use Rattle.toml.specs.View.{members_view}
 use Rattle.toml.specs.declared.value.Value.{Value}
 use Rattle.psi_net_document.specs.Values.{member_keys, unknown_keys, least_key, unless_unknown}
 use Rattle.psi_net_document.specs.Refusal.{at_key}
-use Rattle.psi_net_document.specs.declared.refusals.Cause.TheVariants.{UnknownKey}
+use Rattle.psi_net_document.specs.declared.refusals.NetCause.TheVariants.{UnknownKey}
 use Rattle.psi_net_document.specs.declared.refusals.Place.{Place}
 use Rattle.psi_net_document.specs.declared.refusals.NetRefusal.{NetRefusal}
 

@@ -3,5 +3,5 @@ pub mod Refusal
 pub mod Values
 pub mod Names
 pub mod References
-pub mod MarksKept
+pub mod Inner
 pub mod Targets

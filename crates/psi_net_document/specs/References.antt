@@ -6,7 +6,7 @@ use Rattle.toml.specs.Data.{Data}
 use Rattle.psi_net_model.specs.Name.{name_of}
 use Rattle.psi_net_document.specs.Refusal.{◌>>=◌, holds_or, at_key}
 use Rattle.psi_net_document.specs.Values.{text_in, array_in, each}
-use Rattle.psi_net_document.specs.declared.refusals.Cause.TheVariants.{OutOfRange, UnknownQueue, SelfTarget, RepeatedTarget}
+use Rattle.psi_net_document.specs.declared.refusals.NetCause.TheVariants.{OutOfRange, UnknownQueue, SelfTarget, RepeatedTarget}
 use Rattle.psi_net_document.specs.declared.refusals.Place.{Place}
 use Rattle.psi_net_document.specs.declared.refusals.NetRefusal.{NetRefusal}
 

@@ -1,14 +1,14 @@
 -- The refusals of a network file, and what a reading answers.
 use Rattle.std.specs.Prelude.{◌≡◌, ℕ, List, Bool, true, false, None, Result, Ok, Err}
 use Rattle.psi_net_model.specs.Name.{name_of}
-use Rattle.psi_net_document.specs.declared.refusals.Cause.{Cause}
-use Rattle.psi_net_document.specs.declared.refusals.Cause.TheVariants as cause
+use Rattle.psi_net_document.specs.declared.refusals.NetCause.{NetCause}
+use Rattle.psi_net_document.specs.declared.refusals.NetCause.TheVariants as cause
 use Rattle.psi_net_document.specs.declared.refusals.Place.{Place}
 use Rattle.psi_net_document.specs.declared.refusals.NetRefusal.{NetRefusal}
 use Rattle.psi_net_document.specs.declared.refusals.Section.TheVariants as section
 
 -- the number of a cause
-abbrev pub code_of : Cause → ℕ
+abbrev pub code_of : NetCause → ℕ
 code_of cause.TooLong = 0
 code_of cause.NotToml = 1
 code_of cause.Version = 2
@@ -45,11 +45,11 @@ abbrev pub reward_place : ℕ → Place
 reward_place n = record { section = section.Reward; number = n }
 
 -- a refusal of the value at a key; a key that hasn't the form of a name isn't given
-abbrev pub at_key : Cause → Place → List ℕ → NetRefusal
+abbrev pub at_key : NetCause → Place → List ℕ → NetRefusal
 at_key why place key = record { code = code_of why; section = place.section; number = place.number; key = name_of key }
 
 -- a refusal without a key
-abbrev pub at_place : Cause → Place → NetRefusal
+abbrev pub at_place : NetCause → Place → NetRefusal
 at_place why place = record { code = code_of why; section = place.section; number = place.number; key = None }
 
 -- one reading after another: the first refusal is the answer

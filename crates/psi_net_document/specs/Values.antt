@@ -10,8 +10,8 @@ use Rattle.toml.specs.Data.{Data, string, integer, array, table, Items, no_items
 use Rattle.toml.specs.View.{view}
 use Rattle.toml.specs.declared.value.Value.{Value}
 use Rattle.psi_net_document.specs.Refusal.{◌>>=◌, holds_or, at_key, at_place}
-use Rattle.psi_net_document.specs.declared.refusals.Cause.{Cause}
-use Rattle.psi_net_document.specs.declared.refusals.Cause.TheVariants.{UnknownKey, MissingKey, WrongType, OutOfRange, TooMany, TableLength}
+use Rattle.psi_net_document.specs.declared.refusals.NetCause.{NetCause}
+use Rattle.psi_net_document.specs.declared.refusals.NetCause.TheVariants.{UnknownKey, MissingKey, WrongType, OutOfRange, TooMany, TableLength}
 use Rattle.psi_net_document.specs.declared.refusals.Place.{Place}
 use Rattle.psi_net_document.specs.declared.refusals.NetRefusal.{NetRefusal}
 
@@ -81,7 +81,7 @@ module _ (place : Place) (key : List ℕ) where
   array_in d = Err (at_key WrongType place key)
 
   -- an array of 1 to so many elements, with the cause for one that is empty
-  unfoldable pub elements_in : Cause → ℕ → Data → Result (List Data) NetRefusal
+  unfoldable pub elements_in : NetCause → ℕ → Data → Result (List Data) NetRefusal
   elements_in empty most d = do
     elements ← array_in d
     some ← holds_or (at_key empty place key) (nat_lt 0 (length elements))

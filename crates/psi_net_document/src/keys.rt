@@ -7,11 +7,11 @@ ghost use Rattle.std.specs.Str.{bytes_eq};
 ghost use Rattle.toml.specs.Data.{get_member};
 ghost use Rattle.toml.specs.View.{view, table_view};
 ghost use Rattle.psi_net_document.specs.Refusal.{Gives, at_key};
-ghost use Rattle.psi_net_document.specs.declared.refusals.Cause.TheVariants.{MissingKey};
+ghost use Rattle.psi_net_document.specs.declared.refusals.NetCause.TheVariants.{MissingKey};
 ghost use Rattle.psi_net_document.specs.Values.{seen, no_unknown, required, optional, number_in, integer_in, text_in, array_in, elements_in, counted_in, table_in};
 
 use crate::read;
-use crate::refusals::{Cause, NetRefusal, Place};
+use crate::refusals::{NetCause, NetRefusal, Place};
 use toml::{Table, Value};
 
 /// What a reading gives, or the return of its refusal. (The operator `?` is not proved at an error that
@@ -65,7 +65,7 @@ pub fn no_unknown(
     for key in table.keys() {
         let key = key.as_str();
         if !is_known(common, own, key) {
-            return Err(Cause::UnknownKey.at_key(place, key));
+            return Err(NetCause::UnknownKey.at_key(place, key));
         }
     }
     Ok(())
@@ -86,7 +86,7 @@ pub fn present<'t>(
 {
     match found {
         Some(value) => Ok(value),
-        None => Err(Cause::MissingKey.at_key(place, key)),
+        None => Err(NetCause::MissingKey.at_key(place, key)),
     }
 }
 
@@ -111,10 +111,10 @@ pub fn number_in(
             if *number >= lo as i64 && *number <= hi as i64 {
                 Ok(*number as u32)
             } else {
-                Err(Cause::OutOfRange.at_key(place, key))
+                Err(NetCause::OutOfRange.at_key(place, key))
             }
         }
-        _ => Err(Cause::WrongType.at_key(place, key)),
+        _ => Err(NetCause::WrongType.at_key(place, key)),
     }
 }
 
@@ -177,10 +177,10 @@ pub fn integer_in(place: Place, key: &str, most: u32, value: &Value) -> Result<i
             if number.unsigned_abs() <= most as u64 {
                 Ok(*number as i32)
             } else {
-                Err(Cause::OutOfRange.at_key(place, key))
+                Err(NetCause::OutOfRange.at_key(place, key))
             }
         }
-        _ => Err(Cause::WrongType.at_key(place, key)),
+        _ => Err(NetCause::WrongType.at_key(place, key)),
     }
 }
 
@@ -216,7 +216,7 @@ pub fn text_in<'t>(place: Place, key: &str, value: &'t Value) -> Result<&'t str,
 {
     match value {
         Value::String(text) => Ok(text.as_str()),
-        _ => Err(Cause::WrongType.at_key(place, key)),
+        _ => Err(NetCause::WrongType.at_key(place, key)),
     }
 }
 
@@ -231,7 +231,7 @@ pub fn array_in<'t>(place: Place, key: &str, value: &'t Value) -> Result<&'t [Va
 {
     match value {
         Value::Array(values) => Ok(values.as_slice()),
-        _ => Err(Cause::WrongType.at_key(place, key)),
+        _ => Err(NetCause::WrongType.at_key(place, key)),
     }
 }
 
@@ -245,7 +245,7 @@ pub fn array_in<'t>(place: Place, key: &str, value: &'t Value) -> Result<&'t [Va
 pub fn elements_in<'t>(
     place: Place,
     key: &str,
-    empty: Cause,
+    empty: NetCause,
     most: usize,
     value: &'t Value,
 ) -> Result<&'t [Value], NetRefusal>
@@ -257,7 +257,7 @@ pub fn elements_in<'t>(
         return Err(empty.at_key(place, key));
     }
     if values.len() > most {
-        return Err(Cause::TooMany.at_key(place, key));
+        return Err(NetCause::TooMany.at_key(place, key));
     }
     Ok(values)
 }
@@ -279,7 +279,7 @@ pub fn counted_in<'t>(
 {
     let values = read!(array_in(place, key, value));
     if values.len() != count {
-        return Err(Cause::TableLength.at_key(place, key));
+        return Err(NetCause::TableLength.at_key(place, key));
     }
     Ok(values)
 }
@@ -295,6 +295,6 @@ pub fn table_in(place: Place, value: &Value) -> Result<&Table, NetRefusal>
 {
     match value {
         Value::Table(table) => Ok(table),
-        _ => Err(Cause::WrongType.at_place(place)),
+        _ => Err(NetCause::WrongType.at_place(place)),
     }
 }

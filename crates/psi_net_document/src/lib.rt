@@ -23,4 +23,4 @@ pub use references::{
     queue_in, required_queue, required_target, required_targets, some_targets_in, target_in,
     targets_in,
 };
-pub use refusals::{Cause, MOST_NET_BYTES, NetRefusal, Place, Section};
+pub use refusals::{MOST_NET_BYTES, NetCause, NetRefusal, Place, Section};

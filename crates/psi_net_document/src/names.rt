@@ -10,7 +10,7 @@ ghost use Rattle.psi_net_document.specs.Names.{name_in, unless_taken};
 
 use crate::keys::{present, text_in};
 use crate::read;
-use crate::refusals::{Cause, NetRefusal, Place};
+use crate::refusals::{NetCause, NetRefusal, Place};
 use indexmap::IndexSet;
 use psi_net_model::{Name, name_of};
 use toml::Value;
@@ -23,7 +23,7 @@ fn name_in(place: Place, key: &str, value: &Value) -> Result<Name, NetRefusal>
     let text = read!(text_in(place, key, value));
     match name_of(text) {
         Some(name) => Ok(name),
-        None => Err(Cause::OutOfRange.at_key(place, key)),
+        None => Err(NetCause::OutOfRange.at_key(place, key)),
     }
 }
 
@@ -51,7 +51,7 @@ pub fn unless_taken(place: Place, earlier: &IndexSet<Name>, name: Name) -> Resul
     ensures fresh { OnOk result (list_any (bytes_eq name) earlier.now.keys ≡ false) }
 {
     if earlier.contains(&name) {
-        Err(Cause::DuplicateName.at_key(place, "name"))
+        Err(NetCause::DuplicateName.at_key(place, "name"))
     } else {
         Ok(())
     }

@@ -7,13 +7,13 @@ ghost use Rattle.psi_net_document.specs.Refusal.{Gives};
 ghost use Rattle.psi_net_document.specs.Values.{seen, required, each};
 ghost use Rattle.psi_net_document.specs.References.{number_of, is_in, queue_in, target_in, target_step, targets_in, some_targets_in};
 ghost use Rattle.psi_net_document.specs.Targets.{AreTargets};
-ghost use Rattle.psi_net_document.specs.MarksKept.{AreMarked};
+ghost use Rattle.psi_net_document.specs.Inner.MarksKept.{AreMarked};
 
 use crate::digests::{fingerprint, slot};
 use crate::keys::{array_in, present, text_in};
 use crate::known_names::KnownNames;
 use crate::read;
-use crate::refusals::{Cause, NetRefusal, Place};
+use crate::refusals::{NetCause, NetRefusal, Place};
 use psi_net_model::name_of;
 use psi_state::Queues;
 use toml::Value;
@@ -79,7 +79,7 @@ pub fn queue_in(
     let text = read!(text_in(place, key, value));
     match number_of(known, text) {
         Some(number) => Ok(number as u8),
-        None => Err(Cause::UnknownQueue.at_key(place, key)),
+        None => Err(NetCause::UnknownQueue.at_key(place, key)),
     }
 }
 
@@ -118,7 +118,7 @@ pub fn target_in(
 {
     let queue = read!(queue_in(place, key, known, value));
     if sources.contains(queue) {
-        return Err(Cause::SelfTarget.at_key(place, key));
+        return Err(NetCause::SelfTarget.at_key(place, key));
     }
     Ok(queue)
 }
@@ -170,10 +170,10 @@ fn push_target(
 {
     let queue = read!(queue_in(place, key, known, value));
     if is_marked(marks, queue, earlier) {
-        return Err(Cause::RepeatedTarget.at_key(place, key));
+        return Err(NetCause::RepeatedTarget.at_key(place, key));
     }
     if sources.contains(queue) {
-        return Err(Cause::SelfTarget.at_key(place, key));
+        return Err(NetCause::SelfTarget.at_key(place, key));
     }
     earlier.push(queue);
     marks[queue as usize] = 1;
@@ -241,7 +241,7 @@ pub fn some_targets_in(
 {
     let values = read!(array_in(place, key, value));
     if values.is_empty() {
-        return Err(Cause::OutOfRange.at_key(place, key));
+        return Err(NetCause::OutOfRange.at_key(place, key));
     }
     all_targets(place, key, known, sources, values)
 }

@@ -58,7 +58,7 @@ pub struct NetRefusal {
 
 /// Why a value of a file is refused; [`NetRefusal`] has what each cause is.
 #[derive(Clone, Copy, Debug)]
-pub enum Cause {
+pub enum NetCause {
     /// The file has too many bytes: 0.
     TooLong,
     /// The bytes are no TOML document: 1.
@@ -97,7 +97,7 @@ pub enum Cause {
     EmptyGuard,
 }
 
-impl Cause {
+impl NetCause {
     ghost use Rattle.psi_net_document.specs.Refusal.{code_of, at_key, at_place};
 
     // The cause's number.
@@ -105,24 +105,24 @@ impl Cause {
         ensures { result ≡ code_of self }
     {
         match self {
-            Cause::TooLong => 0,
-            Cause::NotToml => 1,
-            Cause::Version => 2,
-            Cause::UnknownKey => 3,
-            Cause::MissingKey => 4,
-            Cause::WrongType => 5,
-            Cause::OutOfRange => 6,
-            Cause::TooMany => 7,
-            Cause::DuplicateName => 8,
-            Cause::UnknownQueue => 9,
-            Cause::UnknownKind => 10,
-            Cause::SelfTarget => 11,
-            Cause::RepeatedTarget => 12,
-            Cause::TableLength => 13,
-            Cause::BatchTooLarge => 14,
-            Cause::NoEvents => 15,
-            Cause::TotalTooLarge => 16,
-            Cause::EmptyGuard => 18,
+            NetCause::TooLong => 0,
+            NetCause::NotToml => 1,
+            NetCause::Version => 2,
+            NetCause::UnknownKey => 3,
+            NetCause::MissingKey => 4,
+            NetCause::WrongType => 5,
+            NetCause::OutOfRange => 6,
+            NetCause::TooMany => 7,
+            NetCause::DuplicateName => 8,
+            NetCause::UnknownQueue => 9,
+            NetCause::UnknownKind => 10,
+            NetCause::SelfTarget => 11,
+            NetCause::RepeatedTarget => 12,
+            NetCause::TableLength => 13,
+            NetCause::BatchTooLarge => 14,
+            NetCause::NoEvents => 15,
+            NetCause::TotalTooLarge => 16,
+            NetCause::EmptyGuard => 18,
         }
     }
 

@@ -96,7 +96,7 @@ listed n event kind some light source = record {
   light = light;
 }
 
-caps_count : (n : ℕ) → length (map (λ q. q.capacity) (generated_queues n)) ≡ queue_count n
+pub caps_count : (n : ℕ) → length (map (λ q. q.capacity) (generated_queues n)) ≡ queue_count n
 caps_count n = length-map (generated_queues n) (λ (q : Queue). q.capacity) ∙ queues_count n
 
 passing_listed : (n first count : ℕ) → 1 ≤ first → first + count ≤ queue_count n → All (IsListed (generated_queues n)) (map passing_event (numbers_from first count))
@@ -182,7 +182,7 @@ numbers_some : (n : ℕ) → 1 ≤ n → is_none_listed (numbers_from 0 n) ≡ f
 numbers_some zero some = absurd (omega arith)
 numbers_some (suc n) some = refl
 
-all_counted : (n : ℕ) (caps : List ℕ) → length caps ≡ queue_count n → IsReward caps (Linear (numbers_from 0 (queue_count n)) (replicate (queue_count n) (pos 1)))
+pub all_counted : (n : ℕ) (caps : List ℕ) → length caps ≡ queue_count n → IsReward caps (Linear (numbers_from 0 (queue_count n)) (replicate (queue_count n) (pos 1)))
 all_counted n caps sized =
     let range = (count_range n).0 in
     record {

@@ -10,4 +10,4 @@ mod PartsLemmas
 mod LoweredLemmas
 mod MoveLemmas
 mod MakingLemmas
-mod KeptGeneratedLemmas
+pub mod KeptGeneratedLemmas

@@ -1,6 +1,6 @@
 -- The definitions of this crate, and the laws that clauses rest on.
 pub mod Name
-pub mod NameLaws
+pub mod Inner
 pub mod Network
 pub mod Draft
 pub mod Expansion

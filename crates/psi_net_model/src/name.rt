@@ -35,7 +35,7 @@ impl Model for Name {
 
     ghost inverse = { λ bytes. record { cells = bytes ++ replicate (32 - length bytes) 0; len = length bytes } };
 
-    ghost use Rattle.psi_net_model.specs.NameLaws.{padded};
+    ghost use Rattle.psi_net_model.specs.Inner.NameLaws.{padded};
 
     ghost inverse_ok = { λ a h. padded a.cells a.len h.0 h.1 h.2 };
 }

@@ -39,19 +39,25 @@ pub nothing-risen : (n : ℕ) (s w v : ℤ) → v ≡ w → s ≡ s +ℤ (pos n 
 nothing-risen n s w v same =
     plain-none s (pos n *ℤ w) ∙ ap (λ z. s +ℤ z) (sym (times-apart n w w) ∙ ap (λ z. pos n *ℤ (w -ℤ z)) (sym same))
 
-plain-begun : (new sum times_w times_v later w x : ℤ) → sum ≡ pos 0 → times_v ≡ pos 0 → x ≡ w → times_w ≡ later +ℤ w → new ≡ sum +ℤ (times_w -ℤ times_v) → new ≡ x +ℤ later
-plain-begun new sum times_w times_v later w x none zero_value same times after = omega (arith, ints)
+plain-begun : (new sum times_w later w x : ℤ) → sum ≡ pos 0 → x ≡ w → times_w ≡ later +ℤ w → new ≡ sum +ℤ times_w → new ≡ x +ℤ later
+plain-begun new sum times_w later w x none same times after = omega (arith, ints)
 
 times-none : (n : ℕ) → pos n *ℤ pos 0 ≡ pos 0
 times-none n = (let e : n * 0 ≡ 0 = omega arith in ap pos e)
 
--- sums of 0, and then of w at all times
-pub begun-integer : (steps : ℕ) (new sum v w x : ℤ) → sum ≡ pos 0 → v ≡ pos 0 → x ≡ w → new ≡ sum +ℤ (pos (steps + 1) *ℤ (w -ℤ v)) → new ≡ x +ℤ (pos steps *ℤ w)
-begun-integer steps new sum v w x none zero_value same after =
+-- a sum of 0, and then of w at all times
+pub begun-integer : (steps : ℕ) (new sum w x : ℤ) → sum ≡ pos 0 → x ≡ w → new ≡ sum +ℤ (pos (steps + 1) *ℤ w) → new ≡ x +ℤ (pos steps *ℤ w)
+begun-integer steps new sum w x none same after =
     let e : steps + 1 ≡ suc steps = omega arith in
-    plain-begun new sum (pos (steps + 1) *ℤ w) (pos (steps + 1) *ℤ v) (pos steps *ℤ w) w x none
-    (ap (λ z. pos (steps + 1) *ℤ z) zero_value ∙ times-none (steps + 1)) same (ap (λ n. pos n *ℤ w) e ∙ times-suc steps w)
-    (after ∙ ap (λ z. sum +ℤ z) (times-apart (steps + 1) v w))
+    plain-begun new sum (pos (steps + 1) *ℤ w) (pos steps *ℤ w) w x none same (ap (λ n. pos n *ℤ w) e ∙ times-suc steps w) after
+
+plain-added : (new sum times_w times_v : ℤ) → times_v ≡ pos 0 → new ≡ sum +ℤ (times_w -ℤ times_v) → new ≡ sum +ℤ times_w
+plain-added new sum times_w times_v zero_value after = omega (arith, ints)
+
+-- a sum that has w instead of nothing, so many times
+pub added-integer : (n : ℕ) (new sum v w : ℤ) → v ≡ pos 0 → new ≡ sum +ℤ (pos n *ℤ (w -ℤ v)) → new ≡ sum +ℤ (pos n *ℤ w)
+added-integer n new sum v w zero_value after =
+    plain-added new sum (pos n *ℤ w) (pos n *ℤ v) (ap (λ z. pos n *ℤ z) zero_value ∙ times-none n) (after ∙ ap (λ z. sum +ℤ z) (times-apart n v w))
 
 -- ---- ranges
 

@@ -8,13 +8,13 @@ use Rattle.std.proofs.lemmas.Option.{slice_get-map, unwrap_or-slice_get, slice_g
 use Rattle.psi_state.specs.State.{IsBelow, AreCapacities}
 use Rattle.psi_state.proofs.StatesLemmas.{same-from_eq}
 use Rattle.psi_rate.specs.Rates.{event_of}
-use Rattle.psi_rate.specs.Composition.{Parts, picked}
+use Rattle.psi_rate.specs.Composition.{SystemParts, picked}
 use Rattle.psi_rate.specs.System.{IsSystem}
 use Rattle.psi_path.specs.Path.{Path, first_place, path_of, state_of, event_after, is_changed}
 use Rattle.psi_path.proofs.StandLemmas.{state-next, event-next}
 
 -- a word that picks no event
-module _ {E : Type 0} (function : E → List ℕ → List ℕ) (system : Parts E) (word : ℕ) (none : event_of system.rates word ≡ length system.events) where
+module _ {E : Type 0} (function : E → List ℕ → List ℕ) (system : SystemParts E) (word : ℕ) (none : event_of system.rates word ≡ length system.events) where
   -- it changes nothing
   idle-function : picked (map function system.events) system.rates word ≡ (λ x. x)
   idle-function =
@@ -29,12 +29,12 @@ module _ {E : Type 0} (function : E → List ℕ → List ℕ) (system : Parts E
       ∙ sym (ap (λ (f : List ℕ → List ℕ). f (state_of (path_of function system words start) k)) idle-function)
       ∙ sym (state-next (path_of function system words start) k word at)
 
-pub idle-chosen : {E : Type 0} (capacities : E → List ℕ) (function : E → List ℕ → List ℕ) (system : Parts E) → IsSystem capacities system → (word : ℕ) → event_of system.rates word ≡ length system.events
+pub idle-chosen : {E : Type 0} (capacities : E → List ℕ) (function : E → List ℕ → List ℕ) (system : SystemParts E) → IsSystem capacities system → (word : ℕ) → event_of system.rates word ≡ length system.events
     → (words : ℕ → ℕ) (start : List ℕ) (k : ℕ) → words (first_place + k) ≡ word → event_after (path_of function system words start) (suc k) ≡ length system.rates
 idle-chosen capacities function system fit word none words start k at = event-next (path_of function system words start) k word at ∙ none ∙ sym fit.same_count
 
 -- a word that picks an event, by the event's number
-module _ {E : Type 0} (capacities : E → List ℕ) (function : E → List ℕ → List ℕ) (system : Parts E) (fit : IsSystem capacities system) (word n : ℕ) (e : E)
+module _ {E : Type 0} (capacities : E → List ℕ) (function : E → List ℕ → List ℕ) (system : SystemParts E) (fit : IsSystem capacities system) (word n : ℕ) (e : E)
     (number : n ≡ event_of system.rates word) (is : Some e ≡ slice_get system.events (event_of system.rates word)) where
   pub picked-small : n < length system.rates
   picked-small =

@@ -2,7 +2,7 @@
 use Rattle.std.specs.Prelude.{ℕ, zero, suc, ◌+◌, ◌-◌, ◌^◌, List, map, Bool, false, not, nat_eq}
 use Rattle.std.specs.Cmp.Lexicographic.{pointwise}
 use Rattle.psi_rate.specs.Rates.{event_of}
-use Rattle.psi_rate.specs.Composition.{Parts, Functions, picked}
+use Rattle.psi_rate.specs.Composition.{SystemParts, Functions, picked}
 
 -- the place of the random word of time 1; a sample reads places below it only, since its horizon is at most 2^22
 unfoldable pub first_place : ℕ
@@ -31,7 +31,7 @@ pub record Course : Type 0 where
   pub steps : ℕ
 
 -- the path of a network from this state under these words
-abbrev pub path_of : {E : Type 0} → (E → List ℕ → List ℕ) → Parts E → (ℕ → ℕ) → List ℕ → Path
+abbrev pub path_of : {E : Type 0} → (E → List ℕ → List ℕ) → SystemParts E → (ℕ → ℕ) → List ℕ → Path
 path_of function system words start = record { functions = map function system.events; rates = system.rates; words = words; start = start }
 
 module _ (path : Path) where

@@ -1,5 +1,5 @@
 -- What is summed and counted along a path.
-use Rattle.std.specs.Prelude.{◌≡◌, ℕ, zero, suc, ◌+◌, ℤ, pos, ◌+ℤ◌, List, length, slice_index, slice_index_or, Bool, ◌&&◌, nat_eq, if◌then◌else◌}
+use Rattle.std.specs.Prelude.{◌≡◌, ℕ, zero, suc, ◌+◌, ◌<◌, ℤ, pos, ◌+ℤ◌, List, length, replicate, slice_index, slice_index_or, Bool, ◌&&◌, nat_eq, if◌then◌else◌}
 use Rattle.psi_path.specs.Path.{Path, state_of, event_after, is_changed}
 
 -- the sum of what is told of the times 0, 1, .., n
@@ -55,3 +55,19 @@ pub record HasCounts (queues rewards events : ℕ) (sums : Sums) : Type 0 where
   pub own_rewards : length sums.rewards ≡ rewards
   pub own_chosen : length sums.chosen ≡ events
   pub own_changed : length sums.changed ≡ events
+
+-- they are those of a path of so many steps: of so many queues, of so many rewards, which make this of each state, and of so many events
+pub record ArePathSums (queue_count reward_count event_count : ℕ) (worths : List Worth) (path : Path) (steps : ℕ) (sums : Sums) : Type 0 where
+  pub queues : (q : ℕ) → q < queue_count → slice_index sums.queues q ≡ customers_until path q steps
+  pub rewards : (r : ℕ) → r < reward_count → slice_index_or sums.rewards r (pos 0) ≡ worth_until path (worth_at worths r) steps
+  pub chosen : (e : ℕ) → e < event_count → slice_index sums.chosen e ≡ chosen_until path e steps
+  pub changed : (e : ℕ) → e < event_count → slice_index sums.changed e ≡ changed_until path e steps
+
+-- as many sums and counts, all of which are 0
+abbrev pub cleared : Sums → Sums
+cleared sums = record {
+  queues = replicate (length sums.queues) 0;
+  rewards = replicate (length sums.rewards) (pos 0);
+  chosen = replicate (length sums.chosen) 0;
+  changed = replicate (length sums.changed) 0;
+}

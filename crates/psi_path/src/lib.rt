@@ -4,13 +4,16 @@
 //! same stream: so the sample and the path are one run of the network.
 #![tactic(auto)]
 
+mod putting;
 mod rewards;
 mod running;
 mod turning;
 mod walk;
+mod walker;
 
 pub use rewards::Rewards;
 pub use walk::Walk;
+pub use walker::PathWalker;
 
 /// There was no memory: the only way in which a call with this error fails.
 pub use std::alloc::AllocError as OutOfMemory;

@@ -1,8 +1,9 @@
 //! The contract of the rewards that are summed along a path.
 
-ghost use Rattle.std.specs.Prelude.{◌≡◌, ◌<◌, ℕ, List, length};
+ghost use Rattle.std.specs.Prelude.{◌≡◌, ◌<◌, ℕ, List, length, IsTrue};
 ghost use Rattle.psi_state.specs.State.{IsBelow};
 ghost use Rattle.psi_path.specs.Sums.{Worth, worth_at};
+ghost use Rattle.psi_path.specs.Additive.{IsAdditive};
 
 use psi_state::State;
 
@@ -25,4 +26,15 @@ pub trait Rewards {
         requires place { r < length (worths self.now) }
         requires within { IsBelow x.now (capacities self.now) }
         ensures { result ≡ worth_at (worths self.now) r x.now };
+
+    /// Whether reward `r` is known to be additive: it rises by as much from one state to another as from a third to a fourth
+    /// wherever the customers of each queue do. A sum of weight times number held is.
+    fn is_additive(&self, r: usize) -> bool
+        requires { r < length (worths self.now) }
+        ensures { IsTrue result → IsAdditive (capacities self.now) (worth_at (worths self.now) r) }
+    {
+        // The trait knows of no reward more than its values.
+        let _reward = r;
+        false
+    }
 }

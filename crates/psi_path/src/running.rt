@@ -1,9 +1,11 @@
 //! Sums while a path is walked.
 
-ghost use Rattle.std.specs.Prelude.{◌≡◌, ℕ, ◌+◌, ◌-◌, ◌^◌, ◌<◌, ◌≤◌, List, length, IfOk};
+ghost use Rattle.std.specs.Prelude.{◌≡◌, ℕ, ◌+◌, ◌-◌, ◌*◌, ◌^◌, ◌<◌, ◌≤◌, pos, ◌+ℤ◌, ◌*ℤ◌, List, length, replicate, slice_index, slice_index_or, IfOk};
+ghost use Rattle.std.specs.Int.RustNames.{unsigned_abs};
 ghost use Rattle.psi_past.specs.Filled.{AreWordsFrom};
 ghost use Rattle.psi_state.specs.State.{IsBelow, AreCapacities};
 ghost use Rattle.psi_path.specs.Path.{Path, Course, first_place, path_of};
+ghost use Rattle.psi_path.specs.Sums.{worth_at};
 ghost use Rattle.psi_path.specs.Running.{StandsAt};
 
 use crate::rewards::Rewards;
@@ -74,22 +76,49 @@ impl Running {
         ensures left { self.new.left ≡ steps }
         ensures state { self.new.state ≡ start }
     {
-        self.queues.fill(0);
-        self.rewards.fill(0);
-        self.values.fill(0);
-        self.chosen.fill(0);
-        self.changed.fill(0);
-        let none = State::zero(start.len());
-        turn_queues(&mut self.queues, &none, &start, steps + 1);
-        turn_rewards(
-            &mut self.rewards,
-            &mut self.values,
-            rewards,
-            &start,
-            steps + 1,
-        );
+        self.clear();
+        self.add(rewards, &start, steps + 1);
         self.state = start;
         self.left = steps;
+    }
+
+    // Sets all sums and counts to 0.
+    pub(crate) fn clear(&mut self)
+        ensures queues { self.new.queues.items ≡ replicate (length self.old.queues.items) 0 }
+        ensures rewards { self.new.rewards.items ≡ replicate (length self.old.rewards.items) (pos 0) }
+        ensures chosen { self.new.chosen.items ≡ replicate (length self.old.chosen.items) 0 }
+        ensures changed { self.new.changed.items ≡ replicate (length self.old.changed.items) 0 }
+        ensures values { self.new.values ≡ self.old.values }
+    {
+        self.queues.fill(0);
+        self.rewards.fill(0);
+        self.chosen.fill(0);
+        self.changed.fill(0);
+    }
+
+    // Adds the customers and the values of a state so many times.
+    pub(crate) fn add<R: Rewards>(&mut self, rewards: &R, x: &State, times: u32)
+        requires within { IsBelow x.now (R.capacities rewards.now) }
+        requires queues { length self.old.queues.items ≡ length (R.capacities rewards.now) }
+        requires rewards { length self.old.rewards.items ≡ length (R.worths rewards.now) }
+        requires values { length self.old.values.items ≡ length (R.worths rewards.now) }
+        requires few_queues { (q : ℕ) → q < length self.old.queues.items → slice_index self.old.queues.items q ≤ 2 ^ 49 }
+        requires few_rewards { (r : ℕ) → r < length (R.worths rewards.now) → unsigned_abs (slice_index_or self.old.rewards.items r (pos 0)) ≤ 2 ^ 96 }
+        ensures queue_count { length self.new.queues.items ≡ length self.old.queues.items }
+        ensures queues { (q : ℕ) → q < length self.old.queues.items → slice_index self.new.queues.items q ≡ slice_index self.old.queues.items q + times * slice_index x.now q }
+        ensures reward_count { length self.new.rewards.items ≡ length self.old.rewards.items }
+        ensures rewards { (r : ℕ) → r < length (R.worths rewards.now) → slice_index_or self.new.rewards.items r (pos 0)
+            ≡ slice_index_or self.old.rewards.items r (pos 0) +ℤ (pos times *ℤ worth_at (R.worths rewards.now) r x.now) }
+        ensures value_count { length self.new.values.items ≡ length self.old.values.items }
+        ensures values { (r : ℕ) → r < length (R.worths rewards.now) → slice_index_or self.new.values.items r (pos 0) ≡ worth_at (R.worths rewards.now) r x.now }
+        ensures small { (r : ℕ) → r < length (R.worths rewards.now) → unsigned_abs (worth_at (R.worths rewards.now) r x.now) ≤ 2 ^ 63 }
+        ensures chosen { self.new.chosen ≡ self.old.chosen }
+        ensures changed { self.new.changed ≡ self.old.changed }
+    {
+        self.values.fill(0);
+        let none = State::zero(x.len());
+        turn_queues(&mut self.queues, &none, x, times);
+        turn_rewards(&mut self.rewards, &mut self.values, rewards, x, times);
     }
 
     // Walks one step, by its word.

@@ -1,9 +1,10 @@
 //! The walk of a path, with its sums.
 
-ghost use Rattle.std.specs.Prelude.{◌≡◌, ℕ, ◌<◌, ◌≤◌, pos, length, slice_index, slice_index_or, IfOk};
+ghost use Rattle.std.specs.Prelude.{◌≡◌, ℕ, ◌+◌, ◌*◌, ◌^◌, ◌<◌, ◌≤◌, pos, ◌+ℤ◌, ◌*ℤ◌, length, slice_index, slice_index_or, slice_set, IfOk};
+ghost use Rattle.std.specs.Int.RustNames.{unsigned_abs};
 ghost use Rattle.psi_state.specs.State.{IsBelow};
 ghost use Rattle.psi_path.specs.Path.{path_of, state_of};
-ghost use Rattle.psi_path.specs.Sums.{HasCounts, worth_at, customers_until, worth_until, chosen_until, changed_until};
+ghost use Rattle.psi_path.specs.Sums.{HasCounts, ArePathSums, cleared, worth_at};
 
 use crate::OutOfMemory;
 use crate::rewards::Rewards;
@@ -20,7 +21,7 @@ use std::marker::Model;
 /// It is seen as these sums. What it takes of memory is taken when it is made.
 #[derive(Drop)]
 pub struct Walk {
-    running: Running,
+    pub(crate) running: Running,
 }
 
 impl Model for Walk {
@@ -35,7 +36,7 @@ impl Model for Walk {
 }
 
 impl Walk {
-    /// A walk for networks of so many queues, 1 to 32, rewards, and events. All its sums are 0.
+    /// A walk for networks of so many queues, 1 to 32, rewards, and events.
     ///
     /// # Errors
     ///
@@ -73,11 +74,8 @@ impl Walk {
         requires counts { HasCounts (length system.now.caps) (length (R.worths rewards.now)) (length system.now.events) self.old }
         ensures state { result ≡ state_of (path_of E.function system.now (P.words past.old) start) steps }
         ensures within { IsBelow result system.now.caps }
-        ensures queues { (q : ℕ) → q < length system.now.caps → slice_index self.new.queues q ≡ customers_until (path_of E.function system.now (P.words past.old) start) q steps }
-        ensures rewards { (r : ℕ) → r < length (R.worths rewards.now)
-            → slice_index_or self.new.rewards r (pos 0) ≡ worth_until (path_of E.function system.now (P.words past.old) start) (worth_at (R.worths rewards.now) r) steps }
-        ensures chosen { (e : ℕ) → e < length system.now.events → slice_index self.new.chosen e ≡ chosen_until (path_of E.function system.now (P.words past.old) start) e steps }
-        ensures changed { (e : ℕ) → e < length system.now.events → slice_index self.new.changed e ≡ changed_until (path_of E.function system.now (P.words past.old) start) e steps }
+        ensures sums { ArePathSums (length system.now.caps) (length (R.worths rewards.now)) (length system.now.events) (R.worths rewards.now)
+            (path_of E.function system.now (P.words past.old) start) steps self.new }
         ensures counts { HasCounts (length system.now.caps) (length (R.worths rewards.now)) (length system.now.events) self.new }
         ensures words { P.words past.new ≡ P.words past.old }
     {
@@ -86,6 +84,45 @@ impl Walk {
         self.running.begin(rewards, start, steps);
         self.running.finish(system, rewards, past, steps);
         self.running.state
+    }
+
+    /// Sets all sums and counts to 0, so that another walker may write those of a path.
+    pub fn clear(&mut self)
+        ensures { self.new ≡ cleared self.old }
+    {
+        self.running.clear();
+    }
+
+    /// Adds a state `times` times: its customers to the sums of the queues, and its values to those of the rewards.
+    ///
+    /// The sums before are at most 2^49 customers of each queue, and at most 2^96 of each reward, whatever its sign. Its last clause is
+    /// how a caller learns the range of the values.
+    pub fn add<R: Rewards>(&mut self, rewards: &R, x: &State, times: u32)
+        requires within { IsBelow x.now (R.capacities rewards.now) }
+        requires queues { length self.old.queues ≡ length (R.capacities rewards.now) }
+        requires rewards { length self.old.rewards ≡ length (R.worths rewards.now) }
+        requires few_queues { (q : ℕ) → q < length self.old.queues → slice_index self.old.queues q ≤ 2 ^ 49 }
+        requires few_rewards { (r : ℕ) → r < length (R.worths rewards.now) → unsigned_abs (slice_index_or self.old.rewards r (pos 0)) ≤ 2 ^ 96 }
+        ensures queues { (q : ℕ) → q < length self.old.queues → slice_index self.new.queues q ≡ slice_index self.old.queues q + times * slice_index x.now q }
+        ensures rewards { (r : ℕ) → r < length (R.worths rewards.now)
+            → slice_index_or self.new.rewards r (pos 0) ≡ slice_index_or self.old.rewards r (pos 0) +ℤ (pos times *ℤ worth_at (R.worths rewards.now) r x.now) }
+        ensures queue_count { length self.new.queues ≡ length self.old.queues }
+        ensures reward_count { length self.new.rewards ≡ length self.old.rewards }
+        ensures chosen { self.new.chosen ≡ self.old.chosen }
+        ensures changed { self.new.changed ≡ self.old.changed }
+        ensures small { (r : ℕ) → r < length (R.worths rewards.now) → unsigned_abs (worth_at (R.worths rewards.now) r x.now) ≤ 2 ^ 63 }
+    {
+        self.running.add(rewards, x, times);
+    }
+
+    /// Sets how often event `e` was chosen, and how often it changed the state; events are counted from 0.
+    pub fn count(&mut self, e: u16, chosen: u64, changed: u64)
+        requires chosen { e < length self.old.chosen }
+        requires changed { e < length self.old.changed }
+        ensures { self.new ≡ record self.old { chosen = slice_set self.old.chosen e chosen; changed = slice_set self.old.changed e changed } }
+    {
+        self.running.chosen[e as usize] = chosen;
+        self.running.changed[e as usize] = changed;
     }
 
     /// The customers of queue `q`, summed over the times of the last path; queues are counted from 0.

@@ -1,15 +1,13 @@
 -- Tables of paths in parts, and paths of no step.
-use Rattle.std.specs.Prelude.{◌≡◌, ℕ, zero, suc, ◌+◌, ◌*◌, List, [], ◌∷◌, ◌++◌, map, length, replicate, refl}
+use Rattle.std.specs.Prelude.{◌≡◌, ℕ, suc, ◌+◌, ◌*◌, List, [], ◌∷◌, ◌++◌, map, length, replicate, refl}
 use Rattle.std.specs.Fmt.{decimal}
 use Rattle.std.specs.List.{flat_map}
 use Rattle.std.proofs.Common.{ap, ◌∙◌, arith}
-use Rattle.psi_state.specs.declared.Outcome.{Outcome}
-use Rattle.psi_net_model.specs.Network.{Network}
 use Rattle.psi_net_model.specs.declared.entries.NamedEvent.{NamedEvent}
 use Rattle.psi_path.specs.Path.{Path}
 use Rattle.psi_report.specs.Quantities.{Quantity}
-use Rattle.psi_reply.specs.Sample.{sampled}
 use Rattle.psi_reply.specs.Report.{samples_of}
+use Rattle.psi_reply.proofs.ReportingLemmas.{samples_number, samples_append}
 use Rattle.psi_table.specs.Table.{quantities, value_fields, stream_fields}
 use Rattle.psi_table.specs.Paths.{stream_path, count_fields, path_row, paths_text}
 use Rattle.psi_table.proofs.PathTableLemmas.{paths_joined}
@@ -20,25 +18,10 @@ use Rattle.psi_paths_laws.specs.Statements.{PathsAreJoined, PrintedPathsAreJoine
 pub joined : PathsAreJoined
 joined net seed steps first xs ys = paths_joined net seed steps first xs ys
 
-samples-number : (net : Network) (seed first count : ℕ) → length (samples_of net seed first count) ≡ count
-samples-number net seed first zero = refl
-samples-number net seed first (suc count) = ap suc (samples-number net seed (suc first) count)
-
-samples-append : (net : Network) (seed first m n : ℕ) → samples_of net seed first (m + n) ≡ samples_of net seed first m ++ samples_of net seed (first + m) n
-samples-append net seed first zero n =
-    let none : 0 + n ≡ n = omega arith in
-    let same : first ≡ first + 0 = omega arith in
-    ap (samples_of net seed first) none ∙ ap (λ f. samples_of net seed f n) same
-samples-append net seed first (suc m) n =
-    let more : suc m + n ≡ suc (m + n) = omega arith in
-    let same : suc first + m ≡ first + suc m = omega arith in
-    ap (samples_of net seed first) more
-    ∙ ap (λ (os : List Outcome). sampled net seed first ∷ os) (samples-append net seed (suc first) m n ∙ ap (λ f. samples_of net seed (suc first) m ++ samples_of net seed f n) same)
-
 pub printed_joined : PrintedPathsAreJoined
 printed_joined net seed steps first m n =
-    let count = samples-number net seed first m in
-    ap (paths_text net seed steps first) (samples-append net seed first m n)
+    let count = samples_number net seed first m in
+    ap (paths_text net seed steps first) (samples_append net seed first m n)
     ∙ rw count at (paths_joined net seed steps first (samples_of net seed first m) (samples_of net seed (first + m) n))
 
 -- ---- paths of no step

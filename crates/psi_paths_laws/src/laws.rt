@@ -1,5 +1,6 @@
 //! The laws of tables of paths.
 
+ghost use Rattle.psi_paths_laws.specs.Counted.{PathsAreCounted, ClosedPathsAreCounted};
 ghost use Rattle.psi_paths_laws.specs.Statements.{PathsAreJoined, PrintedPathsAreJoined, ShortPathsTellSamples, UnmetPathsAreEmpty};
 
 /// The table of the paths of streams is that of the first of them, and behind it the rows of the others: of any samples
@@ -16,4 +17,16 @@ pub fn paths_are_joined()
 pub fn short_paths_tell_samples()
     ensures met { ShortPathsTellSamples }
     ensures unmet { UnmetPathsAreEmpty }
+{}
+
+/// The sums of a row are those that the law of paths counts, at the random words of the seed and the stream.
+///
+/// - `samples`: where the sample of a stream is met, its row has for each queue and each reward the sum along the path that
+///   [`law_of_network_paths`](psi_law_paths::law_of_network_paths) counts. Where it is not met, the law counts one number for
+///   each state of the path.
+/// - `closed`: so it is of the samples of a closed network, and of
+///   [`law_of_closed_network_paths`](psi_law_paths::law_of_closed_network_paths).
+pub fn paths_are_counted()
+    ensures samples { PathsAreCounted }
+    ensures closed { ClosedPathsAreCounted }
 {}

@@ -6,8 +6,8 @@ use Rattle.psi_state.specs.Members.{In}
 use Rattle.psi_state.specs.Hashing.{quad, mixed, quads, hash}
 use Rattle.psi_state.specs.Ascending.{IsDistinct}
 use Rattle.psi_pool.specs.declared.nodes.Node.{Node}
-use Rattle.psi_pool.specs.BucketsKept.{bucket}
-use Rattle.psi_pool.specs.NodesKept.{node_at, bucket_at, IsLast, IsLinked, LeadsOver, AreChained}
+use Rattle.psi_pool.specs.Inner.BucketsKept.{bucket}
+use Rattle.psi_pool.specs.Inner.NodesKept.{node_at, bucket_at, IsLast, IsLinked, LeadsOver, AreChained}
 
 -- a state has one of the buckets
 mixed-below : (x : List ℕ) (n : ℕ) → mixed x n < 2 ^ 64

@@ -5,7 +5,7 @@ use Rattle.psi_state.specs.Sets.{ascending, single}
 use Rattle.psi_state.proofs.SetsLemmas.{In-ascending, In-of_ascending, ascending-same, single-apart}
 use Rattle.psi_state.proofs.AscendingLemmas.{ascending-members, length-insert_state}
 use Rattle.psi_pool.specs.declared.nodes.Node.{Node}
-use Rattle.psi_pool.specs.NodesKept.{node_at, states}
+use Rattle.psi_pool.specs.Inner.NodesKept.{node_at, states}
 use Rattle.psi_pool.proofs.PlacesLemmas.{In-at, place-of, states-next, length-states}
 use Rattle.psi_pool.proofs.KeepingLemmas.{more-members, states-there}
 

@@ -9,11 +9,11 @@ use Rattle.psi_state.specs.Ascending.{IsDistinct, IsRising, HaveSame}
 use Rattle.psi_state.proofs.AscendingLemmas.{ascending-members, ascending-rising, length-ascending, image-ascending}
 use Rattle.psi_pool.specs.declared.nodes.Node.{Node}
 use Rattle.psi_pool.specs.declared.table.Table.{Table}
-use Rattle.psi_pool.specs.BucketsKept.{bucket}
+use Rattle.psi_pool.specs.Inner.BucketsKept.{bucket}
 use Rattle.psi_pool.specs.Pooled.{Pooled}
 use Rattle.psi_pool.specs.Paced.{Paced}
-use Rattle.psi_pool.specs.NodesKept.{node_at, states, IsLinked, AreLinked, HoldSet}
-use Rattle.psi_pool.specs.TablesKept.{held, IsTable, IsPool}
+use Rattle.psi_pool.specs.Inner.NodesKept.{node_at, states, IsLinked, AreLinked, HoldSet}
+use Rattle.psi_pool.specs.Inner.TablesKept.{held, IsTable, IsPool}
 use Rattle.psi_pool.proofs.SortingLemmas.{insert_state-there, ascending-short}
 use Rattle.psi_pool.proofs.PlacesLemmas.{states-take, states-same, distinct-more, length-states}
 use Rattle.psi_pool.proofs.LinkingLemmas.{linked-none, linked-more}

@@ -2,8 +2,8 @@
 use Rattle.std.proofs.Common.{◌≡◌, ℕ, ◌+◌, ◌<◌, List, length, slice_set, slice_index, inl, inr, ap, sym, ◌∙◌, subst, arith, get_or-set_same, get_or-set_other}
 use Rattle.std.proofs.lemmas.Bool.{cases_eq, cases_lt}
 use Rattle.psi_pool.specs.declared.nodes.Node.{Node}
-use Rattle.psi_pool.specs.BucketsKept.{bucket}
-use Rattle.psi_pool.specs.NodesKept.{node_at, bucket_at, IsLast, IsLinked}
+use Rattle.psi_pool.specs.Inner.BucketsKept.{bucket}
+use Rattle.psi_pool.specs.Inner.NodesKept.{node_at, bucket_at, IsLast, IsLinked}
 
 last-same : (used : ℕ) (old now : List Node) (n b link : ℕ) → ((i : ℕ) → i < n → node_at now i ≡ node_at old i) → IsLast used old n b link
     → IsLast used now n b link

@@ -10,15 +10,11 @@ use Rattle.psi_state.proofs.SetsLemmas.{same-from_cmp, In-ascending, In-of_ascen
 use Rattle.psi_state.specs.Ascending.{IsRising, HaveSame}
 use Rattle.psi_state.proofs.AscendingLemmas.{cmp-through, cmp-back, ascending-own, ascending-members}
 use Rattle.psi_pool.specs.declared.nodes.Node.{Node}
-use Rattle.psi_pool.specs.NodesKept.{node_at, states}
+use Rattle.psi_pool.specs.Inner.NodesKept.{node_at, states}
 use Rattle.psi_pool.proofs.PlacesLemmas.{StandsIn, node-read, place-of, In-at, states-next}
+use Rattle.psi_pool.proofs.SortingLemmas.{In-got}
 use Rattle.psi_pool.proofs.KeepingLemmas.{members-inserted}
 use Rattle.psi_pool.proofs.CountingLemmas.{positive}
-
-pub In-got : (xs : List (List ℕ)) (k : ℕ) (d : List ℕ) → k < length xs → In (get_or xs k d) xs
-In-got [] k d small = absurd (omega arith)
-In-got (x ∷ xs) zero d small = inl refl
-In-got (x ∷ xs) (suc k) d small = inr (In-got xs k d (omega arith))
 
 -- in an ascending list each state is below the last or is that one
 below-last : (xs : List (List ℕ)) (n : ℕ) (d z : List ℕ) → IsRising xs → suc n ≡ length xs → In z xs → (z ≡ get_or xs n d) ⊎ (state_cmp z (get_or xs n d) ≡ Less)

@@ -6,7 +6,7 @@ use Rattle.std.proofs.Math.Seq.{take-length}
 use Rattle.psi_state.specs.Members.{In}
 use Rattle.psi_state.specs.Ascending.{IsDistinct}
 use Rattle.psi_pool.specs.declared.nodes.Node.{Node}
-use Rattle.psi_pool.specs.NodesKept.{node_at, states}
+use Rattle.psi_pool.specs.Inner.NodesKept.{node_at, states}
 
 -- x is the state of a node from one place on, before another
 abbrev pub StandsIn : List Node → ℕ → ℕ → List ℕ → Type 0

@@ -4,7 +4,7 @@ use Rattle.std.proofs.lemmas.Bool.{cases_eq}
 use Rattle.psi_state.specs.Members.{In}
 use Rattle.psi_state.specs.Ascending.{IsDistinct, HaveSame}
 use Rattle.psi_pool.specs.declared.nodes.Node.{Node}
-use Rattle.psi_pool.specs.NodesKept.{node_at, states, IsLinked, HoldSet}
+use Rattle.psi_pool.specs.Inner.NodesKept.{node_at, states, IsLinked, HoldSet}
 use Rattle.psi_pool.proofs.PlacesLemmas.{node-read, place-of, In-at, states-same, distinct-more}
 use Rattle.psi_pool.proofs.LinkingLemmas.{linked-none, linked-same}
 

@@ -4,8 +4,8 @@ use Rattle.std.specs.Cmp.Lexicographic.{pointwise}
 use Rattle.psi_state.specs.Members.{In}
 use Rattle.psi_state.proofs.StatesLemmas.{same-from_eq}
 use Rattle.psi_pool.specs.declared.nodes.Node.{Node}
-use Rattle.psi_pool.specs.BucketsKept.{bucket}
-use Rattle.psi_pool.specs.NodesKept.{node_at, bucket_at, states}
+use Rattle.psi_pool.specs.Inner.BucketsKept.{bucket}
+use Rattle.psi_pool.specs.Inner.NodesKept.{node_at, bucket_at, states}
 use Rattle.psi_pool.proofs.PlacesLemmas.{place-of, In-at, node-read}
 
 -- a link of the chain of the bucket of x has been come to, and no node past it has the state x

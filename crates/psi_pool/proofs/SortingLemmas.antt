@@ -27,10 +27,10 @@ insert_state-there x xs rising member =
     })
 
 -- the member at a place
-In-at : (xs : List (List ℕ)) (k : ℕ) (d : List ℕ) → k < length xs → In (get_or xs k d) xs
-In-at [] k d small = absurd (omega arith)
-In-at (x ∷ xs) zero d small = inl refl
-In-at (x ∷ xs) (suc k) d small = inr (In-at xs k d (omega arith))
+pub In-got : (xs : List (List ℕ)) (k : ℕ) (d : List ℕ) → k < length xs → In (get_or xs k d) xs
+In-got [] k d small = absurd (omega arith)
+In-got (x ∷ xs) zero d small = inl refl
+In-got (x ∷ xs) (suc k) d small = inr (In-got xs k d (omega arith))
 
 at-In : (z : List ℕ) (xs : List (List ℕ)) → In z xs → (k : ℕ) × (k < length xs) × (get_or xs k [] ≡ z)
 at-In z [] member = absurd member
@@ -43,7 +43,7 @@ In-permuted : (z : List ℕ) (xs ys : List (List ℕ)) → IsPermutation xs ys �
 In-permuted z xs ys permutation member =
     let found = at-In z xs member in
     let there : Contains ys z = Contains-permutation xs ys z permutation (found.0, found.1, get_or_default xs found.0 z [] found.1 ∙ found.2) in
-    subst (λ (y : List ℕ). In y ys) there.2 (In-at ys there.0 z there.1)
+    subst (λ (y : List ℕ). In y ys) there.2 (In-got ys there.0 z there.1)
 
 insert-match : (x y : List ℕ) (ys more : List (List ℕ)) (o : Ordering) → length more ≤ suc (length ys)
     → length (match_ordering o (x ∷ y ∷ ys) (y ∷ ys) (y ∷ more)) ≤ suc (suc (length ys))
@@ -82,7 +82,7 @@ rising-far (x ∷ xs) each = (
 distinct-far : (xs : List (List ℕ)) (i j : ℕ) → IsDistinct xs → i < j → j < length xs → get_or xs i [] ≡ get_or xs j [] → ⊥
 distinct-far [] i j distinct less small same = omega arith
 distinct-far (x ∷ xs) zero zero distinct less small same = omega arith
-distinct-far (x ∷ xs) zero (suc j) distinct less small same = distinct.0 (subst (λ (y : List ℕ). In y xs) (sym same) (In-at xs j [] (omega arith)))
+distinct-far (x ∷ xs) zero (suc j) distinct less small same = distinct.0 (subst (λ (y : List ℕ). In y xs) (sym same) (In-got xs j [] (omega arith)))
 distinct-far (x ∷ xs) (suc i) zero distinct less small same = omega arith
 distinct-far (x ∷ xs) (suc i) (suc j) distinct less small same = distinct-far xs i j distinct.1 (omega arith) (omega arith) same
 

@@ -1,6 +1,4 @@
 -- The definitions of this crate, and the laws that clauses rest on.
 pub mod Paced
 pub mod Pooled
-pub mod BucketsKept
-pub mod NodesKept
-pub mod TablesKept
+pub mod Inner

@@ -10,8 +10,8 @@ ghost use Rattle.psi_state.specs.State.{IsBelow};
 ghost use Rattle.psi_state.specs.Members.{In};
 ghost use Rattle.psi_state.specs.Sets.{state_cmp, ascending, single};
 ghost use Rattle.psi_state.specs.Ascending.{IsRising, IsDistinct, HaveSame};
-ghost use Rattle.psi_pool.specs.BucketsKept.{bucket};
-ghost use Rattle.psi_pool.specs.NodesKept.{node_at, states, IsLinked, IsNew, HoldSet};
+ghost use Rattle.psi_pool.specs.Inner.BucketsKept.{bucket};
+ghost use Rattle.psi_pool.specs.Inner.NodesKept.{node_at, states, IsLinked, IsNew, HoldSet};
 
 use crate::hashing::bucket_of;
 use psi_event::EventLaw;

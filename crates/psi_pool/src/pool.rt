@@ -8,7 +8,7 @@ ghost use Rattle.psi_state.specs.State.{IsBelow};
 ghost use Rattle.psi_state.specs.Members.{In};
 ghost use Rattle.psi_state.specs.Sets.{insert_state, ascending, image, single};
 ghost use Rattle.psi_state.specs.Ascending.{IsRising, HaveSame};
-ghost use Rattle.psi_pool.specs.TablesKept.{held, IsTable};
+ghost use Rattle.psi_pool.specs.Inner.TablesKept.{held, IsTable};
 ghost use Rattle.psi_pool.specs.Paced.{counts_of, begun, IsPace, CountsStep};
 ghost use Rattle.psi_pool.specs.contracts.pool.Pool.{the_row};
 
@@ -44,7 +44,7 @@ pub struct Pool {
 impl Model for Pool {
     ghost use Rattle.std.specs.Prelude.{vec_capacity};
     ghost use Rattle.psi_state.specs.Sets.{ascending};
-    ghost use Rattle.psi_pool.specs.TablesKept.{held, IsPool};
+    ghost use Rattle.psi_pool.specs.Inner.TablesKept.{held, IsPool};
     ghost use Rattle.psi_pool.specs.Pooled.{Pooled};
 
     ghost Value = { Pooled };

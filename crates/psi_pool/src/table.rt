@@ -8,7 +8,7 @@ ghost use Rattle.psi_state.specs.State.{IsBelow};
 ghost use Rattle.psi_state.specs.Members.{In};
 ghost use Rattle.psi_state.specs.Sets.{ascending};
 ghost use Rattle.psi_state.specs.Ascending.{HaveSame};
-ghost use Rattle.psi_pool.specs.TablesKept.{held, IsTable};
+ghost use Rattle.psi_pool.specs.Inner.TablesKept.{held, IsTable};
 
 use crate::hashing::bucket_of;
 use crate::nodes::{

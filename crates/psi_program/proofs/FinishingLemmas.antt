@@ -20,6 +20,12 @@ module _ {Status File : Type 0} {faults : Faults Status File} where
   finished_with given Other out_takes err_takes out err result finished holds =
       finished_as (λ ending. ending ≡ given) Other out_takes err_takes out err result finished (λ ending is. subst Other (sym is) holds)
 
+  -- and what was done for one of two that are the same was done for the other
+  pub finished_for : {A : Type 0} (Is : A → Ending Status File → Type 0) {one other : A} {out_takes err_takes : ℕ → Type 0} {out err : SinkSeen} {result : Status}
+      → one ≡ other → IsFinished faults (Is other) out_takes err_takes out err result → IsFinished faults (Is one) out_takes err_takes out err result
+  finished_for Is {out_takes = out_takes} {err_takes = err_takes} {out = out} {err = err} {result = result} same finished =
+      subst (λ a. IsFinished faults (Is a) out_takes err_takes out err result) (sym same) finished
+
   -- an ending that was written whole is finished with its status, and another with a failed write
   module _ (given : Ending Status File) (out_takes err_takes : ℕ → Type 0) (out err : SinkSeen) where
     pub finished_whole : (result : Status) → IsWhole (ending_reply faults given) out err

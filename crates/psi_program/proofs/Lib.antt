@@ -4,3 +4,4 @@ pub mod SparingLemmas
 pub mod FinishingLemmas
 pub mod AcceptedLemmas
 pub mod StartingLemmas
+pub mod EdgeLemmas

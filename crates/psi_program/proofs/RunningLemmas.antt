@@ -36,6 +36,19 @@ part-any sink text part = record {
   took = prefix-any (Some sink.took_before) (Some sink.took_after) text part.took;
 }
 
+-- what is known of a program's statuses: those of a failed read, of a failed write, of memory that ran out, and on words that ask for nothing, and which
+-- are those of replies, which of them with a line in err and which with a text in out
+pub record AreStatuses {Status : Type 0} (read_fault write_fault out_of_memory usage : Status) (IsReplied IsReported IsPrinted : Status → Type 0) : Type 0 where
+  pub usage_replied : IsReplied usage
+  pub no_read : IsReplied read_fault → ⊥
+  pub no_write : IsReplied write_fault → ⊥
+  pub no_memory : IsReplied out_of_memory → ⊥
+  pub read_write : read_fault ≡ write_fault → ⊥
+  pub read_memory : read_fault ≡ out_of_memory → ⊥
+  pub write_memory : write_fault ≡ out_of_memory → ⊥
+  pub silent : IsReported write_fault → ⊥
+  pub printed : (status : Status) → IsPrinted status → IsReplied status
+
 -- a program and a call of it: how it tells of faults, its status on words that ask for nothing, the statuses of replies, those with a line in
 -- err and those with a text in out, the replies to the call's words, the reply where it is known, what a failed read is and its line,
 -- and whether the words ask for work or don't
@@ -51,15 +64,7 @@ module _ {Status File Unread : Type 0} (faults : Faults Status File) (usage : St
 
   -- what is known of the statuses, the replies and the words
   pub record IsProgram : Type 0 where
-    pub usage_replied : IsReplied usage
-    pub read_fault : IsReplied faults.read_fault → ⊥
-    pub write_fault : IsReplied faults.write_fault → ⊥
-    pub out_of_memory : IsReplied faults.out_of_memory → ⊥
-    pub read_write : faults.read_fault ≡ faults.write_fault → ⊥
-    pub read_memory : faults.read_fault ≡ faults.out_of_memory → ⊥
-    pub write_memory : faults.write_fault ≡ faults.out_of_memory → ⊥
-    pub silent : IsReported faults.write_fault → ⊥
-    pub printed : (status : Status) → IsPrinted status → IsReplied status
+    pub statuses : AreStatuses faults.read_fault faults.write_fault faults.out_of_memory usage IsReplied IsReported IsPrinted
     pub own : (given : Reply Status) → IsReply given → IsOwn given
     pub asked : IsAsked → IsOther → ⊥
     pub read : Unread → IsAsked
@@ -94,7 +99,7 @@ module _ {Status File Unread : Type 0} (faults : Faults Status File) (usage : St
         each (Some given) = λ kind. absurd (never kind)
 
     not-usage : (status : Status) → (IsReplied status → ⊥) → status ≡ usage → ⊥
-    not-usage status never same = never (subst IsReplied (sym same) is.usage_replied)
+    not-usage status never same = never (subst IsReplied (sym same) is.statuses.usage_replied)
 
     -- an ending that was written whole
     runs-whole : (ending : Ending Status File) → Ends ending → IsWhole (ending_reply faults ending) call.out call.err → Runs (ending_reply faults ending).status
@@ -108,39 +113,39 @@ module _ {Status File Unread : Type 0} (faults : Faults Status File) (usage : St
           complete = λ out err read. inl own.replied;
           other = own.other;
           told = λ other. inl (own.told other);
-          read_fault = λ e. absurd (is.read_fault (subst IsReplied e own.replied));
-          write_fault = λ e. absurd (is.write_fault (subst IsReplied e own.replied));
-          no_memory = λ e. absurd (is.out_of_memory (subst IsReplied e own.replied));
+          read_fault = λ e. absurd (is.statuses.no_read (subst IsReplied e own.replied));
+          write_fault = λ e. absurd (is.statuses.no_write (subst IsReplied e own.replied));
+          no_memory = λ e. absurd (is.statuses.no_memory (subst IsReplied e own.replied));
           silent_out = λ kind. still call.out given.out (own.reported kind) whole.printed;
           silent_err = λ kind. still call.err given.err (own.printed kind) whole.reported;
         }
     runs-whole (unread file) ends whole = record {
-      status = untold faults.read_fault (λ given. faults.read_fault ≡ given.status) is.read_fault;
-      out = untold faults.read_fault (λ given. Grew call.out given.out) is.read_fault;
-      err = untold faults.read_fault (λ given. Grew call.err given.err) is.read_fault;
-      own = λ kind. absurd (is.read_fault kind);
+      status = untold faults.read_fault (λ given. faults.read_fault ≡ given.status) is.statuses.no_read;
+      out = untold faults.read_fault (λ given. Grew call.out given.out) is.statuses.no_read;
+      err = untold faults.read_fault (λ given. Grew call.err given.err) is.statuses.no_read;
+      own = λ kind. absurd (is.statuses.no_read kind);
       complete = λ out err read. absurd (read ends.cause.0);
-      other = λ e. absurd (not-usage faults.read_fault is.read_fault e);
+      other = λ e. absurd (not-usage faults.read_fault is.statuses.no_read e);
       told = λ other. absurd (is.asked (is.read ends.cause.0) other);
       read_fault = λ e. record { cause = ends.cause.0; out = still call.out [] refl whole.printed; err = subst (Grew call.err) ends.cause.1 whole.reported };
-      write_fault = λ e. absurd (is.read_write e);
-      no_memory = λ e. absurd (is.read_memory e);
+      write_fault = λ e. absurd (is.statuses.read_write e);
+      no_memory = λ e. absurd (is.statuses.read_memory e);
       silent_out = λ kind. still call.out [] refl whole.printed;
-      silent_err = λ kind. absurd (is.read_fault (is.printed faults.read_fault kind));
+      silent_err = λ kind. absurd (is.statuses.no_read (is.statuses.printed faults.read_fault kind));
     }
     runs-whole no_memory ends whole = record {
-      status = untold faults.out_of_memory (λ given. faults.out_of_memory ≡ given.status) is.out_of_memory;
-      out = untold faults.out_of_memory (λ given. Grew call.out given.out) is.out_of_memory;
-      err = untold faults.out_of_memory (λ given. Grew call.err given.err) is.out_of_memory;
-      own = λ kind. absurd (is.out_of_memory kind);
+      status = untold faults.out_of_memory (λ given. faults.out_of_memory ≡ given.status) is.statuses.no_memory;
+      out = untold faults.out_of_memory (λ given. Grew call.out given.out) is.statuses.no_memory;
+      err = untold faults.out_of_memory (λ given. Grew call.err given.err) is.statuses.no_memory;
+      own = λ kind. absurd (is.statuses.no_memory kind);
       complete = λ out err read. inr refl;
-      other = λ e. absurd (not-usage faults.out_of_memory is.out_of_memory e);
+      other = λ e. absurd (not-usage faults.out_of_memory is.statuses.no_memory e);
       told = λ other. absurd (is.asked ends.cause other);
-      read_fault = λ e. absurd (is.read_memory (sym e));
-      write_fault = λ e. absurd (is.write_memory (sym e));
+      read_fault = λ e. absurd (is.statuses.read_memory (sym e));
+      write_fault = λ e. absurd (is.statuses.write_memory (sym e));
       no_memory = λ e. record { cause = ends.cause; out = still call.out [] refl whole.printed; err = whole.reported };
       silent_out = λ kind. still call.out [] refl whole.printed;
-      silent_err = λ kind. absurd (is.out_of_memory (is.printed faults.out_of_memory kind));
+      silent_err = λ kind. absurd (is.statuses.no_memory (is.statuses.printed faults.out_of_memory kind));
     }
 
     -- out failed
@@ -175,18 +180,18 @@ module _ {Status File Unread : Type 0} (faults : Faults Status File) (usage : St
 
       runs-cut : IsCutReply (ending_reply faults ending) call.out call.err → Runs faults.write_fault
       runs-cut cut = record {
-        status = untold faults.write_fault (λ given. faults.write_fault ≡ given.status) is.write_fault;
-        out = untold faults.write_fault (λ given. Grew call.out given.out) is.write_fault;
-        err = untold faults.write_fault (λ given. Grew call.err given.err) is.write_fault;
-        own = λ kind. absurd (is.write_fault kind);
+        status = untold faults.write_fault (λ given. faults.write_fault ≡ given.status) is.statuses.no_write;
+        out = untold faults.write_fault (λ given. Grew call.out given.out) is.statuses.no_write;
+        err = untold faults.write_fault (λ given. Grew call.err given.err) is.statuses.no_write;
+        own = λ kind. absurd (is.statuses.no_write kind);
         complete = λ out err read. absurd (failed cut out err);
-        other = λ e. absurd (not-usage faults.write_fault is.write_fault e);
+        other = λ e. absurd (not-usage faults.write_fault is.statuses.no_write e);
         told = λ other. inr refl;
-        read_fault = λ e. absurd (is.read_write (sym e));
+        read_fault = λ e. absurd (is.statuses.read_write (sym e));
         write_fault = λ e. faulted cut;
-        no_memory = λ e. absurd (is.write_memory e);
-        silent_out = λ kind. absurd (is.silent kind);
-        silent_err = λ kind. absurd (is.write_fault (is.printed faults.write_fault kind));
+        no_memory = λ e. absurd (is.statuses.write_memory e);
+        silent_out = λ kind. absurd (is.statuses.silent kind);
+        silent_err = λ kind. absurd (is.statuses.no_write (is.statuses.printed faults.write_fault kind));
       }
 
       -- however the ending was written

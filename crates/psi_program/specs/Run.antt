@@ -72,3 +72,9 @@ call_of told run = record {
   out = from_nothing run.out run.before.out run.after.out;
   err = from_nothing run.err run.before.err run.after.err;
 }
+
+-- a run of a program with these exit statuses: it has a status, and is right whatever the files hold of which the answers are prefixes
+pub record IsRunBy {Status : Type 0} (code_of : Status → ℕ) (IsRight : (List ℕ → Option (List ℕ)) → Run → Status → Type 0) (run : Run) : Type 0 where
+  pub result : Status
+  pub code : code_of result ≡ run.status
+  pub right : (told : List ℕ → Option (List ℕ)) → Agrees told run.given → IsRight told run result

@@ -6,8 +6,8 @@ use Rattle.std.proofs.lemmas.Bool.{eqb-false}
 use Rattle.std.proofs.lemmas.Nat.{pow_pos}
 use Rattle.std.proofs.lemmas.List.{take_more, take_all}
 use Rattle.psi_rate.specs.Rates.{AreRates, total, least_power, event_of, HasNumber, PassesAt, IsLeastPower}
-use Rattle.psi_rate.specs.TableKept.{IsFirstAbove}
-use Rattle.psi_rate.specs.TotalsKept.{IsDial, totals_from}
+use Rattle.psi_rate.specs.Inner.TableKept.{IsFirstAbove}
+use Rattle.psi_rate.specs.Inner.TotalsKept.{IsDial, totals_from}
 use Rattle.psi_rate.proofs.RatesLemmas.{has_number-event_at}
 use Rattle.psi_rate.proofs.PowersLemmas.{least_power-is, least_power-only, least_power-next}
 use Rattle.psi_rate.proofs.TotalsLemmas.{totals_from-within, totals_from-more, total-more, length-totals_from, has_number-first}

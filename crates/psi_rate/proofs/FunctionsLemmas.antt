@@ -6,7 +6,7 @@ use Rattle.std.proofs.lemmas.List.{get_or_past}
 use Rattle.std.proofs.lemmas.List.Elements.{All-map}
 use Rattle.psi_event.specs.Law.{IsClosed, IsMonotone}
 use Rattle.psi_rate.specs.Rates.{event_of}
-use Rattle.psi_rate.specs.Composition.{Parts, picked, function_at, system_functions, AreEach, AreClosed, AreMonotone, Keeps, AreKeeping}
+use Rattle.psi_rate.specs.Composition.{SystemParts, picked, function_at, system_functions, AreEach, AreClosed, AreMonotone, Keeps, AreKeeping}
 
 -- the function of a word is such a function, if each event's is and one that changes nothing is
 pub picked-each : (P : (List ℕ → List ℕ) → Type 0) (functions : List (List ℕ → List ℕ)) (rates : List ℕ) (word : ℕ)
@@ -34,7 +34,7 @@ function_at-closed caps functions rates words closed =
     function_at-each (IsClosed caps) functions rates words closed (record { each = λ x within. within })
 
 -- so it does for the events of a network
-pub functions-closed : {E : Type 0} (capacities : E → List ℕ) (function : E → List ℕ → List ℕ) (system : Parts E) (words : ℕ → ℕ)
+pub functions-closed : {E : Type 0} (capacities : E → List ℕ) (function : E → List ℕ → List ℕ) (system : SystemParts E) (words : ℕ → ℕ)
     → ((event : E) → IsClosed (capacities event) (function event)) → All (λ event. capacities event ≡ system.caps) system.events
     → AreClosed system.caps (system_functions function system words)
 functions-closed {E} capacities function system words closed same =

@@ -7,7 +7,7 @@ use Rattle.std.proofs.lemmas.List.Elements.{All-nil, All-cons, All-append}
 use Rattle.std.proofs.Math.Seq.{take-length}
 use Rattle.psi_past.specs.Filled.{AreWordsFrom}
 use Rattle.psi_rate.specs.Rates.{event_of}
-use Rattle.psi_rate.specs.declared.numbers.Numbers.{Numbers}
+use Rattle.psi_rate.specs.declared.numbers.EventNumbers.{EventNumbers}
 use Rattle.psi_rate.specs.Numbers.{unless_idle, numbers_below}
 use Rattle.psi_rate.specs.Keeping.{KeepsNumbers}
 
@@ -96,7 +96,7 @@ numbers-prefix rates words horizon reached count items order kept counted =
     ap₂ (λ n (ns : List ℕ). take n ns) counted (kept ∙ ap (numbers_below rates words) e) ∙ numbers-take rates words horizon (reached - horizon)
 
 -- numbers with room for more places have room for fewer
-pub keeps-fewer : (rates : List ℕ) (words : ℕ → ℕ) (most few : ℕ) (numbers : Numbers) → KeepsNumbers rates words most numbers → few ≤ most → KeepsNumbers rates words few numbers
+pub keeps-fewer : (rates : List ℕ) (words : ℕ → ℕ) (most few : ℕ) (numbers : EventNumbers) → KeepsNumbers rates words most numbers → few ≤ most → KeepsNumbers rates words few numbers
 keeps-fewer rates words most few numbers keeps less =
     let room = keeps.room in
     let count_room = keeps.count_room in

@@ -9,7 +9,7 @@ use Rattle.std.proofs.lemmas.Bool.{cases_lt, cases_eq}
 use Rattle.std.proofs.lemmas.List.{get_or_default, get_or-replicate, length-replicate, replicate-append-replicate, get_or_append_left, get_or-append_right}
 use Rattle.std.proofs.lemmas.Nat.{and_mask, field_of, mod-pow-add, pow-add, or_mod, le_or_l, le_or_r, pow_pos, div-add-mod'}
 use Rattle.std.proofs.lemmas.Nat.Bits.{bit_at-trailing_zeros, bit_at-pow_other}
-use Rattle.psi_rate.specs.TableKept.{IsFirstAbove, AreFirstAbove, AreMultiples}
+use Rattle.psi_rate.specs.Inner.TableKept.{IsFirstAbove, AreFirstAbove, AreMultiples}
 use Rattle.psi_rate.proofs.PowersLemmas.{pow-double, pow-order}
 
 -- a number whose k low bits are zero is a multiple of 2^k

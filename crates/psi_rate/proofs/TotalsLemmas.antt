@@ -3,8 +3,8 @@ use Rattle.std.specs.Prelude.{◌≡◌, ℕ, zero, suc, ◌+◌, ◌<◌, ◌�
 use Rattle.std.proofs.Common.{ap, ◌∙◌, arith}
 use Rattle.psi_rate.specs.Rates.{total, HasNumber}
 use Rattle.std.proofs.lemmas.List.{take_all}
-use Rattle.psi_rate.specs.TotalsKept.{totals_from}
-use Rattle.psi_rate.specs.TableKept.{IsFirstAbove}
+use Rattle.psi_rate.specs.Inner.TotalsKept.{totals_from}
+use Rattle.psi_rate.specs.Inner.TableKept.{IsFirstAbove}
 
 pub total-more : (xs : List ℕ) (x : ℕ) → total (xs ++ x ∷ []) ≡ total xs + x
 total-more [] x = omega arith

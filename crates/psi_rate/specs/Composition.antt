@@ -7,7 +7,7 @@ use Rattle.psi_event.specs.Law.{IsClosed, IsMonotone}
 use Rattle.psi_rate.specs.Rates.{event_of}
 
 -- a network's parts: capacities, events, their rates, the greatest horizon's exponent and the split number
-pub record Parts (E : Type 0) : Type 0 where
+pub record SystemParts (E : Type 0) : Type 0 where
   pub caps : List ℕ
   pub events : List E
   pub rates : List ℕ
@@ -27,7 +27,7 @@ abbrev pub function_at : List (List ℕ → List ℕ) → List ℕ → (ℕ → 
 function_at functions rates words t = picked functions rates (words (t - 1))
 
 -- the functions of a network's events by the time before zero, under these words
-abbrev pub system_functions : {E : Type 0} → (E → List ℕ → List ℕ) → Parts E → (ℕ → ℕ) → ℕ → List ℕ → List ℕ
+abbrev pub system_functions : {E : Type 0} → (E → List ℕ → List ℕ) → SystemParts E → (ℕ → ℕ) → ℕ → List ℕ → List ℕ
 system_functions function system words = function_at (map function system.events) system.rates words
 
 -- the functions of all times

@@ -1,7 +1,6 @@
 -- The definitions of this crate, and the laws that clauses rest on.
 pub mod Rates
-pub mod TotalsKept
-pub mod TableKept
+pub mod Inner
 pub mod Composition
 pub mod Doubling
 pub mod Least

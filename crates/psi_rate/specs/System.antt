@@ -2,10 +2,10 @@
 use Rattle.std.specs.Prelude.{◌≡◌, ℕ, ◌≤◌, List, length, All}
 use Rattle.psi_state.specs.State.{AreCapacities}
 use Rattle.psi_rate.specs.Rates.{AreRates}
-use Rattle.psi_rate.specs.Composition.{Parts}
+use Rattle.psi_rate.specs.Composition.{SystemParts}
 
 -- the parts fit each other: each event has the network's capacities, and there are as many rates as events
-pub record IsSystem {E : Type 0} (capacities : E → List ℕ) (system : Parts E) : Type 0 where
+pub record IsSystem {E : Type 0} (capacities : E → List ℕ) (system : SystemParts E) : Type 0 where
   pub valid : AreCapacities system.caps
   pub rated : AreRates system.rates
   pub same_count : length system.rates ≡ length system.events

@@ -13,6 +13,6 @@ mod table;
 mod wheel;
 
 pub use doubling::{Answers, first_answer, first_answer_near, outcome_of};
-pub use numbers::Numbers;
+pub use numbers::EventNumbers;
 pub use system::System;
 pub use wheel::{RateRefusal, Wheel};

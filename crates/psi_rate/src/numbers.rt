@@ -20,7 +20,7 @@ const WINDOW: u32 = 256;
 ///
 /// Only `reserve` allocates: the lists stand on heaps of their own, which have room for them and no more.
 #[derive(Drop)]
-pub struct Numbers {
+pub struct EventNumbers {
     list: Vec<u16, LocalHeap>,
     // How many of them there are before each mark that they reach.
     counts: Vec<u32, LocalHeap>,
@@ -28,12 +28,12 @@ pub struct Numbers {
     reached: u32,
 }
 
-impl Numbers {
+impl EventNumbers {
     /// Reserves space for the numbers of `most` places, of 2 bytes each, and 4 bytes more for each 1,024th place and
     /// for some before these; none is kept yet.
     ///
     /// Returns `AllocError` if an allocation fails; no clause says when that is.
-    pub fn reserve(alloc: Global, most: u32) -> Result<Numbers, AllocError>
+    pub fn reserve(alloc: Global, most: u32) -> Result<EventNumbers, AllocError>
         ensures { IfOk result (λ numbers. (rates : List ℕ) (words : ℕ → ℕ) → KeepsNumbers rates words most numbers) }
     {
         let places = most as usize;
@@ -41,7 +41,7 @@ impl Numbers {
         let list = Vec::with_capacity(LocalHeap::new(alloc, 2 * places)?, places)?;
         let mut counts = Vec::with_capacity(LocalHeap::new(alloc, 4 * marks)?, marks)?;
         counts.push_reserved(0);
-        Ok(Numbers {
+        Ok(EventNumbers {
             list,
             counts,
             reached: 0,

@@ -23,10 +23,10 @@ pub struct System<'n, E: EventLaw> {
 }
 
 impl<'n, E: EventLaw> Model for System<'n, E> {
-    ghost use Rattle.psi_rate.specs.Composition.{Parts};
+    ghost use Rattle.psi_rate.specs.Composition.{SystemParts};
     ghost use Rattle.psi_rate.specs.System.{IsSystem};
 
-    ghost Value = { Parts E };
+    ghost Value = { SystemParts E };
 
     ghost view = { λ s. record { caps = s.caps; events = s.events.now; rates = s.wheel.now; limit = s.limit; split = s.split } };
 

@@ -2,7 +2,7 @@
 
 ghost use Rattle.std.specs.Prelude.{◌≡◌, ℕ, ◌+◌, ◌-◌, ◌*◌, ◌%◌, ◌^◌, ◌<◌, ◌≤◌, ◌++◌, length, replicate, slice_index, vec_capacity, IfOk, EachIndex};
 ghost use Rattle.std.specs.Int.{IsPowerOfTwo};
-ghost use Rattle.psi_rate.specs.TableKept.{AreFirstAbove, AreMultiples, IsFirstAbove, IsTable};
+ghost use Rattle.psi_rate.specs.Inner.TableKept.{AreFirstAbove, AreMultiples, IsFirstAbove, IsTable};
 
 use std::alloc::{AllocError, Global};
 

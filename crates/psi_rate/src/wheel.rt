@@ -48,8 +48,8 @@ pub struct Wheel {
 
 impl Model for Wheel {
     ghost use Rattle.std.specs.Prelude.{ℕ, List, ◌≡◌};
-    ghost use Rattle.psi_rate.specs.TotalsKept.{IsDial};
-    ghost use Rattle.psi_rate.specs.TableKept.{IsTable};
+    ghost use Rattle.psi_rate.specs.Inner.TotalsKept.{IsDial};
+    ghost use Rattle.psi_rate.specs.Inner.TableKept.{IsTable};
 
     ghost Value = { List ℕ };
 

@@ -1,7 +1,7 @@
 -- What a step makes of a region: it keeps the order of regions and has what the event makes of each state.
 use Rattle.std.specs.Prelude.{◌≡◌, ℕ, ◌≤◌, List, length, slice_index, Bool, true, false, nat_le, refl}
 use Rattle.std.proofs.Common.{inl, inr, ap, sym, ◌∙◌, subst, arith}
-use Rattle.std.proofs.lemmas.Bool.{true≢false, or_cases, or_left, or_right, leb-true, le-leb}
+use Rattle.std.proofs.lemmas.Bool.{cases_Bool, true≢false, or_cases, or_parts, or_left, or_right, leb-true, le-leb}
 use Rattle.psi_state.specs.State.{IsBelow, zeros}
 use Rattle.psi_state.specs.Members.{In, AreAmong}
 use Rattle.psi_state.specs.Sets.{image}
@@ -12,9 +12,9 @@ use Rattle.psi_state.specs.Hull.{lows, highs, hull, HaveLength, IsTight}
 use Rattle.psi_state.proofs.HullLemmas.{corners-tight}
 use Rattle.psi_state.proofs.StatesLemmas.{In-caps}
 use Rattle.psi_state.specs.Ascending.{IsRising}
-use Rattle.psi_state.proofs.AscendingLemmas.{box-rising, image-rising, rising-distinct, length-among}
+use Rattle.psi_state.proofs.AscendingLemmas.{box-rising, image-rising, image-identity, rising-distinct, length-among}
 use Rattle.psi_event.specs.Law.{IsClosed}
-use Rattle.psi_region.specs.Region.{Area, start, splits, next, step, IsArea, IsWithin}
+use Rattle.psi_region.specs.Region.{Area, start, splits, settled, next, step, IsArea, IsWithin}
 
 -- a list's states are in its hull
 pub In-hull : (n : ℕ) (x : List ℕ) (xs : List (List ℕ)) → HaveLength n xs → In x xs → In x (hull xs)
@@ -193,3 +193,17 @@ step-split split f a is = ap (λ b. next b f a.states) is
 pub step-box : (split : ℕ) (f : List ℕ → List ℕ) (a : Area) → splits split a ≡ false → step split f a ≡ record { is_split = false; states = hull (image f a.states) }
 unfolding step
 step-box split f a is = ap (λ b. next b f a.states) is
+
+abbrev area : Bool → List (List ℕ) → Area
+area s xs = record { is_split = s; states = xs }
+
+-- a step that changes no state only splits a region of few states, where an unsplit one is its own hull
+pub rested : (split : ℕ) (a : Area) → IsRising a.states → (a.is_split ≡ false → hull a.states ≡ a.states) → step split (λ (x : List ℕ). x) a ≡ settled split a
+rested split a rising own = elim (cases_Bool (splits split a)) [
+  | inl few ↦ (step-split split (λ (x : List ℕ). x) a few ∙ ap (λ (xs : List (List ℕ)). area true xs) (image-identity a.states rising)
+      ∙ ap (λ s. area s a.states) (sym few))
+  | inr many ↦ (step-box split (λ (x : List ℕ). x) a many
+      ∙ ap (λ (xs : List (List ℕ)). area false xs) (ap (λ (xs : List (List ℕ)). hull xs) (image-identity a.states rising)
+      ∙ own (or_parts a.is_split (nat_le (length a.states) split) many).0)
+      ∙ ap (λ s. area s a.states) (sym many))
+]

@@ -1,24 +1,24 @@
 -- What the two ways in which a region is held say of its states.
-use Rattle.std.proofs.Common.{◌≡◌, ◌≢◌, ℕ, ◌≤◌, List, [], ◌∷◌, ◌++◌, length, Some, None, Bool, true, false, refl, inl, inr, ap, sym, ◌∙◌, subst, arith, append_assoc, nat_eq, nat_le}
+use Rattle.std.proofs.Common.{◌≡◌, ◌≢◌, ℕ, ◌≤◌, List, [], ◌∷◌, ◌++◌, length, Some, None, Bool, true, false, refl, inl, inr, ap, sym, ◌∙◌, subst, arith, append_assoc, nat_eq}
 use Rattle.std.specs.Cmp.Lexicographic.{pointwise}
 use Rattle.std.specs.Ordering.{match_ordering, ordering_reverse}
 use Rattle.std.specs.declared.cmp.Ordering.TheVariants.{Less, Greater}
-use Rattle.std.proofs.lemmas.Bool.{true≢false, or_parts}
+use Rattle.std.proofs.lemmas.Bool.{true≢false}
 use Rattle.std.proofs.lemmas.Cmp.{nat_list_cmp_total}
 use Rattle.psi_state.specs.State.{Corners, IsBelow, box}
 use Rattle.psi_state.specs.Members.{In}
 use Rattle.psi_state.proofs.MembersLemmas.{In-append_right}
 use Rattle.psi_state.specs.Sets.{state_cmp, insert_state, single, image}
 use Rattle.psi_state.proofs.SetsLemmas.{In-image}
-use Rattle.psi_state.proofs.BoxesLemmas.{In-low, In-high}
+use Rattle.psi_state.proofs.BoxesLemmas.{In-low, In-high, below-through}
 use Rattle.psi_state.proofs.StatesLemmas.{single-box, single-box_apart, hull-box, same-from_eq, apart-from_eq}
 use Rattle.psi_state.specs.Ascending.{IsRising}
-use Rattle.psi_state.proofs.AscendingLemmas.{box-rising, image-identity}
-use Rattle.psi_state.specs.Hull.{corners, hull}
+use Rattle.psi_state.proofs.AscendingLemmas.{box-rising, image-rising}
+use Rattle.psi_state.specs.Hull.{corners, hull, IsTight}
 use Rattle.psi_pool.specs.Pooled.{Pooled}
 use Rattle.psi_region.specs.Region.{Area, Regional, splits, settled, step}
-use Rattle.psi_region.specs.RegionKept.{area_of, IsHeld}
-use Rattle.psi_region.proofs.RegionLemmas.{step-split, step-box}
+use Rattle.psi_region.specs.Inner.RegionKept.{area_of, IsHeld}
+use Rattle.psi_region.proofs.RegionLemmas.{step-split, step-box, rested}
 
 -- the states of an unsplit region are those of its box
 pub states-unsplit : (split : ℕ) (is_split : Bool) (b : Corners) (xs : List (List ℕ)) (now : Regional) → record { split = split; area = area_of is_split b xs } ≡ now
@@ -80,11 +80,13 @@ filled-next l h xs x whole rest more is step made =
     ap (λ (ys : List (List ℕ)). ys ++ rest) (made ∙ insert_state-next xs x rest rising) ∙ (append_assoc xs (x ∷ []) rest ∙ from)
 
 -- what the two ways of being held say when they go on
-pub held-split : (split : ℕ) (b : Corners) (pool : Pooled) (m : ℕ) → pool.most ≡ m → m ≡ split → IsBelow b.lo b.hi → pool.states ≡ box b.lo b.hi → IsHeld split true b pool
-held-split split b pool m room is ordered filled = record {
-  room = room ∙ is;
+pub held-split : (split : ℕ) (is_split : Bool) (b : Corners) (old new : Pooled) → IsHeld split is_split b old → new.most ≡ old.most → new.states ≡ box b.lo b.hi → IsHeld split true b new
+held-split split is_split b old new held same filled = record {
+  room = same ∙ held.room;
   empty = λ e. absurd (true≢false e);
-  some = λ e. (b.lo, subst (λ (xs : List (List ℕ)). In b.lo xs) (sym filled) (In-low b.lo b.hi ordered));
+  some = λ e. (b.lo, subst (λ (xs : List (List ℕ)). In b.lo xs) (sym filled) (In-low b.lo b.hi held.ordered));
+  ordered = held.ordered;
+  rising = subst (λ (xs : List (List ℕ)). IsRising xs) (sym filled) (box-rising b.lo b.hi);
 }
 
 pub held-image : (split : ℕ) (is_split : Bool) (b : Corners) (old new : Pooled) (f : List ℕ → List ℕ) → IsHeld split is_split b old → is_split ≡ true → new.most ≡ old.most
@@ -94,7 +96,22 @@ held-image split is_split b old new f held is same made = record {
   empty = λ e. absurd (true≢false (sym is ∙ e));
   some = λ e. (let member = held.some e in
       (f member.0, subst (λ (xs : List (List ℕ)). In (f member.0) xs) (sym made) (In-image f member.0 old.states member.1)));
+  ordered = held.ordered;
+  rising = subst (λ (xs : List (List ℕ)). IsRising xs) (sym made) (image-rising f old.states);
 }
+
+-- a box around the image of one that is in order is in order, too
+pub held-box : (split : ℕ) (is_split : Bool) (old new : Corners) (pool : Pooled) (f : List ℕ → List ℕ) → IsHeld split is_split old pool
+    → IsTight (image f (box old.lo old.hi)) new.lo new.hi → IsHeld split is_split new pool
+held-box split is_split old new pool f held tight =
+    let inside = tight.inside (f old.lo) (In-image f old.lo (box old.lo old.hi) (In-low old.lo old.hi held.ordered)) in
+    record {
+      room = held.room;
+      empty = held.empty;
+      some = held.some;
+      ordered = below-through new.lo (f old.lo) new.hi inside.low inside.high;
+      rising = held.rising;
+    }
 
 -- a step of a region that is held as a set
 pub stepped-split : (f : List ℕ → List ℕ) (old now : Regional) (split : ℕ) (is_split : Bool) (b : Corners) (xs ys : List (List ℕ))
@@ -138,31 +155,12 @@ high-within caps old now split is_split b xs within settles held is ordered =
     ap (λ (a : Area). a.states) (sym settles) ∙ states-unsplit split is_split b xs now held is in
     within b.hi (subst (λ (zs : List (List ℕ)). In b.hi zs) (sym states) (In-high b.lo b.hi ordered))
 
--- a step that changes no state only splits a region of few states
-rested : (split : ℕ) (a : Area) (l h : List ℕ) (few : Bool) → splits split a ≡ few → IsRising a.states → (a.is_split ≡ false → (a.states ≡ box l h) × IsBelow l h)
-    → settled split a ≡ step split (λ (x : List ℕ). x) a
-rested split a l h true few rising whole =
-    ap (λ s. area s a.states) few ∙ sym (step-split split (λ (x : List ℕ). x) a few ∙ ap (λ (xs : List (List ℕ)). area true xs) (image-identity a.states rising))
-  where
-    area : Bool → List (List ℕ) → Area
-    area s xs = record { is_split = s; states = xs }
-rested split a l h false few rising whole =
-    let flag : a.is_split ≡ false = (or_parts a.is_split (nat_le (length a.states) split) few).0 in
-    let is : a.states ≡ box l h = (whole flag).0 in
-    let same : hull a.states ≡ a.states = ap (λ (xs : List (List ℕ)). hull xs) is ∙ (hull-box l h ((whole flag).1) ∙ sym is) in
-    ap (λ s. area s a.states) few
-    ∙ sym (step-box split (λ (x : List ℕ). x) a few
-    ∙ ap (λ (xs : List (List ℕ)). area false xs) (ap (λ (xs : List (List ℕ)). hull xs) (image-identity a.states rising) ∙ same))
-  where
-    area : Bool → List (List ℕ) → Area
-    area s xs = record { is_split = s; states = xs }
-
--- as a region is held
+-- a step that changes no state only splits a region that is held so
 pub rested-held : (split m : ℕ) (is_split : Bool) (b : Corners) (xs : List (List ℕ)) (now : Regional) → record { split = m; area = area_of is_split b xs } ≡ now → IsRising xs → IsBelow b.lo b.hi
     → settled split now.area ≡ step split (λ (x : List ℕ). x) now.area
-rested-held split m true b xs now held rising ordered =
-    subst (λ (a : Area). settled split a ≡ step split (λ (x : List ℕ). x) a) (ap (λ (r : Regional). r.area) held)
-    (rested split (area_of true b xs) b.lo b.hi (splits split (area_of true b xs)) refl rising (λ e. absurd (true≢false e)))
-rested-held split m false b xs now held rising ordered =
-    subst (λ (a : Area). settled split a ≡ step split (λ (x : List ℕ). x) a) (ap (λ (r : Regional). r.area) held)
-    (rested split (area_of false b xs) b.lo b.hi (splits split (area_of false b xs)) refl (box-rising b.lo b.hi) (λ e. (refl, ordered)))
+rested-held split m is_split b xs now held rising ordered =
+    subst (λ (a : Area). settled split a ≡ step split (λ (x : List ℕ). x) a) (ap (λ (r : Regional). r.area) held) (sym (own is_split))
+  where
+    own : (s : Bool) → step split (λ (x : List ℕ). x) (area_of s b xs) ≡ settled split (area_of s b xs)
+    own true = rested split (area_of true b xs) rising (λ e. absurd (true≢false e))
+    own false = rested split (area_of false b xs) (box-rising b.lo b.hi) (λ e. hull-box b.lo b.hi ordered)

@@ -1,5 +1,5 @@
 -- The definitions of this crate, and the laws that clauses rest on.
 pub mod Region
-pub mod RegionKept
+pub mod Inner
 pub mod Covering
 pub mod Followed

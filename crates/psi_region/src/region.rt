@@ -34,7 +34,7 @@ pub struct Region {
 
 impl Model for Region {
     ghost use Rattle.psi_region.specs.Region.{Regional};
-    ghost use Rattle.psi_region.specs.RegionKept.{area_of, IsHeld};
+    ghost use Rattle.psi_region.specs.Inner.RegionKept.{area_of, IsHeld};
 
     ghost Value = { Regional };
 
@@ -90,8 +90,6 @@ impl Region {
         if self.is_split {
             self.pool.step(e);
         } else {
-            // Called for its clause: the corners are in order.
-            let _queues = self.bounds.len();
             e.envelope(&mut self.bounds);
         }
     }
@@ -102,9 +100,7 @@ impl Region {
         ensures area { self.new.area ≡ step self.old.split (λ (x : List ℕ). x) self.old.area }
         ensures split { self.new.split ≡ self.old.split }
     {
-        // Called for its clause: the set is ascending, and the corners are in order.
-        let _room = self.pool.most();
-        let _queues = self.bounds.len();
+        // Nothing else happens.
         self.settle();
     }
 
@@ -132,8 +128,6 @@ impl Region {
         if self.is_split {
             return None;
         }
-        // Called for its clause: the corners are in order.
-        let _queues = self.bounds.len();
         Some(self.bounds)
     }
 
@@ -147,7 +141,7 @@ impl Region {
         ensures few { length result.now ≤ self.old.split }
         ensures* same { sem 𝓛 (follows_so the_row the_row self.entry.ghost_name none (λ _ _. ⊤) (λ v. v ≡ self.old)) }
     {
-        // Called for its clause: the set is ascending and has room for its states.
+        // Called for its clause: the set has room for its states.
         let _room = self.pool.most();
         self.pool.walk()
     }
@@ -156,11 +150,10 @@ impl Region {
     #[inline]
     fn settle(&mut self)
         ensures area { self.new.area ≡ settled self.old.split self.old.area }
+        ensures rested { settled self.old.split self.old.area ≡ step self.old.split (λ (x : List ℕ). x) self.old.area }
         ensures split { self.new.split ≡ self.old.split }
     {
         if !self.is_split && self.bounds.volume_at_most(u32::from(self.split)).is_some() {
-            // Called for its clause: the corners are in order.
-            let _queues = self.bounds.len();
             fill(&self.bounds, &mut self.pool);
             self.is_split = true;
         }

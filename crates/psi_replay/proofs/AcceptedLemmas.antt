@@ -12,8 +12,9 @@ use Rattle.psi_log_format.specs.Log.{LogRegion, Entry, Certificate, IsLog}
 use Rattle.psi_log_words.specs.Refusal.{Refusal, ◌>>=◌, holds_or}
 use Rattle.psi_log_words.proofs.WordLemmas.{bind_ok, ok_same, held}
 use Rattle.psi_replay.specs.Verdict.{rejected, states_of, has, covers, is_within, is_small, holds_all, judge_step, judge_steps, judge_end, judged, verdict_of, ReachesAccepted, AcceptsWithin}
-use Rattle.psi_replay.specs.declared.causes.Cause.TheVariants.{Header, StepNumber, WrongEvent, OutsideBox, NotCovered, SplitTooLarge, NotSingle, WrongState}
-use Rattle.psi_replay.proofs.ListLemmas.{all_each, has-In}
+use Rattle.psi_replay.specs.declared.causes.RuleCause.TheVariants.{Header, StepNumber, WrongEvent, OutsideBox, NotCovered, SplitTooLarge, NotSingle, WrongState}
+use Rattle.psi_log_words.proofs.NumberLemmas.{all_each}
+use Rattle.psi_replay.proofs.ListLemmas.{has-In}
 
 -- members of a list that has one are one
 one_member : (xs : List (List ℕ)) (x y : List ℕ) → length xs ≡ 1 → In x xs → In y xs → x ≡ y

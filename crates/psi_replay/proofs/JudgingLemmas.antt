@@ -16,8 +16,8 @@ use Rattle.psi_replay.specs.Verdict.{rejected, covers, is_within, is_small, judg
 use Rattle.psi_replay.specs.Judging.{Gives}
 use Rattle.psi_replay.specs.Passes.{told, and_then}
 use Rattle.psi_replay.specs.declared.causes.Rejection.{Rejection}
-use Rattle.psi_replay.specs.declared.causes.Cause.TheVariants.{StepNumber, WrongEvent, OutsideBox, NotCovered, SplitTooLarge}
-use Rattle.psi_replay.proofs.ListLemmas.{drop_get}
+use Rattle.psi_replay.specs.declared.causes.RuleCause.TheVariants.{StepNumber, WrongEvent, OutsideBox, NotCovered, SplitTooLarge}
+use Rattle.psi_log_words.proofs.OrderLemmas.{drop_get}
 
 -- the entry of a step is what is told of the step and of the region after it
 pub entry_is : (c : Certificate) (i k : ℕ) (step : Step) (after : LogRegion) → k ≡ suc i → step_at c k ≡ Some step → region_at c k ≡ Some after

@@ -3,11 +3,10 @@ use Rattle.std.specs.Prelude.{◌≡◌, ℕ, suc, ◌+◌, List, [], ◌∷◌,
 use Rattle.std.specs.List.{list_all}
 use Rattle.std.specs.Str.{bytes_eq}
 use Rattle.std.proofs.Common.{inl, inr, ap, sym, ◌∙◌}
-use Rattle.std.proofs.lemmas.Bool.{and_parts, or_cases, false_from_ne_true}
-use Rattle.std.proofs.lemmas.List.{drop_more}
-use Rattle.std.proofs.lemmas.Option.{slice_get_within, get_or_from_slice_get}
+use Rattle.std.proofs.lemmas.Bool.{or_cases, false_from_ne_true}
 use Rattle.std.proofs.lemmas.Slice.Eq.{bytes_eq-Decides}
 use Rattle.psi_state.specs.Members.{In}
+use Rattle.psi_log_words.proofs.OrderLemmas.{drop_get}
 use Rattle.psi_log.proofs.ToldLemmas.{In-slice_get}
 use Rattle.psi_replay.specs.Verdict.{has}
 
@@ -16,9 +15,6 @@ pub same_test : (r b : Bool) → (r ≡ true → b ≡ true) → (b ≡ true →
 same_test true b there back = sym (there refl)
 same_test false true there back = back refl
 same_test false false there back = refl
-
-pub drop_get : {X : Type 0} (xs : List X) (i : ℕ) (x : X) → slice_get xs i ≡ Some x → drop i xs ≡ x ∷ drop (i + 1) xs
-drop_get {X} xs i x is = drop_more xs i x (slice_get_within xs i x is) ∙ ap (λ (y : X). y ∷ drop (i + 1) xs) (get_or_from_slice_get xs i x x is)
 
 -- a member that passes takes the loop one step on, and another ends it
 pub all_more : {X : Type 0} (p : X → Bool) (xs : List X) (i : ℕ) (x : X) (r whole : Bool) → slice_get xs i ≡ Some x → r ≡ p x → r ≡ true
@@ -30,17 +26,6 @@ pub all_fails : {X : Type 0} (p : X → Bool) (xs : List X) (i : ℕ) (x : X) (r
     → list_all p (drop i xs) ≡ whole → false ≡ whole
 all_fails p xs i x r whole is test fails so_far =
     sym (ap (list_all p) (drop_get xs i x is) ∙ ap (λ b. b && list_all p (drop (i + 1) xs)) (sym test ∙ fails)) ∙ so_far
-
--- a test of all members tells of each
-pub all_each : {X : Type 0} (p : X → Bool) (xs : List X) (x : X) → list_all p xs ≡ true → In x xs → p x ≡ true
-all_each p [] x all member = absurd member
-all_each p (y ∷ ys) x all member =
-    let parts = and_parts (p y) (list_all p ys) all in
-    elim member [ inl e ↦ ap p e ∙ parts.0 | inr rest ↦ all_each p ys x parts.1 rest ]
-
-pub all_from : {X : Type 0} (p : X → Bool) (xs : List X) → ((x : X) → In x xs → p x ≡ true) → list_all p xs ≡ true
-all_from p [] each = refl
-all_from p (y ∷ ys) each = ap (λ b. b && list_all p ys) (each y (inl refl)) ∙ all_from p ys (λ x member. each x (inr member))
 
 -- the test for a state finds it exactly where the list has it
 pub has-In : (xs : List (List ℕ)) (x : List ℕ) → has xs x ≡ true → In x xs

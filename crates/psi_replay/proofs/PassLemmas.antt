@@ -6,7 +6,7 @@ use Rattle.psi_log_format.specs.declared.header.Header.{Header as LogHeader}
 use Rattle.psi_log_format.specs.Log.{LogRegion, Entry, Certificate}
 use Rattle.std.proofs.lemmas.Bool.{lt-leb}
 use Rattle.psi_log_words.specs.Refusal.{Refusal, refused, ◌>>=◌, holds_or, IsLogError}
-use Rattle.psi_log_words.specs.declared.refusals.Cause.TheVariants.{TooLong}
+use Rattle.psi_log_words.specs.declared.refusals.LogCause.TheVariants.{TooLong}
 use Rattle.psi_log_words.specs.Words.{line_of, words_of}
 use Rattle.psi_log_words.specs.declared.refusals.LogError.{LogError}
 use Rattle.psi_log_words.specs.declared.refusals.LogError.TheVariants.{Refused, OutOfMemory}
@@ -24,7 +24,7 @@ use Rattle.psi_log.proofs.ToldLemmas.{same_region}
 use Rattle.psi_replay.specs.Verdict.{rejected, is_within, holds_all, judge_step, judge_steps, judge_end, judged, verdict_of}
 use Rattle.psi_replay.specs.declared.answers.Verdict.{Verdict}
 use Rattle.psi_replay.specs.declared.answers.Verdict.TheVariants.{Accepted}
-use Rattle.psi_replay.specs.declared.causes.Cause.TheVariants.{Header, OutsideBox, NotCovered}
+use Rattle.psi_replay.specs.declared.causes.RuleCause.TheVariants.{Header, OutsideBox, NotCovered}
 use Rattle.psi_replay.specs.declared.causes.Rejection.{Rejection}
 use Rattle.psi_log_format.specs.Listed.{shown}
 use Rattle.psi_replay.specs.Judging.{Gives, region_before}

@@ -12,7 +12,8 @@ use Rattle.psi_event.specs.Idle.{unchanged}
 use Rattle.psi_log_format.specs.Log.{LogRegion, in_box, in_set, IsSet}
 use Rattle.psi_log_words.proofs.StateLemmas.{below_found, below_again}
 use Rattle.psi_replay.specs.Verdict.{states_of, has, covers, is_within, is_small}
-use Rattle.psi_replay.proofs.ListLemmas.{same_test, all_more, all_fails, all_each, all_from, has-In, has-from_In}
+use Rattle.psi_log_words.proofs.NumberLemmas.{all_each, all_from}
+use Rattle.psi_replay.proofs.ListLemmas.{same_test, all_more, all_fails, has-In, has-from_In}
 
 -- the test of two states by code is that of the definition
 pub below_test : (x y : List ℕ) (r : Bool) → (IsTrue r ↔ IsBelow x y) → r ≡ pointwise nat_le x y

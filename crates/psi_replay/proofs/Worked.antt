@@ -1,7 +1,8 @@
 -- Logs worked out by hand, judged by the definition as the checker computes it.
-use Rattle.std.specs.Prelude.{◌≡◌, ℕ, ◌+◌, ◌-◌, min, List, [], ◌∷◌, ◌&&◌, nat_lt, true, false, Ok, Err, slice_index, slice_index_or, if◌then◌else◌, refl}
+use Rattle.std.specs.Prelude.{◌≡◌, ℕ, ◌+◌, ◌-◌, map, min, Result, List, [], ◌∷◌, ◌&&◌, nat_lt, true, false, Ok, Err, slice_index, slice_index_or, if◌then◌else◌, refl}
 use Rattle.psi_rate.specs.Composition.{Functions}
 use Rattle.psi_log_format.specs.Log.{LogRegion, in_box, in_set, Entry, Certificate}
+use Rattle.psi_log_words.specs.Refusal.{Refusal}
 use Rattle.psi_replay.specs.Verdict.{is_small, judge_step, judge_steps, judge_end, judged}
 
 abbrev entry : ℕ → ℕ → LogRegion → Entry
@@ -41,60 +42,48 @@ abbrev server : Entry → LogRegion → ℕ → Certificate
 server first last final = log 1 4 (between (one 0) (one 3))
     (first ∷ entry 3 0 (in_set (one 1 ∷ one 2 ∷ one 3 ∷ [])) ∷ entry 2 0 (in_set (one 2 ∷ one 3 ∷ [])) ∷ entry 1 0 last ∷ []) (one final)
 
-abbrev first_step : Entry
-first_step = entry 4 1 (in_set (one 0 ∷ one 1 ∷ one 2 ∷ []))
+abbrev first_step : List ℕ → Entry
+first_step states = entry 4 1 (in_set (map one states))
 
 abbrev last_set : LogRegion
 last_set = in_set (one 3 ∷ [])
 
-accepted : judged (one 3) 18 events f (server first_step last_set 3) ≡ Ok tt
-unfolding judged judge_steps judge_step judge_end
-accepted = refl
+-- a log of one step from a box on
+abbrev from_box : ℕ → ℕ → Certificate
+from_box least greatest = log 1 1 (between (one least) (one greatest)) (entry 1 0 last_set ∷ []) (one 3)
 
-widened : judged (one 3) 18 events f (server (entry 4 1 (in_set (one 0 ∷ one 1 ∷ one 2 ∷ one 3 ∷ []))) last_set 3) ≡ Ok tt
-unfolding judged judge_steps judge_step judge_end
-widened = refl
+abbrev outcome : Type 0
+outcome = Result (Unit {0}) Refusal
 
-narrowed : judged (one 3) 18 events f (server (entry 4 1 (in_set (one 0 ∷ one 1 ∷ []))) last_set 3) ≡ Err (record { line = 7; cause = 5 })
-unfolding judged judge_steps judge_step judge_end
-narrowed = refl
+abbrev breaks : ℕ → ℕ → outcome
+breaks line cause = Err (record { line = line; cause = cause })
 
-wrong_step_number : judged (one 3) 18 events f (server (entry 5 1 (in_set (one 0 ∷ one 1 ∷ one 2 ∷ []))) last_set 3) ≡ Err (record { line = 7; cause = 2 })
-unfolding judged judge_steps judge_step judge_end
-wrong_step_number = refl
+-- each of these logs beside what is judged of it
+abbrev servers : List (Certificate × outcome)
+servers =
+    (server (first_step (0 ∷ 1 ∷ 2 ∷ [])) last_set 3, Ok tt)
+    ∷ (server (first_step (0 ∷ 1 ∷ 2 ∷ 3 ∷ [])) last_set 3, Ok tt)
+    ∷ (server (first_step (0 ∷ 1 ∷ [])) last_set 3, breaks 7 5)
+    ∷ (server (first_step (0 ∷ 1 ∷ 2 ∷ 4 ∷ [])) last_set 3, breaks 7 4)
+    ∷ (server (entry 5 1 (in_set (map one (0 ∷ 1 ∷ 2 ∷ [])))) last_set 3, breaks 7 2)
+    ∷ (server (entry 4 0 (in_set (map one (0 ∷ 1 ∷ 2 ∷ [])))) last_set 3, breaks 7 3)
+    ∷ (server (first_step (0 ∷ 1 ∷ 2 ∷ [])) (in_set (one 2 ∷ one 3 ∷ [])) 3, breaks 11 7)
+    ∷ (server (first_step (0 ∷ 1 ∷ 2 ∷ [])) last_set 2, breaks 11 8)
+    ∷ (from_box 1 3, breaks 6 5)
+    ∷ (from_box 0 4, breaks 6 4)
+    ∷ []
 
-wrong_event : judged (one 3) 18 events f (server (entry 4 0 (in_set (one 0 ∷ one 1 ∷ one 2 ∷ []))) last_set 3) ≡ Err (record { line = 7; cause = 3 })
+servers_judged : map (λ (s : Certificate × outcome). judged (one 3) 18 events f s.0) servers ≡ map (λ (s : Certificate × outcome). s.1) servers
 unfolding judged judge_steps judge_step judge_end
-wrong_event = refl
+servers_judged = refl
 
-outside_the_box : judged (one 3) 18 events f (server (entry 4 1 (in_set (one 0 ∷ one 1 ∷ one 2 ∷ one 4 ∷ []))) last_set 3) ≡ Err (record { line = 7; cause = 4 })
-unfolding judged judge_steps judge_step judge_end
-outside_the_box = refl
-
-not_single : judged (one 3) 18 events f (server first_step (in_set (one 2 ∷ one 3 ∷ [])) 3) ≡ Err (record { line = 11; cause = 7 })
-unfolding judged judge_steps judge_step judge_end
-not_single = refl
-
-wrong_state : judged (one 3) 18 events f (server first_step last_set 2) ≡ Err (record { line = 11; cause = 8 })
-unfolding judged judge_steps judge_step judge_end
-wrong_state = refl
-
-network_of_two_queues : judged (3 ∷ 3 ∷ []) 18 events f (server first_step last_set 3) ≡ Err (record { line = 2; cause = 1 })
+network_of_two_queues : judged (3 ∷ 3 ∷ []) 18 events f (server (first_step (0 ∷ 1 ∷ 2 ∷ [])) last_set 3) ≡ breaks 2 1
 unfolding judged judge_steps judge_step judge_end
 network_of_two_queues = refl
 
-horizon_above_the_limit : judged (one 3) 1 events f (server first_step last_set 3) ≡ Err (record { line = 5; cause = 1 })
+horizon_above_the_limit : judged (one 3) 1 events f (server (first_step (0 ∷ 1 ∷ 2 ∷ [])) last_set 3) ≡ breaks 5 1
 unfolding judged judge_steps judge_step judge_end
 horizon_above_the_limit = refl
-
--- a region that isn't all states, with too few and with one too many
-begin_without_the_least : judged (one 3) 18 events f (log 1 1 (between (one 1) (one 3)) (entry 1 0 last_set ∷ []) (one 3)) ≡ Err (record { line = 6; cause = 5 })
-unfolding judged judge_steps judge_step judge_end
-begin_without_the_least = refl
-
-begin_outside : judged (one 3) 18 events f (log 1 1 (between (one 0) (one 4)) (entry 1 0 last_set ∷ []) (one 3)) ≡ Err (record { line = 6; cause = 4 })
-unfolding judged judge_steps judge_step judge_end
-begin_outside = refl
 
 -- a box of 4,096 states may be followed by a set, and one of 4,097 may not
 split_of_4096 : is_small (between (one 0) (one 4095)) last_set ≡ true
@@ -131,15 +120,14 @@ tandem fourth third = log 2 8 (between (two 0 0) (two 1 1))
     (entry 8 0 (between (two 0 0) (two 1 1)) ∷ entry 7 2 (between (two 0 0) (two 0 1)) ∷ entry 6 1 (between (two 0 0) (two 0 1)) ∷ entry 5 3 (between (two 0 0) (two 0 0))
     ∷ entry 4 0 fourth ∷ entry 3 0 third ∷ entry 2 1 (in_set (two 1 1 ∷ [])) ∷ entry 1 2 (in_set (two 0 1 ∷ [])) ∷ []) (two 0 1)
 
-boxes_and_sets : judged (two 1 1) 18 numbers functions (tandem (in_set (two 1 1 ∷ [])) (in_set (two 1 1 ∷ []))) ≡ Ok tt
-unfolding judged judge_steps judge_step judge_end
-boxes_and_sets = refl
-
-box_left_as_it_is : judged (two 1 1) 18 numbers functions (tandem (between (two 0 0) (two 0 0)) (between (two 0 0) (two 0 0))) ≡ Err (record { line = 11; cause = 5 })
-unfolding judged judge_steps judge_step judge_end
-box_left_as_it_is = refl
-
 -- a set may be followed by a box
-box_after_a_set : judged (two 1 1) 18 numbers functions (tandem (in_set (two 1 1 ∷ [])) (between (two 1 1) (two 1 1))) ≡ Ok tt
+abbrev tandems : List (Certificate × outcome)
+tandems =
+    (tandem (in_set (two 1 1 ∷ [])) (in_set (two 1 1 ∷ [])), Ok tt)
+    ∷ (tandem (in_set (two 1 1 ∷ [])) (between (two 1 1) (two 1 1)), Ok tt)
+    ∷ (tandem (between (two 0 0) (two 0 0)) (between (two 0 0) (two 0 0)), breaks 11 5)
+    ∷ []
+
+tandems_judged : map (λ (s : Certificate × outcome). judged (two 1 1) 18 numbers functions s.0) tandems ≡ map (λ (s : Certificate × outcome). s.1) tandems
 unfolding judged judge_steps judge_step judge_end
-box_after_a_set = refl
+tandems_judged = refl

@@ -1,17 +1,17 @@
 -- The reading and the judging of a log side by side, line by line.
 use Rattle.std.specs.Prelude.{ℕ, ◌+◌, ◌-◌, ◌^◌, List, [], length, ◌==◌, nat_le, Result, Ok, Err}
 use Rattle.psi_past.specs.SeedWord.{seed_word}
-use Rattle.psi_rate.specs.Composition.{Parts, Functions, system_functions}
+use Rattle.psi_rate.specs.Composition.{SystemParts, Functions, system_functions}
 use Rattle.psi_log_format.specs.declared.header.Header.{Header as LogHeader}
 use Rattle.psi_log_format.specs.Log.{LogRegion, in_set, Certificate}
 use Rattle.psi_log_words.specs.Refusal.{Refusal, ◌>>=◌, holds_or}
 use Rattle.psi_log_words.specs.Regions.{box_before}
 use Rattle.psi_log.specs.Reading.{read_steps, read}
-use Rattle.psi_log.specs.Cursor.{ended}
+use Rattle.psi_log.specs.Cursor.{Cursor, ended}
 use Rattle.psi_replay.specs.Verdict.{rejected, is_within, holds_all, judge_steps, judge_end, judged, event_numbers, verdict_of}
 use Rattle.psi_replay.specs.declared.answers.Verdict.{Verdict}
 use Rattle.psi_replay.specs.declared.causes.Rejection.{Rejection}
-use Rattle.psi_replay.specs.declared.causes.Cause.TheVariants.{Header, OutsideBox, NotCovered}
+use Rattle.psi_replay.specs.declared.causes.RuleCause.TheVariants.{Header, OutsideBox, NotCovered}
 
 -- what a judging that the code did is
 abbrev pub told : {X : Type 0} → Result X Rejection → Result (Unit {0}) Refusal
@@ -56,8 +56,13 @@ module _ (caps : List ℕ) (limit : ℕ) (events : ℕ → ℕ) (f : Functions) 
     final ← ended h lines.1
     Ok (verdict_of (told_log h final) (lines.0 >>= (λ (last : LogRegion). judge_end (7 + h.horizon) last final)))
 
+-- the verdict on a log of a system that is read as far as a cursor, where this text is left and this is the judging so far, under these words
+abbrev pub left_with : {E : Type 0} → (E → List ℕ → List ℕ) → SystemParts E → (ℕ → ℕ) → Cursor → List ℕ → Result (Unit {0}) Rejection → Result Verdict Refusal
+left_with function system words c text judged =
+    verdict_left system.caps system.limit (event_numbers system words) (system_functions function system words) c.header c.done c.region text (told judged)
+
 -- the rules of a system for a log, under the words of its seed and stream
-abbrev pub judged_under : {E : Type 0} → (E → List ℕ → List ℕ) → Parts E → Certificate → Result (Unit {0}) Refusal
+abbrev pub judged_under : {E : Type 0} → (E → List ℕ → List ℕ) → SystemParts E → Certificate → Result (Unit {0}) Refusal
 judged_under function system c =
     judged system.caps system.limit (event_numbers system (seed_word c.header.seed c.header.stream)) (system_functions function system (seed_word c.header.seed c.header.stream)) c
 

@@ -6,16 +6,16 @@ use Rattle.std.specs.Str.{bytes_eq}
 use Rattle.std.specs.Cmp.Lexicographic.{pointwise}
 use Rattle.psi_state.specs.State.{IsBelow, box, all_states}
 use Rattle.psi_rate.specs.Rates.{event_of}
-use Rattle.psi_rate.specs.Composition.{Parts, Functions, IsReached}
+use Rattle.psi_rate.specs.Composition.{SystemParts, Functions, IsReached}
 use Rattle.psi_log_format.specs.Log.{LogRegion, in_box, in_set, Entry, Certificate}
 use Rattle.psi_log_words.specs.Refusal.{Refusal, ◌>>=◌, holds_or}
 use Rattle.psi_replay.specs.declared.answers.Verdict.{Verdict}
 use Rattle.psi_replay.specs.declared.answers.Verdict.TheVariants.{Accepted, Rejected}
-use Rattle.psi_replay.specs.declared.causes.Cause.{Cause}
-use Rattle.psi_replay.specs.declared.causes.Cause.TheVariants.{Header, StepNumber, WrongEvent, OutsideBox, NotCovered, SplitTooLarge, NotSingle, WrongState}
+use Rattle.psi_replay.specs.declared.causes.RuleCause.{RuleCause}
+use Rattle.psi_replay.specs.declared.causes.RuleCause.TheVariants.{Header, StepNumber, WrongEvent, OutsideBox, NotCovered, SplitTooLarge, NotSingle, WrongState}
 
 -- the number of a cause
-abbrev pub code_of : Cause → ℕ
+abbrev pub code_of : RuleCause → ℕ
 code_of Header = 1
 code_of StepNumber = 2
 code_of WrongEvent = 3
@@ -26,7 +26,7 @@ code_of NotSingle = 7
 code_of WrongState = 8
 
 -- the rejection of a line
-abbrev pub rejected : ℕ → Cause → Refusal
+abbrev pub rejected : ℕ → RuleCause → Refusal
 rejected n cause = record { line = n; cause = code_of cause }
 
 -- the states of a region
@@ -93,7 +93,7 @@ module _ (caps : List ℕ) (limit : ℕ) (events : ℕ → ℕ) (f : Functions) 
     judge_end (7 + c.header.horizon) last c.final
 
 -- the numbers of a network's events by the time before zero, under these words; that of an idle step is the number of events
-abbrev pub event_numbers : {E : Type 0} → Parts E → (ℕ → ℕ) → ℕ → ℕ
+abbrev pub event_numbers : {E : Type 0} → SystemParts E → (ℕ → ℕ) → ℕ → ℕ
 event_numbers system words t = event_of system.rates (words (t - 1))
 
 -- the verdict on a log whose rules were judged

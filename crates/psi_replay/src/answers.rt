@@ -17,7 +17,7 @@ pub enum Verdict {
     Rejected {
         /// The first such line, counted from 1.
         line: u32,
-        /// The number of the line's first cause, 1 to 8, as [`crate::Cause`] has them.
+        /// The number of the line's first cause, 1 to 8, as [`crate::RuleCause`] has them.
         cause: u8,
     },
 }

@@ -7,7 +7,7 @@ ghost use Rattle.psi_replay.specs.Judging.{Gives};
 
 /// Why a line of a log is rejected.
 #[derive(Clone, Copy, PartialEq, Eq, Debug)]
-pub enum Cause {
+pub enum RuleCause {
     /// 1: the queues aren't as many as the network's, or the horizon is above 2 to the power of its limit.
     Header,
     /// 2: a step's number isn't that of its line: the first step has the horizon's, each later one is one less.
@@ -33,23 +33,23 @@ pub(crate) struct Rejection {
     /// The line, counted from 1.
     pub(crate) line: u32,
     /// The rule that it breaks.
-    pub(crate) cause: Cause,
+    pub(crate) cause: RuleCause,
 }
 
-impl Cause {
+impl RuleCause {
     /// Returns the number of the cause, 1 to 8.
     pub fn code(self) -> u8
         ensures { result ≡ code_of self }
     {
         match self {
-            Cause::Header => 1,
-            Cause::StepNumber => 2,
-            Cause::WrongEvent => 3,
-            Cause::OutsideBox => 4,
-            Cause::NotCovered => 5,
-            Cause::SplitTooLarge => 6,
-            Cause::NotSingle => 7,
-            Cause::WrongState => 8,
+            RuleCause::Header => 1,
+            RuleCause::StepNumber => 2,
+            RuleCause::WrongEvent => 3,
+            RuleCause::OutsideBox => 4,
+            RuleCause::NotCovered => 5,
+            RuleCause::SplitTooLarge => 6,
+            RuleCause::NotSingle => 7,
+            RuleCause::WrongState => 8,
         }
     }
 

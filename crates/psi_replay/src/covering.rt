@@ -63,11 +63,10 @@ fn covers_box<E: EventLaw>(event: &E, before: &Bounds, after: &BorrowedRegion<'_
 // As `covers_box`, where both are boxes: the corners decide it.
 fn box_covers_box<E: EventLaw>(event: &E, before: &Bounds, after: &Bounds) -> bool
     requires before { IsBelow before.now.hi (E.capacities event.now) }
+    requires after { IsRegion (length (E.capacities event.now)) (in_box after.now) }
     requires within { is_within (E.capacities event.now) (in_box after.now) ≡ true }
     ensures { result ≡ covers (E.function event.now) (in_box before.now) (in_box after.now) }
 {
-    // Called for its clause: the corners are in order.
-    let _queues = after.len();
     covers_image(event, before, after)
 }
 

@@ -2,6 +2,7 @@
 
 ghost use Rattle.std.specs.Prelude.{◌≡◌, ◌==◌, ◌-◌, ◌≤◌, ◌<◌, length, true, option_map, slice_get, MatchOption, Ok, OnOk};
 ghost use Rattle.psi_rate.specs.Rates.{event_of};
+ghost use Rattle.psi_rate.specs.System.{IsSystem};
 ghost use Rattle.psi_rate.specs.Composition.{system_functions};
 ghost use Rattle.psi_log_format.specs.Log.{IsRegion};
 ghost use Rattle.psi_log_format.specs.Listed.{shown};
@@ -9,10 +10,10 @@ ghost use Rattle.psi_replay.specs.Verdict.{is_within, judge_step, judge_end, eve
 ghost use Rattle.psi_replay.specs.Judging.{Gives, region_before};
 ghost use Rattle.psi_log_words.specs.Refusal.{holds_or};
 ghost use Rattle.psi_replay.specs.Verdict.{rejected};
-ghost use Rattle.psi_replay.specs.declared.causes.Cause.TheVariants.{StepNumber, WrongEvent};
+ghost use Rattle.psi_replay.specs.declared.causes.RuleCause.TheVariants.{StepNumber, WrongEvent};
 ghost use Rattle.psi_replay.specs.Passes.{judge_begin, and_then, told};
 
-use crate::causes::{Cause, Rejection};
+use crate::causes::{Rejection, RuleCause};
 use crate::covering::{covers_itself, holds_all, step_covers};
 use crate::regions::{holds, is_single, is_small, is_within};
 use psi_event::EventLaw;
@@ -36,12 +37,13 @@ pub(crate) fn judge_begin<E: EventLaw>(
     ensures value { Gives (λ _. tt) result (judge_begin system.now.caps system.now.limit header.now (shown begin.now)) }
     ensures queues { OnOk result (header.now.queues ≡ length system.now.caps) }
     ensures within { OnOk result (is_within system.now.caps (shown begin.now) ≡ true) }
+    ensures fit { IsSystem E.capacities system.now }
 {
     let caps = system.caps();
-    Cause::Header.unless(header.queues == caps.len(), 2)?;
-    Cause::Header.unless(header.horizon <= 1 << system.limit(), 5)?;
-    Cause::OutsideBox.unless(is_within(begin, &caps), 6)?;
-    Cause::NotCovered.unless(holds_all(&caps, begin), 6)
+    RuleCause::Header.unless(header.queues == caps.len(), 2)?;
+    RuleCause::Header.unless(header.horizon <= 1 << system.limit(), 5)?;
+    RuleCause::OutsideBox.unless(is_within(begin, &caps), 6)?;
+    RuleCause::NotCovered.unless(holds_all(&caps, begin), 6)
 }
 
 // The number and the event of the word of a time.
@@ -66,8 +68,8 @@ fn drawn_at<'n, E: EventLaw, P: Past>(
 fn judge_numbers(step: Step, line: u32, time: u32, number: u16) -> Result<(), Rejection>
     ensures { Gives (λ _. tt) result (and_then (holds_or (rejected line StepNumber) (step.number == time)) (holds_or (rejected line WrongEvent) (step.event == number))) }
 {
-    Cause::StepNumber.unless(step.number == time, line)?;
-    Cause::WrongEvent.unless(step.event == number, line)
+    RuleCause::StepNumber.unless(step.number == time, line)?;
+    RuleCause::WrongEvent.unless(step.event == number, line)
 }
 
 /// The line of a step, and what its rules speak of.
@@ -105,9 +107,9 @@ fn judge_change<'l, E: EventLaw, P: Past>(
     let caps = system.caps();
     let (number, event) = drawn_at(system, past, line.time);
     judge_numbers(line.step, line.line, line.time, number)?;
-    Cause::OutsideBox.unless(is_within(&line.after, &caps), line.line)?;
-    Cause::SplitTooLarge.unless(is_small(before, &line.after), line.line)?;
-    Cause::NotCovered.unless(step_covers(event, &caps, before, &line.after), line.line)
+    RuleCause::OutsideBox.unless(is_within(&line.after, &caps), line.line)?;
+    RuleCause::SplitTooLarge.unless(is_small(before, &line.after), line.line)?;
+    RuleCause::NotCovered.unless(step_covers(event, &caps, before, &line.after), line.line)
 }
 
 // Judges the line of a step that leaves the region in its place: less is then asked of it.
@@ -127,7 +129,7 @@ fn judge_stay<E: EventLaw, P: Past>(
 {
     let (number, event) = drawn_at(system, past, line.time);
     judge_numbers(line.step, line.line, line.time, number)?;
-    Cause::NotCovered.unless(covers_itself(event, &line.after), line.line)
+    RuleCause::NotCovered.unless(covers_itself(event, &line.after), line.line)
 }
 
 /// Judges the line of a step, unless a rule is broken already.
@@ -164,8 +166,8 @@ fn judge_end(line: u32, last: &BorrowedRegion<'_>, end: &State) -> Result<(), Re
     requires { IsRegion (length end.now) (shown last.now) }
     ensures { Gives (λ _. tt) result (judge_end line (shown last.now) end.now) }
 {
-    Cause::NotSingle.unless(is_single(last), line)?;
-    Cause::WrongState.unless(holds(last, end, &mut 0), line)
+    RuleCause::NotSingle.unless(is_single(last), line)?;
+    RuleCause::WrongState.unless(holds(last, end, &mut 0), line)
 }
 
 /// Judges the last line, unless a rule is broken already.

@@ -18,6 +18,6 @@ mod sets;
 mod stream;
 
 pub use answers::Verdict;
-pub use causes::Cause;
+pub use causes::RuleCause;
 pub use replay::{replay_text, verdict};
 pub use stream::StreamReplay;

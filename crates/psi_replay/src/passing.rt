@@ -1,13 +1,12 @@
 //! The rules of a log that is read in one pass, judged line by line as it is read.
 
 ghost use Rattle.std.specs.Prelude.{◌≡◌, ℕ, ◌+◌, ◌-◌, ◌≤◌, List, ◌++◌, length, true, IfErr, OnOk};
-ghost use Rattle.psi_rate.specs.Composition.{system_functions};
 ghost use Rattle.psi_log_words.specs.Refusal.{Gives as GivesRead, IsLogError};
 ghost use Rattle.psi_log.specs.Cursor.{IsCursor, EndsAs};
-ghost use Rattle.psi_replay.specs.Verdict.{is_within, event_numbers, verdict_of};
+ghost use Rattle.psi_replay.specs.Verdict.{is_within, verdict_of};
 ghost use Rattle.psi_log_format.specs.Listed.{shown};
 ghost use Rattle.psi_replay.specs.Judging.{region_before};
-ghost use Rattle.psi_replay.specs.Passes.{told, told_log, verdict_left};
+ghost use Rattle.psi_replay.specs.Passes.{told, told_log, left_with};
 
 use crate::answers::Verdict;
 use crate::causes::Rejection;
@@ -62,13 +61,8 @@ pub(crate) fn judge_lines<E: EventLaw, P: Past>(
     requires queues { OnOk before (reader.old.header.queues ≡ length system.now.caps) }
     requires within { OnOk before (is_within system.now.caps reader.old.region ≡ true) }
     ensures left { let words = P.words past.old in
-        (more : List ℕ) → verdict_left system.now.caps system.now.limit (event_numbers system.now words) (system_functions E.function system.now words)
-        reader.old.header reader.old.done reader.old.region (reader.old.rest ++ more) (told before)
-        ≡ verdict_left system.now.caps system.now.limit (event_numbers system.now words) (system_functions E.function system.now words)
-        reader.new.header reader.new.done reader.new.region (reader.new.rest ++ more) (told result.judged) }
-    ensures refused { let words = P.words past.old in
-        IfErr result.read (λ error. IsLogError error (verdict_left system.now.caps system.now.limit (event_numbers system.now words) (system_functions E.function system.now words)
-        reader.new.header reader.new.done reader.new.region reader.new.rest (told result.judged))) }
+        (more : List ℕ) → left_with E.function system.now words reader.old (reader.old.rest ++ more) before ≡ left_with E.function system.now words reader.new (reader.new.rest ++ more) result.judged }
+    ensures refused { IfErr result.read (λ error. IsLogError error (left_with E.function system.now (P.words past.old) reader.new reader.new.rest result.judged)) }
     ensures ends { EndsAs reader.old.rest reader.new.rest }
     ensures done { OnOk result.read (reader.new.done ≡ reader.new.header.horizon) }
     ensures queues { OnOk result.judged (reader.new.header.queues ≡ length system.now.caps) }
@@ -127,9 +121,7 @@ pub(crate) fn verdict_left<E: EventLaw, P: Past>(
 ) -> Result<Verdict, LogError>
     requires queues { OnOk before (reader.old.header.queues ≡ length system.now.caps) }
     requires within { OnOk before (is_within system.now.caps reader.old.region ≡ true) }
-    ensures value { let words = P.words past.old in
-        GivesRead (λ v. v) result (verdict_left system.now.caps system.now.limit (event_numbers system.now words) (system_functions E.function system.now words)
-        reader.old.header reader.old.done reader.old.region reader.old.rest (told before)) }
+    ensures value { GivesRead (λ v. v) result (left_with E.function system.now (P.words past.old) reader.old reader.old.rest before) }
 {
     let header = reader.header();
     let passed = judge_lines(system, past, reader, before);

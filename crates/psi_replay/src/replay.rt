@@ -89,8 +89,6 @@ pub fn verdict<E: EventLaw>(system: &System<'_, E>, log: &Log) -> Verdict
     ensures reached { ReachesAccepted (system_functions E.function system.now (seed_word log.now.header.seed log.now.header.stream)) system.now.caps result }
     ensures within { AcceptsWithin system.now.caps result }
 {
-    // Called for its clause: the events fit the capacities.
-    let _caps = system.caps();
     let header = log.header();
     let end = log.end();
     let mut past = Windowed::new(SeedPast::new(header.seed, header.stream));
@@ -108,7 +106,7 @@ pub fn verdict<E: EventLaw>(system: &System<'_, E>, log: &Log) -> Verdict
 ///
 /// # Errors
 ///
-/// The first line that isn't as the grammar of logs has it, with its first cause, as `psi_log::Cause` has them;
+/// The first line that isn't as the grammar of logs has it, with its first cause, as `psi_log::LogCause` has them;
 /// `OutOfMemory`, and no clause says when that is.
 pub fn replay_text<E: EventLaw>(
     alloc: Global,

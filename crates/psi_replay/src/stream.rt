@@ -9,7 +9,7 @@ use crate::answers::Verdict;
 use crate::progress::{Progress, judge_piece, verdict_on};
 use psi_event::EventLaw;
 use psi_io::{Consumer, Noted, OutOfMemory};
-use psi_log::{Cause, LogError};
+use psi_log::{LogCause, LogError};
 use psi_log_format::MOST_LOG_BYTES;
 use psi_rate::System;
 use std::alloc::{AllocError, Global};
@@ -128,13 +128,13 @@ impl<'s, 'n, E: EventLaw> StreamReplay<'s, 'n, E> {
     ///
     /// # Errors
     ///
-    /// The first line of the text that isn't as the grammar of logs has it, with its first cause, as `psi_log::Cause`
+    /// The first line of the text that isn't as the grammar of logs has it, with its first cause, as `psi_log::LogCause`
     /// has them; `OutOfMemory`, and no clause says when that is.
     pub fn verdict(self) -> Result<Verdict, LogError>
         ensures { Gives (λ v. v) result (replayed (judged_under E.function self.entry.system) self.entry.taken) }
     {
         if self.count > MOST {
-            return Err(Cause::TooLong.at(0));
+            return Err(LogCause::TooLong.at(0));
         }
         verdict_on(self.alloc, self.system, self.progress, &self.pending)
     }
@@ -183,11 +183,11 @@ fn tries_left(tries: u8, stands: bool, progress: &Progress) -> u8 {
 }
 
 impl<'s, 'n, E: EventLaw> Consumer for StreamReplay<'s, 'n, E> {
-    ghost use Rattle.psi_rate.specs.Composition.{Parts};
+    ghost use Rattle.psi_rate.specs.Composition.{SystemParts};
 
     ghost taken = { λ r. r.taken };
 
-    ghost Setting = { Parts E };
+    ghost Setting = { SystemParts E };
 
     ghost setting = { λ r. r.system };
 

@@ -4,7 +4,7 @@ use Rattle.std.proofs.Common.{ap, ◌∙◌, arith}
 use Rattle.psi_state.specs.State.{numbers_from}
 use Rattle.psi_past.specs.SeedWord.{seed_word}
 use Rattle.psi_rate.specs.Rates.{total, least_power, event_of}
-use Rattle.psi_rate.specs.Composition.{Parts, Functions, AreClosed, function_at}
+use Rattle.psi_rate.specs.Composition.{SystemParts, Functions, AreClosed, function_at}
 use Rattle.psi_rate.proofs.RatesLemmas.{event_at-below}
 use Rattle.psi_rate.proofs.PowersLemmas.{pow-order}
 use Rattle.psi_region.specs.Region.{Area, start, step, IsArea}
@@ -61,7 +61,7 @@ module _ (split : ℕ) (caps : List ℕ) (f g : Functions) (closed : AreClosed c
       ap (λ (es : List Entry). record { header = h; begin = region_of (start caps); entries = es; final = state }) (entries-agree events h.horizon 0 h.horizon)
 
 -- the log of a system that is the network's is that of the network
-pub log-by : {E : Type 0} (function : E → List ℕ → List ℕ) (system : Parts E) (n : Network) (seed stream horizon : ℕ) (state : List ℕ) → IsNetwork n → IsSystemOf function n system
+pub log-by : {E : Type 0} (function : E → List ℕ → List ℕ) (system : SystemParts E) (n : Network) (seed stream horizon : ℕ) (state : List ℕ) → IsNetwork n → IsSystemOf function n system
     → log_of function system (seed_word seed stream) (header_of (caps_of n) seed stream horizon) state ≡ certificate n seed stream horizon state
 unfolding certificate events_by_time
 log-by function system n seed stream horizon state kept of =

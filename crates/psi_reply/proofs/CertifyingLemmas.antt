@@ -8,7 +8,7 @@ use Rattle.psi_io.proofs.SinkLemmas.{appended-nothing}
 use Rattle.psi_state.specs.declared.Outcome.{Outcome}
 use Rattle.psi_state.specs.declared.Outcome.TheVariants.{Met, NotMet}
 use Rattle.psi_past.specs.SeedWord.{seed_word}
-use Rattle.psi_rate.specs.Composition.{Parts}
+use Rattle.psi_rate.specs.Composition.{SystemParts}
 use Rattle.psi_rate.specs.Doubling.{IsFirst}
 use Rattle.psi_rate.proofs.PowersLemmas.{pow-order}
 use Rattle.psi_horizon.specs.Runs.{ending_at}
@@ -30,7 +30,7 @@ use Rattle.psi_reply.proofs.CertificatesLemmas.{log-by, certificate_log, certifi
 use Rattle.psi_reply.proofs.SamplingLemmas.{sampled-drawn}
 
 -- so the reply with it is the network's
-pub certified_by : {E : Type 0} (function : E → List ℕ → List ℕ) (system : Parts E) (n : Network) (seed stream horizon : ℕ) (state : List ℕ) (queues : ℕ) (o : Outcome)
+pub certified_by : {E : Type 0} (function : E → List ℕ → List ℕ) (system : SystemParts E) (n : Network) (seed stream horizon : ℕ) (state : List ℕ) (queues : ℕ) (o : Outcome)
     → IsNetwork n → IsSystemOf function n system → queues ≡ length (caps_of n) → o ≡ sampled n seed stream → o ≡ Met horizon state
     → log_reply (log_text (log_of function system (seed_word seed stream) (record { version = 2; queues = queues; seed = seed; stream = stream; horizon = horizon }) state))
     ≡ certify_reply n seed stream (sampled n seed stream)

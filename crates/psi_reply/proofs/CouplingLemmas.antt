@@ -1,16 +1,12 @@
 -- The least coupling of a network, and the first value of a reward.
-use Rattle.std.specs.Prelude.{◌≡◌, ℕ, zero, suc, ◌+◌, ◌^◌, ℤ, Bool, if◌then◌else◌, List, [], ◌∷◌, map, take, Option, Some, None, option_map, slice_get, true, false, refl}
+use Rattle.std.specs.Prelude.{◌≡◌, ℕ, zero, suc, ◌+◌, Bool, if◌then◌else◌, List, [], ◌∷◌, map, take, Option, Some, None, option_map, slice_get, true, false, refl}
 use Rattle.std.specs.Str.{bytes_eq}
 use Rattle.std.proofs.Common.{ap, ◌∙◌, arith}
 use Rattle.psi_io.specs.Sink.{appended}
 use Rattle.psi_past.specs.SeedWord.{seed_word}
 use Rattle.psi_reward.specs.declared.kinds.RewardKind.{RewardKind}
 use Rattle.psi_reward.specs.Worth.{worth_of}
-use Rattle.psi_rate.specs.Composition.{Parts, function_at, system_functions}
-use Rattle.psi_rate.specs.Doubling.{first_answer, TellsFirst}
-use Rattle.psi_rate.specs.Least.{least_answer, TellsLeast}
-use Rattle.psi_rate.proofs.DoublingLemmas.{first_answer-tells}
-use Rattle.psi_rate.proofs.LeastLemmas.{least_answer-tells}
+use Rattle.psi_rate.specs.Composition.{SystemParts, function_at, system_functions}
 use Rattle.psi_horizon.specs.Runs.{ending_at}
 use Rattle.psi_horizon.proofs.RunsLemmas.{ending-reached}
 use Rattle.psi_horizon.proofs.SampleLemmas.{ending-within}
@@ -18,11 +14,11 @@ use Rattle.psi_couple.specs.declared.answers.Coupled.{Coupled}
 use Rattle.psi_couple.specs.declared.answers.Valued.{Valued}
 use Rattle.psi_couple.specs.declared.answers.Coupled.TheVariants as coupled
 use Rattle.psi_couple.specs.declared.answers.Valued.TheVariants as valued
-use Rattle.psi_couple.specs.Coupling.{coupled_of, coupled_within, IsCoupled, ReachesCoupled, DecidesCoupled, CouplesWithin}
-use Rattle.psi_couple.specs.Valuing.{value_at, valued_of, valued_within, IsValued, ReachesValued, DecidesValues}
+use Rattle.psi_couple.specs.Coupling.{IsCoupled, ReachesCoupled, DecidesCoupled, CouplesWithin}
+use Rattle.psi_couple.specs.Valuing.{value_at, IsValued, ReachesValued, DecidesValues}
 use Rattle.psi_couple.proofs.AgreeingLemmas.{coupled_within-agree, valued_within-agree}
-use Rattle.psi_couple.proofs.CouplingLemmas.{coupled-decides}
-use Rattle.psi_couple.proofs.ValuingLemmas.{value-reached, valued-decides}
+use Rattle.psi_couple.proofs.CouplingLemmas.{coupled_within-is, coupled-decides}
+use Rattle.psi_couple.proofs.ValuingLemmas.{value-reached, valued_within-is, valued-decides}
 use Rattle.psi_net_model.specs.Network.{Network, NamedReward, caps_of, rates_of}
 use Rattle.psi_net_model.specs.Valid.{IsNetwork}
 use Rattle.psi_reply.specs.Sample.{functions_by_time}
@@ -37,7 +33,7 @@ use Rattle.psi_reply.proofs.SamplingLemmas.{functions_by_time-closed, functions-
 -- ---- the least coupling
 
 -- the least coupling of a system that is the network's is that of the network
-pub coupled_by : {E : Type 0} (function : E → List ℕ → List ℕ) (system : Parts E) (n : Network) (seed stream : ℕ) (c : Coupled)
+pub coupled_by : {E : Type 0} (function : E → List ℕ → List ℕ) (system : SystemParts E) (n : Network) (seed stream : ℕ) (c : Coupled)
     → IsNetwork n → IsSystemOf function n system
     → IsCoupled (ending_at system.split (system_functions function system (seed_word seed stream)) system.caps) system.limit c → c ≡ coupling n seed stream
 unfolding endings coupling
@@ -47,14 +43,9 @@ coupled_by function system n seed stream c kept of is =
     coupled_within-agree n.split (caps_of n) (function_at fs (rates_of n) (seed_word seed stream)) (functions_by_time n seed stream) n.limit c alike.0 alike.1
     (of_network function system n seed stream (λ k f cs l. IsCoupled (ending_at k f cs) l c) of is)
 
-pub coupled_of-is : (run : ℕ → Option (List ℕ)) (limit : ℕ) (found : Option (ℕ × List ℕ)) → TellsLeast run (2 ^ limit) found → IsCoupled run limit (coupled_of limit found)
-coupled_of-is run limit None tells = (refl, tells)
-coupled_of-is run limit (Some found) tells = tells
-
 coupling-least : (n : Network) (seed stream : ℕ) → IsCoupled (endings n seed stream) n.limit (coupling n seed stream)
-unfolding coupling coupled_within
-coupling-least n seed stream =
-    coupled_of-is (endings n seed stream) n.limit (least_answer (endings n seed stream) (2 ^ n.limit)) (least_answer-tells (endings n seed stream) (2 ^ n.limit))
+unfolding coupling
+coupling-least n seed stream = coupled_within-is (endings n seed stream) n.limit
 
 coupled-reaches : (n : Network) (seed stream : ℕ) (c : Coupled) → IsNetwork n → IsCoupled (endings n seed stream) n.limit c
     → ReachesCoupled (functions_by_time n seed stream) (caps_of n) c
@@ -123,7 +114,7 @@ named-more name (r ∷ rs) (suc i) own none named other =
     first false none rest = rest none
 
 -- the first value of a system that is the network's is that of the network
-pub valued_by : {E : Type 0} (function : E → List ℕ → List ℕ) (system : Parts E) (n : Network) (seed stream : ℕ) (kind : RewardKind) (v : Valued)
+pub valued_by : {E : Type 0} (function : E → List ℕ → List ℕ) (system : SystemParts E) (n : Network) (seed stream : ℕ) (kind : RewardKind) (v : Valued)
     → IsNetwork n → IsSystemOf function n system
     → IsValued (value_at (worth_of kind) system.split (system_functions function system (seed_word seed stream)) system.caps) system.limit v
     → v ≡ valuation n seed stream kind
@@ -134,14 +125,9 @@ valued_by function system n seed stream kind v kept of is =
     valued_within-agree (worth_of kind) n.split (caps_of n) (function_at fs (rates_of n) (seed_word seed stream)) (functions_by_time n seed stream) n.limit v alike.0 alike.1
     (of_network function system n seed stream (λ k f cs l. IsValued (value_at (worth_of kind) k f cs) l v) of is)
 
-valued_of-is : (run : ℕ → Option ℤ) (limit : ℕ) (found : Option (ℕ × ℤ)) → TellsFirst run limit found → IsValued run limit (valued_of limit found)
-valued_of-is run limit None tells = (refl, tells)
-valued_of-is run limit (Some found) tells = tells
-
 valuation-first : (n : Network) (seed stream : ℕ) (kind : RewardKind) → IsValued (values n seed stream kind) n.limit (valuation n seed stream kind)
-unfolding valuation valued_within
-valuation-first n seed stream kind =
-    valued_of-is (values n seed stream kind) n.limit (first_answer (values n seed stream kind) n.limit) (first_answer-tells (values n seed stream kind) n.limit)
+unfolding valuation
+valuation-first n seed stream kind = valued_within-is (values n seed stream kind) n.limit
 
 valued-reaches : (n : Network) (seed stream : ℕ) (kind : RewardKind) (v : Valued) → IsNetwork n → IsValued (values n seed stream kind) n.limit v
     → ReachesValued (worth_of kind) (functions_by_time n seed stream) (caps_of n) v

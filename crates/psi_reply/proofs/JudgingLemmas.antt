@@ -5,14 +5,14 @@ use Rattle.std.proofs.Common.{inl, inr, ap, ◌∙◌, subst}
 use Rattle.psi_state.specs.Members.{In}
 use Rattle.psi_past.specs.SeedWord.{seed_word}
 use Rattle.psi_rate.specs.Rates.{event_of}
-use Rattle.psi_rate.specs.Composition.{Parts, Functions, function_at, system_functions}
+use Rattle.psi_rate.specs.Composition.{SystemParts, Functions, function_at, system_functions}
 use Rattle.psi_horizon.specs.Agreeing.{Agree}
 use Rattle.psi_log_format.specs.Log.{LogRegion, Entry, Certificate, IsLog}
 use Rattle.psi_log_words.specs.Refusal.{Refusal, ◌>>=◌, holds_or}
 use Rattle.psi_net_model.specs.Network.{Network, caps_of, rates_of}
 use Rattle.psi_net_model.specs.Valid.{IsNetwork}
 use Rattle.psi_replay.specs.declared.answers.Verdict.{Verdict}
-use Rattle.psi_replay.specs.declared.causes.Cause.TheVariants.{Header, StepNumber, WrongEvent, OutsideBox, NotCovered, SplitTooLarge}
+use Rattle.psi_replay.specs.declared.causes.RuleCause.TheVariants.{Header, StepNumber, WrongEvent, OutsideBox, NotCovered, SplitTooLarge}
 use Rattle.psi_replay.specs.Verdict.{rejected, states_of, has, covers, is_within, is_small, holds_all, judge_step, judge_steps, judge_end, judged, event_numbers, verdict_of}
 use Rattle.psi_replay.proofs.RegionLemmas.{within_each}
 use Rattle.psi_replay.proofs.AcceptedLemmas.{next_rule, judged_reached, judged_within}
@@ -103,7 +103,7 @@ module _ (caps : List ℕ) (limit : ℕ) (events : ℕ → ℕ) (f g : Functions
       ap (λ (r : Result LogRegion Refusal). r >>= ended) (steps-agree 7 t c.begin c.entries agree within)))))
 
 -- the verdict of a system that is the network's is that of the network
-pub judged_by : {E : Type 0} (function : E → List ℕ → List ℕ) (system : Parts E) (net : Network) (c : Certificate) (v : Verdict) → IsNetwork net → IsSystemOf function net system
+pub judged_by : {E : Type 0} (function : E → List ℕ → List ℕ) (system : SystemParts E) (net : Network) (c : Certificate) (v : Verdict) → IsNetwork net → IsSystemOf function net system
     → (let words = seed_word c.header.seed c.header.stream in v ≡ verdict_of c (judged system.caps system.limit (event_numbers system words) (system_functions function system words) c))
     → v ≡ verdict_of c (judgement net c)
 unfolding judgement events_by_time

@@ -1,4 +1,5 @@
 -- The lemmas of this crate.
+pub mod EndingLemmas
 pub mod ListingLemmas
 pub mod ImagingLemmas
 pub mod SamplingLemmas

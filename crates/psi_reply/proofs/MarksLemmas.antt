@@ -5,7 +5,7 @@ use Rattle.std.proofs.lemmas.Option.{slice_get_within, get_or_from_slice_get}
 use Rattle.psi_state.specs.State.{IsBelow}
 use Rattle.psi_state.proofs.BoxesLemmas.{below-through}
 use Rattle.psi_event.specs.Law.{ShowsUpset}
-use Rattle.psi_rate.specs.Composition.{Parts}
+use Rattle.psi_rate.specs.Composition.{SystemParts}
 use Rattle.psi_rate.specs.System.{IsSystem}
 use Rattle.psi_kinds.specs.Kinds.{do_kind, Does}
 use Rattle.psi_kinds.specs.Forms.{upset_of}
@@ -39,7 +39,7 @@ shows-does caps f kind (Some pair) does shown = record {
 }
 
 -- so the mark of an event of a system that is made of a network is right for the network's event
-pub mark-right : {E : Type 0} (capacities : E → List ℕ) (function : E → List ℕ → List ℕ) (caps : List ℕ) (system : Parts E) (events : List NamedEvent) (i : ℕ) (m : E) (e d : NamedEvent)
+pub mark-right : {E : Type 0} (capacities : E → List ℕ) (function : E → List ℕ → List ℕ) (caps : List ℕ) (system : SystemParts E) (events : List NamedEvent) (i : ℕ) (m : E) (e d : NamedEvent)
     (mark : Option (List ℕ × List ℕ)) → IsSystem capacities system → system.caps ≡ caps → EachDoes caps (map function system.events) events
     → slice_get system.events i ≡ Some m → slice_get events i ≡ Some e → ShowsUpset (capacities m) (function m) mark → mark ≡ upset_of caps e.kind
     → ShowsUpset caps (do_kind caps (slice_index_or events i d).kind) (upset_of caps (slice_index_or events i d).kind)

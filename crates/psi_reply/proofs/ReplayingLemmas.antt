@@ -10,7 +10,7 @@ use Rattle.psi_log_words.specs.declared.refusals.LogError.TheVariants.{Refused, 
 use Rattle.psi_log_words.proofs.WordLemmas.{bind_ok, ok_same}
 use Rattle.psi_log.specs.Reading.{read}
 use Rattle.psi_log.proofs.ReadLemmas.{read_found}
-use Rattle.psi_rate.specs.Composition.{Parts}
+use Rattle.psi_rate.specs.Composition.{SystemParts}
 use Rattle.psi_program.specs.Reply.{line_reply}
 use Rattle.psi_reply.specs.Lines.{log_refused_line}
 use Rattle.psi_replay.specs.Verdict.{verdict_of}
@@ -66,7 +66,7 @@ refusal_replied net bytes line cause is = go (read bytes) is
         same refusal is = cc
 
 -- the verdict of a system that is the network's is that of the network, and so is each refusal
-pub replayed_by : {E : Type 0} (function : E → List ℕ → List ℕ) (system : Parts E) (net : Network) (bytes : List ℕ) (result : Result Verdict LogError) → IsNetwork net → IsSystemOf function net system
+pub replayed_by : {E : Type 0} (function : E → List ℕ → List ℕ) (system : SystemParts E) (net : Network) (bytes : List ℕ) (result : Result Verdict LogError) → IsNetwork net → IsSystemOf function net system
     → Gives (λ (v : Verdict). v) result (replayed (judged_under function system) bytes) → Gives (λ (v : Verdict). v) result (replayed (judgement net) bytes)
 replayed_by function system net bytes (Ok v) network of gives =
     let log = bind_ok (read bytes) (λ (c : Certificate). Ok (verdict_of c (judged_under function system c))) v gives in

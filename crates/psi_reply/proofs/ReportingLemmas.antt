@@ -27,15 +27,22 @@ drawn-sample net seed stream (NotMet l) limit drawn = tt
 pub sampled_counts : (net : Network) (seed stream : ℕ) → IsNetwork net → IsSampleOf net (sampled net seed stream)
 sampled_counts net seed stream kept = drawn-sample net seed stream (sampled net seed stream) kept.limit (sampled-drawn net seed stream kept)
 
+-- the samples of streams, and of those after them
+pub samples_append : (net : Network) (seed first m n : ℕ) → samples_of net seed first (m + n) ≡ samples_of net seed first m ++ samples_of net seed (first + m) n
+samples_append net seed first zero n =
+    let none : 0 + n ≡ n = omega arith in
+    let same : first ≡ first + 0 = omega arith in
+    ap (samples_of net seed first) none ∙ ap (λ f. samples_of net seed f n) same
+samples_append net seed first (suc m) n =
+    let more : suc m + n ≡ suc (m + n) = omega arith in
+    let same : suc first + m ≡ first + suc m = omega arith in
+    ap (samples_of net seed first) more
+    ∙ ap (λ (os : List Outcome). sampled net seed first ∷ os) (samples_append net seed (suc first) m n ∙ ap (λ f. samples_of net seed (suc first) m ++ samples_of net seed f n) same)
+
 -- one stream more
 pub samples_more : (net : Network) (seed first count : ℕ)
     → samples_of net seed first (count + 1) ≡ samples_of net seed first count ++ sampled net seed (first + count) ∷ []
-samples_more net seed first zero = (let e : first ≡ first + 0 = omega arith in ap (λ n. sampled net seed n ∷ []) e)
-samples_more net seed first (suc count) =
-    let e : suc first + count ≡ first + suc count = omega arith in
-    let more : suc count + 1 ≡ suc (count + 1) = omega arith in
-    ap (λ n. samples_of net seed first n) more ∙ ap (λ (os : List Outcome). sampled net seed first ∷ os)
-    (samples_more net seed (suc first) count ∙ ap (λ n. samples_of net seed (suc first) count ++ sampled net seed n ∷ []) e)
+samples_more net seed first count = samples_append net seed first count 1
 
 pub samples_number : (net : Network) (seed first count : ℕ) → length (samples_of net seed first count) ≡ count
 samples_number net seed first zero = refl

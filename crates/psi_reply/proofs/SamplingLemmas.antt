@@ -5,7 +5,7 @@ use Rattle.std.proofs.lemmas.List.Elements.{All-map}
 use Rattle.psi_state.specs.declared.Outcome.{Outcome}
 use Rattle.psi_past.specs.SeedWord.{seed_word}
 use Rattle.psi_event.specs.Law.{IsClosed}
-use Rattle.psi_rate.specs.Composition.{Parts, Functions, function_at, system_functions, AreClosed}
+use Rattle.psi_rate.specs.Composition.{SystemParts, Functions, function_at, system_functions, AreClosed}
 use Rattle.psi_rate.specs.Outcomes.{IsOutcome}
 use Rattle.psi_rate.proofs.OutcomesLemmas.{outcome_within-is}
 use Rattle.psi_rate.proofs.FunctionsLemmas.{function_at-closed}
@@ -68,7 +68,7 @@ functions-alike n seed stream fs kept does =
     )
 
 -- what holds of a system's parts, with the functions of its events by time, holds of the network's that it is
-pub of_network : {E : Type 0} (function : E → List ℕ → List ℕ) (system : Parts E) (n : Network) (seed stream : ℕ) (P : ℕ → Functions → List ℕ → ℕ → Type 0)
+pub of_network : {E : Type 0} (function : E → List ℕ → List ℕ) (system : SystemParts E) (n : Network) (seed stream : ℕ) (P : ℕ → Functions → List ℕ → ℕ → Type 0)
     → IsSystemOf function n system → P system.split (system_functions function system (seed_word seed stream)) system.caps system.limit
     → P n.split (function_at (map function system.events) (rates_of n) (seed_word seed stream)) (caps_of n) n.limit
 of_network function system n seed stream P is holds =
@@ -87,7 +87,7 @@ sampled-by n seed stream fs o kept does is =
     outcome_within-agree n.split (caps_of n) (function_at fs (rates_of n) (seed_word seed stream)) (functions_by_time n seed stream) n.limit o alike.0 alike.1 is
 
 -- the sample of a system that is made of the network is the network's
-pub sampled_by : {E : Type 0} (function : E → List ℕ → List ℕ) (system : Parts E) (n : Network) (seed stream : ℕ) (o : Outcome)
+pub sampled_by : {E : Type 0} (function : E → List ℕ → List ℕ) (system : SystemParts E) (n : Network) (seed stream : ℕ) (o : Outcome)
     → IsNetwork n → EachDoes (caps_of n) (map function system.events) n.events
     → system.rates ≡ rates_of n → system.caps ≡ caps_of n → system.limit ≡ n.limit → system.split ≡ n.split
     → IsOutcome (ending_at system.split (system_functions function system (seed_word seed stream)) system.caps) system.limit o

@@ -9,7 +9,7 @@ use Rattle.psi_state.proofs.BoxesLemmas.{In-of_all_states}
 use Rattle.psi_state.proofs.AscendingLemmas.{image-agree}
 use Rattle.psi_event.specs.Law.{IsMonotone}
 use Rattle.psi_past.specs.SeedWord.{seed_word}
-use Rattle.psi_rate.specs.Composition.{Parts, function_at, system_functions, compose, image_at, AreClosed, AreMonotone}
+use Rattle.psi_rate.specs.Composition.{SystemParts, function_at, system_functions, compose, image_at, AreClosed, AreMonotone}
 use Rattle.psi_rate.specs.Least.{least_answer}
 use Rattle.psi_rate.specs.Outcomes.{meeting_at}
 use Rattle.psi_rate.proofs.FunctionsLemmas.{function_at-monotone}
@@ -18,8 +18,9 @@ use Rattle.psi_horizon.specs.Runs.{ending_at}
 use Rattle.psi_horizon.specs.Agreeing.{Agree}
 use Rattle.psi_couple.specs.declared.answers.Coupled.{Coupled}
 use Rattle.psi_couple.specs.declared.answers.Coupled.TheVariants as coupled
-use Rattle.psi_couple.specs.Coupling.{coupled_within, IsCoupled}
+use Rattle.psi_couple.specs.Coupling.{IsCoupled}
 use Rattle.psi_couple.proofs.AgreeingLemmas.{coupled_within-agree}
+use Rattle.psi_couple.proofs.CouplingLemmas.{coupled_within-is}
 use Rattle.psi_exact.specs.declared.answers.Meeting.{Meeting}
 use Rattle.psi_exact.specs.declared.answers.Meeting.TheVariants.{Constant, NotConstant}
 use Rattle.psi_exact.specs.Sizes.{image_sizes}
@@ -39,7 +40,6 @@ use Rattle.psi_reply.specs.Exact.{meetings, meeting, sizes, state_count, meeting
 use Rattle.psi_program.specs.Reply.{text_reply, line_reply}
 use Rattle.psi_reply.specs.Reply.{Reply, survey_reply}
 use Rattle.psi_reply.proofs.SamplingLemmas.{functions_by_time-closed, functions-alike, of_network}
-use Rattle.psi_reply.proofs.CouplingLemmas.{coupled_of-is}
 
 -- ---- the survey of a system that is the network's
 
@@ -72,7 +72,7 @@ is_meeting-agree : (run other : ℕ → Option (List ℕ)) (h : ℕ) (m : Meetin
 is_meeting-agree run other h (Constant t s) agree is = is_least-agree run other (2 ^ h) t s agree is
 is_meeting-agree run other h (NotConstant l) agree is = (is.0, has_none_below-agree run other (suc (2 ^ h)) agree is.1)
 
-pub sizes_by : {E : Type 0} (function : E → List ℕ → List ℕ) (system : Parts E) (n : Network) (seed stream h : ℕ) (told : List ℕ) (words : ℕ → ℕ)
+pub sizes_by : {E : Type 0} (function : E → List ℕ → List ℕ) (system : SystemParts E) (n : Network) (seed stream h : ℕ) (told : List ℕ) (words : ℕ → ℕ)
     → IsNetwork n → IsSystemOf function n system → words ≡ seed_word seed stream
     → told ≡ image_sizes (system_functions function system words) system.caps h → told ≡ sizes n seed stream h
 unfolding sizes
@@ -83,7 +83,7 @@ sizes_by function system n seed stream h told words kept of drawn is =
     (is ∙ ap (λ (w : ℕ → ℕ). image_sizes (system_functions function system w) system.caps h) drawn)
     ∙ sizes-agree (caps_of n) (function_at fs (rates_of n) (seed_word seed stream)) (functions_by_time n seed stream) alike.0 alike.1 h
 
-pub meeting_by : {E : Type 0} (function : E → List ℕ → List ℕ) (system : Parts E) (n : Network) (seed stream h : ℕ) (m : Meeting)
+pub meeting_by : {E : Type 0} (function : E → List ℕ → List ℕ) (system : SystemParts E) (n : Network) (seed stream h : ℕ) (m : Meeting)
     → IsNetwork n → IsSystemOf function n system
     → IsMeeting (meeting_at (system_functions function system (seed_word seed stream)) system.caps) h m → m ≡ meeting n seed stream h
 unfolding meetings meeting
@@ -97,7 +97,7 @@ meeting_by function system n seed stream h m kept of is =
     (of_network function system n seed stream (λ k g cs l. IsMeeting (meeting_at g cs) h m) of is))
 
 -- the least coupling within another limit
-pub region_by : {E : Type 0} (function : E → List ℕ → List ℕ) (system : Parts E) (n : Network) (seed stream h : ℕ) (c : Coupled)
+pub region_by : {E : Type 0} (function : E → List ℕ → List ℕ) (system : SystemParts E) (n : Network) (seed stream h : ℕ) (c : Coupled)
     → IsNetwork n → IsSystemOf function n system
     → IsCoupled (ending_at system.split (system_functions function system (seed_word seed stream)) system.caps) h c → c ≡ region n seed stream h
 unfolding endings region
@@ -115,9 +115,8 @@ meeting-least n seed stream h =
     meeting_of-is (meetings n seed stream) h (least_answer (meetings n seed stream) (2 ^ h)) (least_answer-tells (meetings n seed stream) (2 ^ h))
 
 region-least : (n : Network) (seed stream h : ℕ) → IsCoupled (endings n seed stream) h (region n seed stream h)
-unfolding region coupled_within
-region-least n seed stream h =
-    coupled_of-is (endings n seed stream) h (least_answer (endings n seed stream) (2 ^ h)) (least_answer-tells (endings n seed stream) (2 ^ h))
+unfolding region
+region-least n seed stream h = coupled_within-is (endings n seed stream) h
 
 -- where a region run ends with one state, all states have met by then
 met-by : (n : Network) (seed stream h : ℕ) (c : Coupled) (m : Meeting) → IsNetwork n → IsCoupled (endings n seed stream) h c

@@ -9,7 +9,7 @@ use Rattle.psi_kinds.specs.Moves.{move_of}
 use Rattle.psi_rate.specs.Outcomes.{outcome_within}
 use Rattle.psi_closed_arcs.specs.Walks.{customers}
 use Rattle.psi_closed.specs.Closed.{closed_ending}
-use Rattle.psi_closed.specs.Planned.{Network as ClosedNet, IsClosedSample}
+use Rattle.psi_closed.specs.Planned.{ClosedNetwork as ClosedNet, IsClosedSample}
 use Rattle.psi_net_model.specs.Network.{Network, caps_of, rates_of}
 use Rattle.psi_net_model.specs.declared.entries.NamedEvent.{NamedEvent}
 use Rattle.psi_command.specs.declared.status.Status.{Status}

@@ -1,5 +1,5 @@
 -- How the work of a call ends, before anything is written.
-use Rattle.std.specs.Prelude.{◌≡◌}
+use Rattle.std.specs.Prelude.{◌≡◌, ℕ, List}
 use Rattle.psi_program.specs.Ending.{Ending as AnyEnding, replied, unread, no_memory, Faults, ending_reply as reply_with}
 use Rattle.psi_command.specs.declared.status.Status.{Status}
 use Rattle.psi_command.specs.declared.status.Status.TheVariants.{ReadFault, WriteFault, OutOfMemory}
@@ -18,6 +18,10 @@ faults = record { read_fault = ReadFault; write_fault = WriteFault; out_of_memor
 -- the status and the texts with which the call ends, once they are written
 abbrev pub ending_reply : Ending → Reply
 ending_reply ending = reply_with faults ending
+
+-- the reply with this line for err in place of its own
+abbrev pub with_line : Reply → List ℕ → Reply
+with_line reply line = record reply { err = line }
 
 -- the work ends with this reply, unless an allocation failed
 abbrev pub EndsWith : Ending → Reply → Type 0

@@ -1,17 +1,17 @@
 -- The texts of samples and of logs that are accepted, byte by byte, and what they are made of. Each line ends with one line feed.
-use Rattle.std.specs.Prelude.{ℕ, ◌^◌, ◌≤◌, List, ◌++◌, map, codes}
-use Rattle.std.specs.List.{join_with_byte}
+use Rattle.std.specs.Prelude.{ℕ, ◌^◌, ◌≤◌, List, ◌++◌, codes}
 use Rattle.std.specs.Fmt.{decimal}
 use Rattle.psi_state.specs.declared.Outcome.{Outcome}
 use Rattle.psi_state.specs.declared.Outcome.TheVariants.{Met, NotMet}
+use Rattle.psi_log_format.specs.Text.{numbers_text}
 
 -- a word and a number
 unfoldable pub number_line : List ℕ → ℕ → List ℕ
 number_line word n = word ++ decimal n ++ codes "\n"
 
 -- a state's numbers in the queues' order, joined by commas
-unfoldable pub state_text : List ℕ → List ℕ
-state_text state = join_with_byte 44 (map decimal state)
+abbrev pub state_text : List ℕ → List ℕ
+state_text state = numbers_text state
 
 -- the horizon and the state of a sample, or the greatest horizon within which it isn't met
 unfoldable pub outcome_text : Outcome → List ℕ

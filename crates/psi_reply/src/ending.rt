@@ -1,9 +1,15 @@
 //! How the work of a call ends, before anything is written.
 
-ghost use Rattle.std.specs.Prelude.{◌≡◌, ℕ, List, IfOk};
+ghost use Rattle.std.specs.Prelude.{◌≡◌, ℕ, List, [], IfOk};
 
+use crate::lines::{
+    Line, log_refused_line, log_rejected_line, log_unread_line, memory_line, network_unread_line,
+    no_total_line, not_closed_line, refused_line, too_long_line, too_many_line, unknown_line,
+    usage_line,
+};
 use psi_command::Status;
 use psi_net_document::NetRefusal;
+use psi_program::Text;
 use std::alloc::AllocError;
 
 /// How the work of a call ends, after its allocations and before anything is written.
@@ -54,7 +60,8 @@ pub enum Ending<'w> {
 
 impl<'w> Ending<'w> {
     ghost use Rattle.psi_program.specs.Reply.{text_reply};
-    ghost use Rattle.psi_reply.specs.Ending.{EndsWith, ending_reply};
+    ghost use Rattle.psi_program.specs.Written.{reply_with};
+    ghost use Rattle.psi_reply.specs.Ending.{EndsWith, ending_reply, with_line};
     ghost use Rattle.psi_reply.specs.Ended.{ending_of};
 
     // The ending with a text for out, or `OutOfMemory` if an allocation fails.
@@ -85,6 +92,38 @@ impl<'w> Ending<'w> {
             Ending::NetUnread(_) => Status::ReadFault,
             Ending::LogUnread(_) => Status::ReadFault,
             Ending::OutOfMemory => Status::OutOfMemory,
+        }
+    }
+
+    /// Returns the line for err; none where a text is printed.
+    pub fn line(&self) -> Line
+        ensures { result.items ≡ (ending_reply (ending_of self.now)).err }
+    {
+        match self {
+            Ending::Printed { .. } => Line::new(),
+            Ending::Usage(place) => usage_line(*place),
+            Ending::NetRefused(refusal) => refused_line(refusal),
+            Ending::LogRefused { line, cause } => log_refused_line(*line, *cause),
+            Ending::LogRejected { line, cause } => log_rejected_line(*line, *cause),
+            Ending::LogTooLong => too_long_line(),
+            Ending::UnknownReward => unknown_line(),
+            Ending::TooManyStates => too_many_line(),
+            Ending::NotClosed(event) => not_closed_line(*event),
+            Ending::NoSuchTotal => no_total_line(),
+            Ending::NetUnread(_) => network_unread_line(),
+            Ending::LogUnread(_) => log_unread_line(),
+            Ending::OutOfMemory => memory_line(),
+        }
+    }
+
+    /// Returns the text for out, or else this line for err; none where a text is printed.
+    pub fn text<'t>(&'t self, line: &'t [u8]) -> Text<'t>
+        requires { (ending_reply (ending_of self.now)).err ≡ [] → line.now ≡ [] }
+        ensures { reply_with (ending_reply (ending_of self.now)).status result ≡ with_line (ending_reply (ending_of self.now)) line.now }
+    {
+        match self {
+            Ending::Printed { text, .. } => Text::Printed(text.as_slice()),
+            _ => Text::Reported(line),
         }
     }
 }

@@ -36,7 +36,7 @@ fn push_customers(text: &mut Vec<u8>, customers: u16) -> Result<(), AllocError>
 }
 
 // Appends a number of one digit or two, for which there is room.
-#[tactic(auto, using(crate::proofs::ListingLemmas::decimal_one))]
+#[tactic(auto, using(std::proofs::lemmas::Fmt::decimal_digit))]
 fn push_small(text: &mut Vec<u8>, customers: u16)
     requires small { customers < 100 }
     requires room { vec_len text.old + 2 ≤ vec_capacity text.old }
@@ -65,7 +65,7 @@ fn push_further(text: &mut Vec<u8>, customers: u16) -> Result<(), AllocError>
 }
 
 /// Appends a state's numbers in the queues' order, joined by commas.
-#[tactic(auto, using(crate::proofs::ListingLemmas::state_text_first))]
+#[tactic(auto, using(psi_log_format::proofs::JoinedLemmas::numbers_text_first))]
 pub fn push_state(text: &mut Vec<u8>, state: &State) -> Result<(), AllocError>
     ensures { OnOk result (text.new.items ≡ text.old.items ++ state_text state.now) }
 {

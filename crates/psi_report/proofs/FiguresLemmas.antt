@@ -31,12 +31,12 @@ summaries_figures-quantities trio states (quantity ∷ quantities) =
     rw (summary_figures-values trio states quantity, summaries_figures-quantities trio states quantities) refl
 
 -- the names of the quantities are those of the queues and of the rewards
-names-queues : (i : ℕ) (queues : List Queue) → map (λ (q : Quantity). q.name) (queues_from i queues) ≡ map (λ (q : Queue). q.name) queues
+pub names-queues : (i : ℕ) (queues : List Queue) → map (λ (q : Quantity). q.name) (queues_from i queues) ≡ map (λ (q : Queue). q.name) queues
 unfolding queues_from
 names-queues i [] = refl
 names-queues i (queue ∷ queues) = ap (λ (names : List (List ℕ)). queue.name ∷ names) (names-queues (i + 1) queues)
 
-names-rewards : (rewards : List NamedReward)
+pub names-rewards : (rewards : List NamedReward)
     → map (λ (q : Quantity). q.name) (map (λ (r : NamedReward). record { name = r.name; value = worth_of r.kind }) rewards) ≡ map (λ (r : NamedReward). r.name) rewards
 names-rewards [] = refl
 names-rewards (reward ∷ rewards) = ap (λ (names : List (List ℕ)). reward.name ∷ names) (names-rewards rewards)

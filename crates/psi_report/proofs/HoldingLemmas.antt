@@ -9,7 +9,7 @@ use Rattle.csv.specs.declared.writer.Writer.{Writer}
 use Rattle.csv.specs.declared.writer.WriterBuilder.{WriterBuilder}
 use Rattle.csv.specs.declared.writer.QuoteStyle.TheVariants as style
 use Rattle.psi_report.specs.Text.{rows_text}
-use Rattle.psi_report.specs.RecordsKept.{Holds}
+use Rattle.psi_report.specs.Inner.RecordsKept.{Holds}
 
 rows_text-push : (rows : List (List (List ℕ))) (fields : List (List ℕ)) → rows_text rows ++ row_text default_writer fields ≡ rows_text (rows ++ fields ∷ [])
 unfolding rows_text

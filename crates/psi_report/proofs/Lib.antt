@@ -5,9 +5,9 @@ mod SmallLemmas
 mod CountLemmas
 pub mod TotalsLemmas
 mod RewardLemmas
-mod StandsLemmas
+pub mod StandsLemmas
 mod HoldingLemmas
 pub mod HorizonLemmas
-mod FiguresLemmas
+pub mod FiguresLemmas
 mod RowLemmas
 mod TakingLemmas

@@ -8,4 +8,4 @@ pub mod Report
 pub mod Totals
 pub mod Joined
 pub mod Figures
-pub mod RecordsKept
+pub mod Inner

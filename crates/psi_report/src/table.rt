@@ -1,7 +1,7 @@
 //! A table of comma-separated values in memory, written row by row.
 
 ghost use Rattle.std.specs.Prelude.{◌≡◌, ℕ, List, [], ◌∷◌, ◌++◌, map, OnOk, IfOk};
-ghost use Rattle.psi_report.specs.RecordsKept.{Holds};
+ghost use Rattle.psi_report.specs.Inner.RecordsKept.{Holds};
 ghost use Rattle.psi_report.specs.Text.{row, rows_text, samples_row, number_rows, item_text, figure_row, count_row};
 
 use crate::figure::{Figure, HorizonCount, Item};

@@ -15,7 +15,7 @@ use Rattle.psi_net_document.specs.Refusal.{holds_or, at_key, at_place, top, queu
 use Rattle.psi_net_document.specs.Values.{no_unknown, required, optional, number_in, text_in, array_in, elements_in, table_in}
 use Rattle.psi_net_document.specs.Names.{name_or, name_in, unless_taken}
 use Rattle.psi_net_document.specs.References.{some_targets_in}
-use Rattle.psi_net_document.specs.declared.refusals.Cause.TheVariants.{MissingKey, NotToml, OutOfRange, TooMany}
+use Rattle.psi_net_document.specs.declared.refusals.NetCause.TheVariants.{MissingKey, NotToml, OutOfRange, TooMany}
 use Rattle.psi_net_document.specs.declared.refusals.Place.{Place}
 use Rattle.psi_net_document.specs.declared.refusals.NetRefusal.{NetRefusal}
 use Rattle.psi_net_document.proofs.ReadingLemmas.{bind_ok, ok_same, held, required_ok, optional_kept, each_kept}

@@ -7,9 +7,7 @@ use Rattle.psi_state.specs.declared.Outcome.{Outcome}
 use Rattle.psi_net_model.specs.Network.{Network}
 use Rattle.psi_net_model.specs.Valid.{IsNetwork}
 use Rattle.psi_net_document.specs.declared.refusals.NetRefusal.{NetRefusal}
-use Rattle.psi_net_document.proofs.ReadingLemmas.{bind_ok}
-use Rattle.psi_net.specs.Reading.{file_text, text_network, network_of}
-use Rattle.psi_net.proofs.NetworkLemmas.{network_kept}
+use Rattle.psi_net.specs.Reading.{network_of}
 use Rattle.psi_report.specs.Samples.{IsSampleOf}
 use Rattle.psi_report.specs.Report.{report_text, contents_of}
 use Rattle.psi_command.specs.declared.status.Status.TheVariants.{Done, NetRefused}
@@ -20,16 +18,12 @@ use Rattle.psi_reply.specs.Reply.{Reply, refused_reply}
 use Rattle.psi_reply.specs.Report.{samples_of, AreDrawn}
 use Rattle.psi_reply.proofs.ReportingLemmas.{drawn-sample, samples_number, samples-drawn}
 use Rattle.psi_run.specs.Reply.{reply_to, reply_of, judged_reply}
+use Rattle.psi_run.proofs.EndingsLemmas.{accepted_kept}
 use Rattle.psi_report_laws.specs.Described.{AreCounted}
 use Rattle.psi_report_laws.specs.Printed.{IsReadAs, PrintedReportsAreRead, IsPrinted, PrintedReportsAreMerged}
 use Rattle.psi_report_laws.proofs.DescribedLemmas.{reports-read, reports-merged}
 
 -- ---- samples
-
--- the network of a file keeps what every network does
-net-kept : (bytes : List ℕ) (net : Network) → network_of bytes ≡ Ok net → IsNetwork net
-unfolding network_of
-net-kept bytes net h = (let text = bind_ok (file_text bytes) text_network net h in network_kept text.0 net text.2)
 
 -- samples that are drawn are such that totals may count
 all-drawn : (net : Network) (seed first : ℕ) (outcomes : List Outcome) → net.limit ≤ 22 → AreDrawn net seed first outcomes → All (IsSampleOf net) outcomes
@@ -67,7 +61,7 @@ grown before after text h = cc
 pub printed-read : PrintedReportsAreRead
 printed-read told name bytes net seed first count before after result means is-told is few =
     let printed = means bytes net is-told is in
-    let kept = net-kept bytes net is in
+    let kept = accepted_kept bytes net is in
     let less : length printed.outcomes < 2 ^ 64 = subst (λ n. n < 2 ^ 64) (sym printed.number) few in
     let back = reports-read bytes net printed.outcomes is (record { each = all-drawn net seed first printed.outcomes kept.limit printed.drawn; few = less }) in
     record {
@@ -127,7 +121,7 @@ read-as bytes net outcomes text is are same =
 pub printed-merged : PrintedReportsAreMerged
 printed-merged told name seed first m n front back whole few one other all =
     let has = network-printed told name seed first m front one in
-    let kept = net-kept has.bytes has.net has.is in
+    let kept = accepted_kept has.bytes has.net has.is in
     let ones = samples_of has.net seed first m in
     let others = samples_of has.net seed (first + m) n in
     let every = samples_of has.net seed first (m + n) in

@@ -1,12 +1,13 @@
 -- Counts of horizons, with one more and with many.
-use Rattle.std.specs.Prelude.{◌≡◌, ℕ, zero, suc, ◌+◌, ◌-◌, ◌<◌, ◌≤◌, List, [], ◌∷◌, ◌++◌, length, take, false, refl}
+use Rattle.std.specs.Prelude.{◌≡◌, ℕ, zero, suc, ◌+◌, ◌-◌, ◌<◌, ◌≤◌, List, [], ◌∷◌, ◌++◌, length, take, true, false, refl}
 use Rattle.std.specs.List.{insert}
 use Rattle.std.proofs.Common.{get_or, set, ap, sym, ◌∙◌, inl, inr, arith}
-use Rattle.std.proofs.lemmas.Bool.{cases_order, cases_Bool, eq-eqb, ne_eqb, lt-ltb, le-ltb, le-leb, lt-leb, ltb-false}
+use Rattle.std.proofs.lemmas.Bool.{and_parts, cases_lt, cases_Bool, eq-eqb, ne_eqb, lt-ltb, le-ltb, le-leb, lt-leb, ltb-true, false_from_ne_true}
 use Rattle.std.proofs.lemmas.List.{take_more}
 use Rattle.psi_report.specs.declared.figure.HorizonCount.{HorizonCount}
 use Rattle.psi_report_reader.specs.Counts.{with_count, place_of, joined_counts}
 use Rattle.psi_report_reader.specs.Merging.{is_count, counts_fit}
+use Rattle.psi_report_reader.proofs.OrderLemmas.{by_order}
 
 -- ---- the place of a horizon
 
@@ -15,6 +16,12 @@ place-here t c cs low = rw (le-leb t c.horizon low) refl
 
 place-later : (t : ℕ) (c : HorizonCount) (cs : List HorizonCount) → c.horizon < t → place_of t (c ∷ cs) ≡ suc (place_of t cs)
 place-later t c cs high = rw (lt-leb t c.horizon high) refl
+
+place-above : (t p : ℕ) (c : HorizonCount) (cs : List HorizonCount) → place_of t (c ∷ cs) ≡ suc p → (c.horizon < t) × (place_of t cs ≡ p)
+place-above t p c cs at = elim (cases_lt c.horizon t) [
+  | inl high ↦ (high, (let later = place-later t c cs high in omega arith))
+  | inr low ↦ (let here = place-here t c cs low in absurd (omega arith))
+]
 
 -- ---- one more count
 
@@ -35,34 +42,21 @@ with_count-set k e [] p at small is same = absurd (omega arith)
 with_count-set k e (c ∷ cs) zero at small is same =
     let here : k.horizon ≡ c.horizon = sym same ∙ ap (λ (x : HorizonCount). x.horizon) is in
     with_count-same k c cs here ∙ ap (λ (x : HorizonCount). record { horizon = x.horizon; count = k.count + x.count } ∷ cs) (sym is)
-with_count-set k e (c ∷ cs) (suc p) at small is same = elim (cases_order k.horizon c.horizon) [
-  | inl equal ↦ absurd (let here = place-here k.horizon c cs (omega arith) in omega arith)
-  | inr apart ↦ elim apart [
-    | inl less ↦ absurd (let here = place-here k.horizon c cs (omega arith) in omega arith)
-    | inr more ↦ (let later = place-later k.horizon c cs more in
-        with_count-higher k c cs more ∙ ap (λ xs. c ∷ xs) (with_count-set k e cs p (omega arith) (omega arith) is same))
-  ]
-]
+with_count-set k e (c ∷ cs) (suc p) at small is same =
+    let above = place-above k.horizon p c cs at in
+    with_count-higher k c cs above.0 ∙ ap (λ xs. c ∷ xs) (with_count-set k e cs p above.1 (omega arith) is same)
 
 -- where it isn't, it goes to its place
 pub with_count-insert : (k : HorizonCount) (cs : List HorizonCount) (p : ℕ) → place_of k.horizon cs ≡ p → ((d : HorizonCount) → p < length cs → (get_or cs p d).horizon ≡ k.horizon → ⊥)
     → with_count k cs ≡ insert cs p k
 with_count-insert k [] p at other = (let none : p ≡ 0 = sym at in rw none refl)
-with_count-insert k (c ∷ cs) zero at other = elim (cases_order k.horizon c.horizon) [
-  | inl equal ↦ absurd (other c (omega arith) (sym equal))
-  | inr apart ↦ elim apart [
-    | inl less ↦ with_count-lower k c cs less
-    | inr more ↦ absurd (let later = place-later k.horizon c cs more in omega arith)
-  ]
-]
-with_count-insert k (c ∷ cs) (suc p) at other = elim (cases_order k.horizon c.horizon) [
-  | inl equal ↦ absurd (let here = place-here k.horizon c cs (omega arith) in omega arith)
-  | inr apart ↦ elim apart [
-    | inl less ↦ absurd (let here = place-here k.horizon c cs (omega arith) in omega arith)
-    | inr more ↦ (let later = place-later k.horizon c cs more in
-        with_count-higher k c cs more ∙ ap (λ xs. c ∷ xs) (with_count-insert k cs p (omega arith) (λ d small same. other d (omega arith) same)))
-  ]
-]
+with_count-insert k (c ∷ cs) zero at other = by_order k.horizon c.horizon
+    (λ equal. absurd (other c (omega arith) (sym equal)))
+    (λ less. with_count-lower k c cs less)
+    (λ more. absurd (let later = place-later k.horizon c cs more in omega arith))
+with_count-insert k (c ∷ cs) (suc p) at other =
+    let above = place-above k.horizon p c cs at in
+    with_count-higher k c cs above.0 ∙ ap (λ xs. c ∷ xs) (with_count-insert k cs p above.1 (λ d small same. other d (omega arith) same))
 
 -- a sum that has more than 64 bits
 pub counts_fit-not : (cs : List HorizonCount) (p : ℕ) (e : HorizonCount) → p < length cs → is_count e.count ≡ false → counts_fit (set cs p e) ≡ false
@@ -75,32 +69,25 @@ counts_fit-not (c ∷ cs) (suc p) e small large = elim (cases_Bool (is_count c.c
 
 -- ---- many counts
 
--- what doesn't fit doesn't fit with one more
-counts_fit-kept : (k : HorizonCount) (cs : List HorizonCount) → counts_fit cs ≡ false → counts_fit (with_count k cs) ≡ false
-counts_fit-kept k [] large = absurd cc
-counts_fit-kept k (c ∷ cs) large = elim (cases_order k.horizon c.horizon) [
-  | inl equal ↦ rw (with_count-same k c cs equal) (elim (cases_Bool (is_count c.count)) [
-    | inl is ↦ (let rest : counts_fit cs ≡ false = rw is at large in elim (cases_Bool (is_count (k.count + c.count))) [
-      | inl both ↦ rw both rest
-      | inr both ↦ rw both refl
-    ])
-    | inr is ↦ (let least = ltb-false c.count 18446744073709551616 is in rw (le-ltb (k.count + c.count) 18446744073709551616 (omega arith)) refl)
-  ])
-  | inr apart ↦ elim apart [
-    | inl less ↦ rw (with_count-lower k c cs less) (elim (cases_Bool (is_count k.count)) [
-      | inl is ↦ rw is large
-      | inr is ↦ rw is refl
-    ])
-    | inr more ↦ rw (with_count-higher k c cs more) (elim (cases_Bool (is_count c.count)) [
-      | inl is ↦ (let rest : counts_fit cs ≡ false = rw is at large in rw (is, counts_fit-kept k cs rest) refl)
-      | inr is ↦ rw is refl
-    ])
-  ]
-]
+-- what fits with one more fits
+counts_fit-kept : (k : HorizonCount) (cs : List HorizonCount) → counts_fit (with_count k cs) ≡ true → counts_fit cs ≡ true
+counts_fit-kept k [] fit = refl
+counts_fit-kept k (c ∷ cs) fit = by_order k.horizon c.horizon
+    (λ equal. (
+    let parts = and_parts (is_count (k.count + c.count)) (counts_fit cs) (rw (with_count-same k c cs equal) at fit) in
+    let least = ltb-true (k.count + c.count) 18446744073709551616 parts.0 in
+    rw (lt-ltb c.count 18446744073709551616 (omega arith), parts.1) refl))
+    (λ less. (and_parts (is_count k.count) (counts_fit (c ∷ cs)) (rw (with_count-lower k c cs less) at fit)).1)
+    (λ more. (
+    let parts = and_parts (is_count c.count) (counts_fit (with_count k cs)) (rw (with_count-higher k c cs more) at fit) in
+    rw (parts.0, counts_fit-kept k cs parts.1) refl))
+
+fit-joined : (cs ks : List HorizonCount) → counts_fit (joined_counts cs ks) ≡ true → counts_fit ks ≡ true
+fit-joined [] ks fit = fit
+fit-joined (c ∷ cs) ks fit = fit-joined cs ks (counts_fit-kept c (joined_counts cs ks) fit)
 
 pub counts_fit-joined : (cs ks : List HorizonCount) → counts_fit ks ≡ false → counts_fit (joined_counts cs ks) ≡ false
-counts_fit-joined [] ks large = large
-counts_fit-joined (c ∷ cs) ks large = counts_fit-kept c (joined_counts cs ks) (counts_fit-joined cs ks large)
+counts_fit-joined cs ks large = false_from_ne_true (counts_fit (joined_counts cs ks)) (λ fit. (let fits = fit-joined cs ks fit in absurd cc))
 
 -- the last of the counts comes first
 joined_counts-last : (cs : List HorizonCount) (c : HorizonCount) (ks : List HorizonCount) → joined_counts (cs ++ c ∷ []) ks ≡ joined_counts cs (with_count c ks)

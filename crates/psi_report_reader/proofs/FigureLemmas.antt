@@ -1,13 +1,14 @@
 -- Figures, one after another as a loop takes them.
 use Rattle.std.specs.Prelude.{◌≡◌, ℕ, zero, suc, ◌+◌, ◌<◌, ◌≤◌, ◌⊎◌, List, [], ◌∷◌, length, take, drop, min, pos, true, false, Some, refl}
 use Rattle.std.proofs.Common.{get_or, ap, sym, ◌∙◌, inl, inr, arith}
-use Rattle.std.proofs.lemmas.Bool.{cases_order}
+use Rattle.std.proofs.lemmas.Bool.{cases_lt}
 use Rattle.std.proofs.lemmas.List.{drop_more, drop_all, get_or_default}
 use Rattle.psi_report.specs.Joined.{paired}
 use Rattle.psi_report.proofs.PairLemmas.{paired_all, length_paired, get_or-paired}
 use Rattle.psi_report.specs.declared.figure.Item.TheVariants.{Sum}
 use Rattle.psi_report.specs.declared.figure.Figure.{Figure}
 use Rattle.psi_report_reader.specs.Merging.{difference, joined_value, joined_figure, is_value, large_figure}
+use Rattle.psi_report_reader.proofs.OrderLemmas.{by_order}
 
 -- the first place of two lists at which sums differ
 pub difference-shorter : (fs gs : List Figure) (i : ℕ) (d : Figure) → length fs ≤ i → i < length gs → difference i (drop i fs) (drop i gs) ≡ Some i
@@ -64,17 +65,11 @@ none = record { item = Sum; name = []; value = pos 0 }
 
 pub difference-at-end : (fs gs : List Figure) (i both : ℕ) → i ≡ both → (length fs ≡ length gs → ⊥) → both ≡ min (length fs) (length gs)
     → Some both ≡ difference i (drop i fs) (drop i gs)
-difference-at-end fs gs i both at other least = elim (cases_order (length fs) (length gs)) [
-  | inl same ↦ absurd (other same)
-  | inr apart ↦ elim apart [
-    | inl less ↦ ap Some (sym at) ∙ sym (difference-shorter fs gs i none (omega arith) (omega arith))
-    | inr more ↦ ap Some (sym at) ∙ sym (difference-longer fs gs i none (omega arith) (omega arith))
-  ]
-]
+difference-at-end fs gs i both at other least = by_order (length fs) (length gs)
+    (λ same. absurd (other same))
+    (λ less. ap Some (sym at) ∙ sym (difference-shorter fs gs i none (omega arith) (omega arith)))
+    (λ more. ap Some (sym at) ∙ sym (difference-longer fs gs i none (omega arith) (omega arith)))
 
 -- after both lists' common length one of them has ended
 pub one-ends : (m n i : ℕ) → min m n ≤ i → (m ≤ i) ⊎ (n ≤ i)
-one-ends m n i past = elim (cases_order m n) [
-  | inl same ↦ inl (omega arith)
-  | inr apart ↦ elim apart [ inl less ↦ inl (omega arith) | inr more ↦ inr (omega arith) ]
-]
+one-ends m n i past = elim (cases_lt i m) [ inl less ↦ inr (omega arith) | inr most ↦ inl most ]

@@ -1,8 +1,9 @@
 -- What is merged is a report, and what can be told of two reports together is merged.
-use Rattle.std.specs.Prelude.{◌≡◌, ℕ, ◌+◌, ◌^◌, ◌<◌, List, [], ◌∷◌, All, Bool, true, false, ◌&&◌, ◌==◌, nat_lt, unsigned_abs, Option, Some, None, Ok, if◌then◌else◌, refl}
+use Rattle.std.specs.Prelude.{◌≡◌, ℕ, ◌+◌, ◌^◌, ◌<◌, List, [], ◌∷◌, slice_index_or, All, Bool, true, false, ◌&&◌, ◌==◌, nat_lt, unsigned_abs, Option, Some, None, Ok, if◌then◌else◌, refl}
 use Rattle.std.proofs.Common.{◌∙◌, subst}
 use Rattle.std.proofs.lemmas.Bool.{and_parts, ltb-true}
 use Rattle.std.proofs.lemmas.List.Elements.{All-nil, All-cons, All-head, All-tail, All-weaker}
+use Rattle.std.proofs.lemmas.List.Sums.{AllPass-from_list_all}
 use Rattle.psi_net_model.specs.Name.{is_name}
 use Rattle.psi_report.specs.Joined.{paired}
 use Rattle.psi_report.specs.declared.figure.HorizonCount.{HorizonCount}
@@ -14,9 +15,9 @@ use Rattle.psi_report_reader.specs.Sound.{figures_line}
 use Rattle.psi_report_reader.specs.Merging.{sums_of, difference, is_count, is_value, counts_fit, large_figure, too_large, joined_figure, joined_figures, joined, fitting_unless, merged_unless, merged}
 use Rattle.psi_report_reader.specs.Lines.{MergedIsReport, FittingAreMerged}
 use Rattle.psi_report_reader.proofs.FieldLemmas.{FitsCount, FitsFigure}
-use Rattle.psi_report_reader.proofs.HorizonReachLemmas.{passed}
 use Rattle.psi_report_reader.proofs.MergeLemmas.{accepted, merged-fitting, report-fits}
-use Rattle.psi_report_reader.proofs.NetworkLemmas.{sums-are, shown-none}
+use Rattle.psi_report_reader.proofs.NetworkLemmas.{shown-same}
+use Rattle.psi_report_reader.proofs.RightLemmas.{passed, no-line}
 
 -- ---- the horizons of both
 
@@ -38,10 +39,8 @@ joined-steps [] ks all others = others
 joined-steps (c ∷ cs) ks all others = with-step c (joined_counts cs ks) (All-head IsStep c cs all) (joined-steps cs ks (All-tail IsStep c cs all) others)
 
 counts-told : (cs : List HorizonCount) → All IsStep cs → counts_fit cs ≡ true → All FitsCount cs
-counts-told [] all fit = All-nil FitsCount
-counts-told (c ∷ cs) all fit =
-    let parts = and_parts (is_count c.count) (counts_fit cs) fit in
-    All-cons FitsCount c cs (All-head IsStep c cs all, ltb-true c.count (2 ^ 64) parts.0) (counts-told cs (All-tail IsStep c cs all) parts.1)
+counts-told cs all fit k d less =
+    (all k d less, ltb-true (slice_index_or cs k d).count (2 ^ 64) (AllPass-from_list_all (λ (c : HorizonCount). is_count c.count) cs fit k d less))
 
 -- ---- the figures of both
 
@@ -68,10 +67,6 @@ figures-told k (f ∷ fs) all none =
     All-cons FitsFigure f fs (All-head IsNamed f fs all, ltb-true (unsigned_abs f.value) (10 ^ 37) small.0) (figures-told (k + 1) fs (All-tail IsNamed f fs all) small.1)
 
 -- ---- both reports
-
-no-line : (c : Contents) (k : Option ℕ) → figures_line c k ≡ None → k ≡ None
-no-line c None is = refl
-no-line c (Some k) is = absurd cc
 
 -- nothing of it is too large
 record IsSmall (c : Contents) : Type 0 where
@@ -105,9 +100,9 @@ joined-report a b one other none =
       figures = figures-told 0 (joined_figures a.met b.met a.figures b.figures) (joined-named a.met b.met a.figures b.figures (names-of a one) (names-of b other)) fits.figures;
     }
 
-pub merged-report : MergedIsReport
+pub merged_report : MergedIsReport
 unfolding merged
-merged-report a b c one other is = go (difference 0 (sums_of a.figures) (sums_of b.figures)) is
+merged_report a b c one other is = go (difference 0 (sums_of a.figures) (sums_of b.figures)) is
   where
     fit : (o : Option ℕ) → too_large b (joined a b) ≡ o → fitting_unless o (joined a b) ≡ Ok c → IsReport c
     fit None none same = (let whole : joined a b ≡ c = cc in subst IsReport whole (joined-report a b one other none))
@@ -117,6 +112,6 @@ merged-report a b c one other is = go (difference 0 (sums_of a.figures) (sums_of
     go None same = fit (too_large b (joined a b)) refl same
     go (Some k) same = absurd cc
 
-pub fitting-merged : FittingAreMerged
-fitting-merged a b same is =
-    merged-fitting a b (shown-none 0 (sums_of a.figures) (sums_of b.figures) (sums-are a.figures) same) ∙ accepted b (joined a b) (report-fits b (joined a b) is)
+pub fitting_merged : FittingAreMerged
+fitting_merged a b same is =
+    merged-fitting a b (shown-same a b same) ∙ accepted b (joined a b) (report-fits b (joined a b) is)

@@ -1,4 +1,5 @@
 -- The lemmas of this crate.
+mod OrderLemmas
 mod NumberLemmas
 mod DigitLemmas
 mod NameLemmas
@@ -14,6 +15,10 @@ mod HorizonCountsLemmas
 mod FiguresJoinedLemmas
 pub mod MergeLawLemmas
 mod JudgeLemmas
+mod RightLemmas
+mod GroupLemmas
+mod SumNamesLemmas
+mod WalkLemmas
 mod AllowLemmas
 mod WorthLemmas
 mod PowerLemmas

@@ -1,5 +1,5 @@
 -- The reports of two lists of samples of one network are merged into that of both.
-use Rattle.std.specs.Prelude.{◌≡◌, ℕ, ◌+◌, List, ◌++◌, length}
+use Rattle.std.specs.Prelude.{◌≡◌, ℕ, ◌+◌, List, ◌++◌, length, Ok}
 use Rattle.std.proofs.Common.{ap, sym, ◌∙◌}
 use Rattle.std.proofs.lemmas.List.{length-append}
 use Rattle.psi_state.specs.declared.Outcome.{Outcome}
@@ -8,7 +8,8 @@ use Rattle.psi_report.specs.Samples.{met_states, met_horizons}
 use Rattle.psi_report.proofs.TotalsLemmas.{met_states-append, met_horizons-append}
 use Rattle.psi_report.specs.Contents.{Contents}
 use Rattle.psi_report.specs.Report.{contents_of}
-use Rattle.psi_report_reader.specs.Merging.{joined, fitting, ReportsAreMerged}
+use Rattle.psi_report_reader.specs.Merging.{joined, fitting, merged, ReportsAreMerged}
+use Rattle.psi_report_reader.specs.Reading.{IsReport}
 use Rattle.psi_report_reader.proofs.SmallLemmas.{contents-fit}
 use Rattle.psi_report_reader.proofs.MergeLemmas.{accepted, report-fits, merged-fitting}
 use Rattle.psi_report_reader.proofs.HorizonCountsLemmas.{horizons_of, horizons-joined}
@@ -26,7 +27,7 @@ told-joined net m n xs ys gs hs =
     let figures = figures-joined net xs ys in
     cc
 
-pub contents-joined : (net : Network) (outcomes others : List Outcome) → joined (contents_of net outcomes) (contents_of net others) ≡ contents_of net (outcomes ++ others)
+contents-joined : (net : Network) (outcomes others : List Outcome) → joined (contents_of net outcomes) (contents_of net others) ≡ contents_of net (outcomes ++ others)
 unfolding contents_of
 contents-joined net outcomes others =
     told-joined net (length outcomes) (length others) (met_states outcomes) (met_states others) (met_horizons outcomes) (met_horizons others)
@@ -34,9 +35,14 @@ contents-joined net outcomes others =
     ∙ ap (λ xs. told net (length (outcomes ++ others)) xs (met_horizons outcomes ++ met_horizons others)) (sym (met_states-append outcomes others))
     ∙ ap (λ hs. told net (length (outcomes ++ others)) (met_states (outcomes ++ others)) hs) (sym (met_horizons-append outcomes others))
 
-pub reports-merged : ReportsAreMerged
+-- what can be told of both is merged
+pub merged-fit : (net : Network) (outcomes others : List Outcome) → IsReport (contents_of net (outcomes ++ others))
+    → merged (contents_of net outcomes) (contents_of net others) ≡ Ok (contents_of net (outcomes ++ others))
 unfolding contents_of
-reports-merged net outcomes others are =
+merged-fit net outcomes others fit =
     merged-fitting (contents_of net outcomes) (contents_of net others) (difference-none net (met_states outcomes) (met_states others))
     ∙ ap (fitting (contents_of net others)) (contents-joined net outcomes others)
-    ∙ accepted (contents_of net others) (contents_of net (outcomes ++ others)) (report-fits (contents_of net others) (contents_of net (outcomes ++ others)) (contents-fit net (outcomes ++ others) are))
+    ∙ accepted (contents_of net others) (contents_of net (outcomes ++ others)) (report-fits (contents_of net others) (contents_of net (outcomes ++ others)) fit)
+
+pub reports-merged : ReportsAreMerged
+reports-merged net outcomes others are = merged-fit net outcomes others (contents-fit net (outcomes ++ others) are)

@@ -1,10 +1,10 @@
 -- Reports that are merged, part by part.
-use Rattle.std.specs.Prelude.{◌≡◌, ℕ, ◌+◌, ◌^◌, ◌<◌, ◌≤◌, List, [], ◌∷◌, length, All, ◌&&◌, Bool, true, false, Some, None, Result, Ok, Err, refl}
+use Rattle.std.specs.Prelude.{◌≡◌, ℕ, ◌+◌, ◌^◌, ◌<◌, ◌≤◌, List, [], ◌∷◌, length, slice_index_or, All, ◌&&◌, Bool, true, false, Some, None, Result, Ok, Err, refl}
 use Rattle.std.proofs.Common.{ap, arith}
 use Rattle.std.proofs.lemmas.Bool.{lt-ltb, le-ltb}
 use Rattle.std.proofs.lemmas.List.Elements.{All-head, All-tail}
+use Rattle.std.proofs.lemmas.List.Sums.{list_all-from_AllPass}
 use Rattle.std.specs.Int.RustNames.{unsigned_abs}
-use Rattle.psi_net_model.specs.Name.{is_name}
 use Rattle.psi_report_reader.specs.Reading.{IsReport}
 use Rattle.psi_report.specs.declared.figure.HorizonCount.{HorizonCount}
 use Rattle.psi_report.specs.declared.figure.Figure.{Figure}
@@ -14,6 +14,7 @@ use Rattle.psi_report.specs.Contents.{Contents}
 use Rattle.psi_report_reader.specs.Counts.{joined_counts}
 use Rattle.psi_report_reader.specs.Sound.{line_at}
 use Rattle.psi_report_reader.specs.Merging.{sums_of, difference, line_of_sum, is_count, counts_fit, large_figure, too_large, joined_figures, joined, fitting, merged, Merges}
+use Rattle.psi_report_reader.proofs.FieldLemmas.{FitsCount, FitsFigure}
 
 and-left : (p q : Bool) → p ≡ false → (p && q) ≡ false
 and-left p q is = rw is refl
@@ -77,17 +78,13 @@ unfolding merged
 merged-fitting a b is = rw is refl
 
 -- the numbers of a report fit
-counts-fit : (cs : List HorizonCount) → All (λ (h : HorizonCount). (h.horizon < 18446744073709551616) × (h.count < 18446744073709551616)) cs → counts_fit cs ≡ true
-counts-fit [] all = refl
-counts-fit (c ∷ cs) all =
-    let Fits : HorizonCount → Type 0 = λ h. (h.horizon < 18446744073709551616) × (h.count < 18446744073709551616) in
-    rw (lt-ltb c.count 18446744073709551616 (All-head Fits c cs all).1, counts-fit cs (All-tail Fits c cs all)) refl
+counts-fit : (cs : List HorizonCount) → All FitsCount cs → counts_fit cs ≡ true
+counts-fit cs all = list_all-from_AllPass (λ (c : HorizonCount). is_count c.count) cs (λ k d less. lt-ltb (slice_index_or cs k d).count (2 ^ 64) (all k d less).1)
 
-figures-fit : (k : ℕ) (fs : List Figure) → All (λ (f : Figure). (is_name f.name ≡ true) × (unsigned_abs f.value < 10 ^ 37)) fs → large_figure k fs ≡ None
+figures-fit : (k : ℕ) (fs : List Figure) → All FitsFigure fs → large_figure k fs ≡ None
 figures-fit k [] all = refl
 figures-fit k (f ∷ fs) all =
-    let Fits : Figure → Type 0 = λ f. (is_name f.name ≡ true) × (unsigned_abs f.value < 10 ^ 37) in
-    rw (lt-ltb (unsigned_abs f.value) (10 ^ 37) (All-head Fits f fs all).1) (figures-fit (k + 1) fs (All-tail Fits f fs all))
+    rw (lt-ltb (unsigned_abs f.value) (10 ^ 37) (All-head FitsFigure f fs all).1) (figures-fit (k + 1) fs (All-tail FitsFigure f fs all))
 
 pub report-fits : (b c : Contents) → IsReport c → too_large b c ≡ None
 unfolding too_large

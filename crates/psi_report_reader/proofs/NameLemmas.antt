@@ -1,11 +1,10 @@
 -- Names, which are UTF-8, and whether bytes are, as a test.
-use Rattle.std.specs.Prelude.{◌≡◌, ℕ, zero, suc, ◌<◌, List, [], ◌∷◌, length, slice_index, Bool, true, false, ◌&&◌, ◌||◌, ◌==◌, nat_le, Option, Some, None, refl}
-use Rattle.std.specs.Char.{is_ascii_alphanumeric}
-use Rattle.std.specs.Int.{is_in_range}
+use Rattle.std.specs.Prelude.{◌≡◌, ℕ, zero, suc, ◌<◌, List, [], ◌∷◌, length, slice_index, Bool, true, false, ◌&&◌, nat_le, Option, Some, None, refl}
 use Rattle.std.specs.List.{list_all}
 use Rattle.std.specs.Str.{IsUtf8, is_utf8}
-use Rattle.std.proofs.Common.{inl, inr, arith}
-use Rattle.std.proofs.lemmas.Bool.{and_parts, or_cases, leb-true, eqb-true}
+use Rattle.std.proofs.Common.{arith}
+use Rattle.std.proofs.lemmas.Bool.{and_parts}
+use Rattle.std.proofs.lemmas.Bool.Decides.{nat_tests}
 use Rattle.std.proofs.lemmas.Str.{IsUtf8-from_is_utf8, is_utf8-from_IsUtf8, IsUtf8-from_ascii}
 use Rattle.psi_net_model.specs.Name.{is_name_byte, is_name, name_of}
 use Rattle.psi_report_reader.specs.Reading.{name_in}
@@ -29,23 +28,8 @@ pub name-invalid : (bytes : List ℕ) → (IsUtf8 bytes → ⊥) → ◌≡◌ {
 unfolding name_in
 name-invalid bytes isnt = rw (invalid bytes isnt) refl
 
-range-small : (low high byte : ℕ) → high < 128 → is_in_range low high byte ≡ true → byte < 128
-range-small low high byte small is = (let most = leb-true byte high (and_parts (nat_le low byte) (nat_le byte high) is).1 in omega arith)
-
 name-byte-small : (byte : ℕ) → is_name_byte byte ≡ true → byte < 128
-name-byte-small byte is = elim (or_cases (is_ascii_alphanumeric byte) (byte == 95 || byte == 45) is) [
-  | inl letter ↦ elim (or_cases (is_in_range 48 57 byte || is_in_range 65 90 byte) (is_in_range 97 122 byte) letter) [
-    | inl upper ↦ elim (or_cases (is_in_range 48 57 byte) (is_in_range 65 90 byte) upper) [
-      | inl digit ↦ range-small 48 57 byte (omega arith) digit
-      | inr capital ↦ range-small 65 90 byte (omega arith) capital
-    ]
-    | inr lower ↦ range-small 97 122 byte (omega arith) lower
-  ]
-  | inr mark ↦ elim (or_cases (byte == 95) (byte == 45) mark) [
-    | inl line ↦ (let same = eqb-true byte 95 line in omega arith)
-    | inr hyphen ↦ (let same = eqb-true byte 45 hyphen in omega arith)
-  ]
-]
+name-byte-small byte is = grind (arith, nat_tests)
 
 name-ascii : (word : List ℕ) → list_all is_name_byte word ≡ true → (i : ℕ) → slice_index word i < 128
 name-ascii [] are i = omega arith

@@ -1,12 +1,13 @@
 -- The fields of a report need no quotes: their lines are the fields with commas between them.
-use Rattle.std.specs.Prelude.{◌≡◌, ℕ, ◌^◌, ◌<◌, ◌≤◌, ℤ, pos, negsuc, List, [], ◌∷◌, ◌++◌, All, true, false, ◌==◌, suc, refl}
+use Rattle.std.specs.Prelude.{◌≡◌, ℕ, ◌^◌, ◌<◌, ◌≤◌, ℤ, pos, negsuc, List, [], ◌∷◌, ◌++◌, slice_index_or, All, true, false, ◌==◌, suc, refl}
 use Rattle.std.specs.Fmt.{decimal, signed_decimal}
 use Rattle.std.specs.Int.RustNames.{unsigned_abs}
 use Rattle.std.specs.List.{list_any, list_all, slice_split}
 use Rattle.std.proofs.Common.{ap, ◌∙◌, append_assoc, arith}
-use Rattle.std.proofs.lemmas.Bool.{and_parts, ne_eqb}
+use Rattle.std.proofs.lemmas.Bool.{ne_eqb}
 use Rattle.std.proofs.lemmas.List.{append-nil}
-use Rattle.std.proofs.lemmas.List.Elements.{All-nil, All-cons, All-head, All-tail, All-append, All-weaker}
+use Rattle.std.proofs.lemmas.List.Elements.{All-cons, All-head, All-tail, All-append, All-weaker}
+use Rattle.std.proofs.lemmas.List.Sums.{AllPass-from_list_all}
 use Rattle.std.proofs.lemmas.List.Splits.{slice_split_at, slice_split_none}
 use Rattle.csv.specs.Writing.{default_writer, needs_byte, row_text, fields_text, is_blank}
 use Rattle.psi_net_model.specs.Name.{is_name_byte}
@@ -34,10 +35,7 @@ name-byte-plain byte is = record {
 
 -- bytes as they stand in names; literals are seen to be such by computing
 pub name-bytes-plain : (word : List ℕ) → list_all is_name_byte word ≡ true → All IsPlain word
-name-bytes-plain [] are = All-nil IsPlain
-name-bytes-plain (b ∷ bs) are =
-    let parts = and_parts (is_name_byte b) (list_all is_name_byte bs) are in
-    All-cons IsPlain b bs (name-byte-plain b parts.0) (name-bytes-plain bs parts.1)
+name-bytes-plain word are k d less = name-byte-plain (slice_index_or word k d) (AllPass-from_list_all is_name_byte word are k d less)
 
 digit-plain : (byte : ℕ) → IsDigit byte → IsPlain byte
 digit-plain byte is =

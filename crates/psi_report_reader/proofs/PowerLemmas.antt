@@ -1,10 +1,10 @@
 -- A number of which one bit is set is a power of two.
 use Rattle.std.specs.Prelude.{◌≡◌, ℕ, zero, suc, ◌+◌, ◌*◌, ◌/◌, ◌%◌, ◌^◌, ◌<◌, count_ones, refl}
 use Rattle.std.specs.Int.Count.{ones}
-use Rattle.std.proofs.Common.{ap, sym, ◌∙◌, inl, inr, arith}
+use Rattle.std.proofs.Common.{ap, sym, ◌∙◌, arith}
 use Rattle.std.proofs.Math.Nat.{pow-suc}
-use Rattle.std.proofs.lemmas.Bool.{cases_order}
 use Rattle.std.proofs.lemmas.Nat.{ones_cat, shr_split, mod_below, zero_from_ones}
+use Rattle.psi_report_reader.proofs.OrderLemmas.{by_order}
 
 pub one-bit : ones 1 ≡ 1
 unfolding ones
@@ -31,20 +31,17 @@ power-below (suc k) t small once =
     let last : t % 2 < 2 = mod_below t 2 (omega arith) in
     let bits : ones (t / 2 * 2 + t % 2) ≡ ones (t / 2) + ones (t % 2) = ones_cat 1 (t / 2) (t % 2) last in
     let sum : ones (t / 2) + ones (t % 2) ≡ 1 = sym bits ∙ ap ones whole ∙ once in
-    elim (cases_order (t % 2) 0) [
-      | inl even ↦ (
-          let none : ones (t % 2) ≡ 0 = ap ones even ∙ no-bit in
-          let half = power-below k (t / 2) (omega arith) (omega arith) in
-          let own : t / 2 ≡ 2 ^ half.exponent = half.power in
-          let few = half.few in
-          let next : 2 ^ suc half.exponent ≡ 2 ^ half.exponent * 2 = pow-suc 2 half.exponent in
-          record { exponent = suc half.exponent; few = omega arith; power = omega arith })
-      | inr apart ↦ elim apart [
-        | inl less ↦ absurd (omega arith)
-        | inr odd ↦ (
-            let one : t % 2 ≡ 1 = omega arith in
-            let bit : ones (t % 2) ≡ 1 = ap ones one ∙ one-bit in
-            let none : t / 2 ≡ 0 = zero_from_ones (t / 2) (omega arith) in
-            record { exponent = 0; few = omega arith; power = omega arith })
-      ]
-    ]
+    by_order (t % 2) 0
+    (λ even. (
+    let none : ones (t % 2) ≡ 0 = ap ones even ∙ no-bit in
+    let half = power-below k (t / 2) (omega arith) (omega arith) in
+    let own : t / 2 ≡ 2 ^ half.exponent = half.power in
+    let few = half.few in
+    let next : 2 ^ suc half.exponent ≡ 2 ^ half.exponent * 2 = pow-suc 2 half.exponent in
+    record { exponent = suc half.exponent; few = omega arith; power = omega arith }))
+    (λ less. absurd (omega arith))
+    (λ odd. (
+    let one : t % 2 ≡ 1 = omega arith in
+    let bit : ones (t % 2) ≡ 1 = ap ones one ∙ one-bit in
+    let none : t / 2 ≡ 0 = zero_from_ones (t / 2) (omega arith) in
+    record { exponent = 0; few = omega arith; power = omega arith }))

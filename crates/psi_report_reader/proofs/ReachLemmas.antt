@@ -72,9 +72,9 @@ unfolding sum_of
 one-value low high sum order from to =
     (sum ∷ [], record { count = refl; low_is = omega (arith, ints); high_is = omega (arith, ints); sum_is = omega (arith, ints) })
 
-pub sums-reached : SumsAreReached
-sums-reached zero low high sum some order is = absurd (omega arith)
-sums-reached (suc zero) low high sum some order is =
+pub sums_reached : SumsAreReached
+sums_reached zero low high sum some order is = absurd (omega arith)
+sums_reached (suc zero) low high sum some order is =
     let count : suc zero - 1 ≡ 0 = omega arith in
     let parts = and_parts (int_le (all_but_one 1 low high) sum) (int_le sum (all_but_one 1 high low)) is in
     let from : (pos 0 *ℤ low +ℤ high) ≤ℤ sum = ordered-back (pos 0 *ℤ low +ℤ high) sum parts.0 in
@@ -82,7 +82,7 @@ sums-reached (suc zero) low high sum some order is =
     let lower : (pos 0 +ℤ high) ≤ℤ sum = rw (times-none low) at from in
     let upper : sum ≤ℤ (pos 0 +ℤ low) = rw (times-none high) at to in
     one-value low high sum order (omega (arith, ints)) (omega (arith, ints))
-sums-reached (suc (suc m)) low high sum some order is =
+sums_reached (suc (suc m)) low high sum some order is =
     let count : suc (suc m) - 1 ≡ suc m = omega arith in
     let parts = and_parts (int_le (all_but_one (suc (suc m)) low high) sum) (int_le sum (all_but_one (suc (suc m)) high low)) is in
     let first = ordered-back (all_but_one (suc (suc m)) low high) sum parts.0 in

@@ -1,10 +1,9 @@
 -- A report of queues alone in which no line is wrong is that of samples.
-use Rattle.std.specs.Prelude.{◌≡◌, ℕ, zero, suc, ◌+◌, ◌-◌, ◌^◌, ◌<◌, ◌≤◌, List, [], ◌∷◌, ◌++◌, map, length, replicate, slice_index, All, Bool, true, false, nat_lt, unsigned_abs, Option, Some, None, if◌then◌else◌, refl}
+use Rattle.std.specs.Prelude.{◌≡◌, ℕ, zero, suc, ◌+◌, ◌-◌, ◌<◌, ◌≤◌, List, [], ◌∷◌, ◌++◌, map, length, replicate, slice_index, All, true, refl}
 use Rattle.std.specs.List.{flat_map}
 use Rattle.std.proofs.Common.{ap, sym, ◌∙◌, subst, arith}
-use Rattle.std.proofs.lemmas.Bool.{ltb-false}
 use Rattle.std.proofs.lemmas.List.{append-nil, length-map}
-use Rattle.std.proofs.lemmas.List.Elements.{All-nil, All-cons, All-head, All-tail, All-map, All-weaker}
+use Rattle.std.proofs.lemmas.List.Elements.{All-nil, All-cons, All-head, All-tail, All-map}
 use Rattle.psi_state.specs.State.{IsBelow}
 use Rattle.psi_state.specs.declared.Outcome.{Outcome}
 use Rattle.psi_state.specs.declared.Outcome.TheVariants.{Met, NotMet}
@@ -18,46 +17,19 @@ use Rattle.psi_net_model.specs.declared.entries.NamedEvent.{NamedEvent}
 use Rattle.psi_net_model.specs.declared.entries.Queue.{Queue}
 use Rattle.psi_report.specs.Samples.{IsHorizon, IsSampleOf, met_states, met_horizons}
 use Rattle.psi_report.specs.Quantities.{queues_from}
+use Rattle.psi_report.specs.declared.figure.Item.TheVariants.{Sum}
 use Rattle.psi_report.specs.declared.figure.Figure.{Figure}
 use Rattle.psi_report.specs.Contents.{Contents}
 use Rattle.psi_report.specs.Report.{queue_trio, reward_trio, quantity_figures, contents_of}
 use Rattle.psi_report_reader.specs.Samples.{AreNames, IsDescribed}
 use Rattle.psi_report.specs.Text.{text_of}
 use Rattle.psi_report_reader.specs.Reached.{IsReached, QueueReportsAreReached}
-use Rattle.psi_report_reader.specs.Sound.{horizons_flaw, figures_flaw, varying_reward, first_of, first_flaw, figures_line, rows_line, flaw_of}
 use Rattle.psi_report_reader.proofs.ColumnLemmas.{rows_of, length-rows, HaveColumns, have-columns, rows-below}
 use Rattle.psi_report_reader.proofs.HorizonReachLemmas.{AreCounted, horizons-reached}
-use Rattle.psi_report_reader.proofs.FigureReachLemmas.{Held, held_figures, AreHeld, figures-reached}
-
--- ---- what isn't wrong
-
-pub record IsRight (c : Contents) : Type 0 where
-  pub few : c.met ≤ c.samples
-  pub horizons : horizons_flaw 0 None c.met c.horizons ≡ None
-  pub figures : figures_flaw c.met c.figures ≡ None
-
-no-first : (j k : Option ℕ) → first_of j k ≡ None → j ≡ None
-no-first None k is = refl
-no-first (Some j) None is = is
-no-first (Some j) (Some k) is = absurd cc
-
-no-line : (c : Contents) (k : Option ℕ) → figures_line c k ≡ None → k ≡ None
-no-line c None is = refl
-no-line c (Some k) is = absurd cc
-
-no-rows-line : (c : Contents) (k : Option ℕ) → rows_line c k ≡ None → (k ≡ None) × (figures_flaw c.met c.figures ≡ None)
-no-rows-line c None is = (refl, no-first (figures_flaw c.met c.figures) (varying_reward c.figures) (no-line c (first_flaw c.met c.figures) is))
-no-rows-line c (Some k) is = absurd cc
-
-pub right : (c : Contents) → flaw_of c ≡ None → IsRight c
-unfolding flaw_of
-right c is = go (nat_lt c.samples c.met) refl is
-  where
-    go : (less : Bool) → nat_lt c.samples c.met ≡ less → ◌≡◌ {A = Option ℕ} (if less then Some 3 else rows_line c (horizons_flaw 0 None c.met c.horizons)) None → IsRight c
-    go true is none = absurd cc
-    go false is none =
-        let rows = no-rows-line c (horizons_flaw 0 None c.met c.horizons) none in
-        record { few = ltb-false c.samples c.met is; horizons = rows.0; figures = rows.1 }
+use Rattle.psi_report_reader.proofs.FigureReachLemmas.{Held, held_figures, AreHeld, figures-held, names-held}
+use Rattle.psi_report_reader.proofs.RightLemmas.{right-parts}
+use Rattle.psi_report_reader.proofs.ShownLemmas.{HaveNames, names-shown, map-twice}
+use Rattle.psi_report_reader.proofs.SumNamesLemmas.{names}
 
 -- ---- samples of these horizons and states, and others that aren't met
 
@@ -148,14 +120,8 @@ caps-are : (queues : List Held) → caps_of (network_of queues) ≡ replicate (l
 caps-are [] = refl
 caps-are (h ∷ queues) = ap (λ caps. 65535 ∷ caps) (caps-are queues)
 
-names-are : (queues : List Held) → map (λ (q : Queue). q.name) (map queue_of queues) ≡ map (λ (h : Held). h.name) queues
-names-are [] = refl
-names-are (h ∷ queues) = ap (λ (names : List (List ℕ)). h.name ∷ names) (names-are queues)
-
 queues-are : (queues : List Held) → All IsQueue (map queue_of queues)
-queues-are [] = All-nil IsQueue
-queues-are (h ∷ queues) = All-cons IsQueue (queue_of h) (map queue_of queues)
-    (record { some = omega arith; most = omega arith; served = omega arith; servers = omega arith; fits = omega arith }) (queues-are queues)
+queues-are queues = All-map IsQueue queue_of queues (λ k d less. record { some = omega arith; most = omega arith; served = omega arith; servers = omega arith; fits = omega arith })
 
 -- the figures of rows that have these columns
 figures-are : (i : ℕ) (rows : List (List ℕ)) (queues : List Held) → HaveColumns i rows (columns_of queues)
@@ -166,7 +132,7 @@ figures-are i rows (h ∷ queues) have =
     let place : i + 1 ≡ suc i = omega arith in
     rw (have.0, place) (ap (λ fs. held_figures h ++ fs) (figures-are (suc i) rows queues have.1))
 
-module _ (n : ℕ) (figures : List Figure) (held : AreHeld n [] figures) where
+module _ (n : ℕ) (figures : List Figure) (held : AreHeld n figures) (shown : HaveNames figures) where
   abbrev net : Network
   net = network_of held.queues
 
@@ -185,25 +151,24 @@ module _ (n : ℕ) (figures : List Figure) (held : AreHeld n [] figures) where
   rows-within : All (λ x. IsBelow x (caps_of net)) rows
   rows-within = subst (λ (caps : List ℕ). All (λ x. IsBelow x caps) rows) (sym (caps-are held.queues)) (rows-below 65535 n (columns_of held.queues) columns-few)
 
-  some-queue : (f : Figure) (fs : List Figure) → figures ≡ f ∷ fs → 1 ≤ length held.queues
-  some-queue f fs is = go held.queues (held.same ∙ is)
-    where
-      go : (queues : List Held) → flat_map held_figures queues ≡ f ∷ fs → 1 ≤ length queues
-      go [] same = absurd cc
-      go (h ∷ queues) same = omega arith
+  names-same : names Sum figures ≡ map (λ (h : Held). h.name) held.queues
+  names-same = ap (names Sum) (sym held.same) ∙ names-held held.queues
 
-  listed : 1 ≤ length held.queues → AreListed net.queues
-  listed some =
+  listed : AreListed net.queues
+  listed =
       let count = length-map held.queues queue_of in
-      let room = held.room in
+      let long = length-map held.queues (λ (h : Held). h.name) in
+      let shown_long : length (names Sum figures) ≡ length (map (λ (h : Held). h.name) held.queues) = ap length names-same in
+      let some = shown.some in
+      let few = shown.queues.few in
       record { some = omega arith; few = omega arith; each = queues-are held.queues }
 
-  kept : 1 ≤ length held.queues → IsNetwork net
-  kept some =
-      let count = length-map held.queues queue_of in
+  kept : IsNetwork net
+  kept =
+      let some = listed.some in
       let long = length-map net.queues (λ (q : Queue). q.capacity) in
       record {
-        queues = listed some;
+        queues = listed;
         rates = rate-is;
         kinds = All-cons (λ (e : NamedEvent). IsAccepted (caps_of net) e.kind) arrival [] (arrival-is (caps_of net) (omega arith)) (All-nil (λ (e : NamedEvent). IsAccepted (caps_of net) e.kind));
         limit = omega arith;
@@ -212,33 +177,31 @@ module _ (n : ℕ) (figures : List Figure) (held : AreHeld n [] figures) where
         few_rewards = omega arith;
       }
 
-  described : 1 ≤ length held.queues → IsDescribed net
-  described some =
-      record {
-        queues = listed some;
-        queue_names = subst (λ (names : List (List ℕ)). AreNames names) (sym (names-are held.queues))
-            (record { each = All-map (λ name. is_name name ≡ true) (λ (h : Held). h.name) held.queues held.named; differ = held.differ });
-        few_rewards = omega arith;
-        rewards = All-nil (λ (r : NamedReward). IsReward (caps_of net) r.kind);
-        reward_names = record { each = All-nil (λ name. is_name name ≡ true); differ = tt };
-      }
+  described : IsDescribed net
+  described = record {
+    queues = listed;
+    queue_names = subst (λ (names : List (List ℕ)). AreNames names) (names-same ∙ sym (map-twice (λ (q : Queue). q.name) queue_of held.queues)) shown.queues.are;
+    few_rewards = omega arith;
+    rewards = All-nil (λ (r : NamedReward). IsReward (caps_of net) r.kind);
+    reward_names = record { each = All-nil (λ name. is_name name ≡ true); differ = tt };
+  }
 
   rows-figures : flat_map (quantity_figures queue_trio rows) (queues_from 0 net.queues) ++ flat_map (quantity_figures reward_trio rows) [] ≡ figures
   rows-figures =
       append-nil (flat_map (quantity_figures queue_trio rows) (queues_from 0 net.queues))
       ∙ figures-are 0 rows held.queues (have-columns n (columns_of held.queues) columns-long) ∙ held.same
 
-  reached : (c : Contents) → c.figures ≡ figures → c.met ≡ n → c.met ≤ c.samples → 1 ≤ length held.queues → (counted : AreCounted n c.horizons) → IsReached c
+  reached : (c : Contents) → c.figures ≡ figures → c.met ≡ n → c.met ≤ c.samples → (counted : AreCounted n c.horizons) → IsReached c
   unfolding contents_of
-  reached c same met few some counted =
+  reached c same met few counted =
       let long : length counted.horizons ≡ length rows = counted.count ∙ sym rows-long in
       let outcomes : List Outcome = samples (c.samples - c.met) counted.horizons rows in
       let told = contents-are c same met few counted in
       record {
         net = net;
         outcomes = outcomes;
-        kept = kept some;
-        are = record { network = described some; samples = samples-are net (c.samples - c.met) counted.horizons rows counted.each rows-within };
+        kept = kept;
+        are = record { network = described; samples = samples-are net (c.samples - c.met) counted.horizons rows counted.each rows-within };
         contents = told;
         text = ap text_of told;
       }
@@ -258,13 +221,8 @@ module _ (n : ℕ) (figures : List Figure) (held : AreHeld n [] figures) where
           let counts = counted.counts in
           rw (whole, states, horizons, own, counts, these, ← same) refl
 
-pub queue-reports-reached : QueueReportsAreReached
-queue-reports-reached c is queues none = go c.figures refl
-  where
-    go : (figures : List Figure) → c.figures ≡ figures → IsReached c
-    go [] same = (let rights = right c none in let wrong : figures_flaw c.met [] ≡ None = rw same at rights.figures in absurd cc)
-    go (f ∷ fs) same =
-        let rights = right c none in
-        let names : All (λ (g : Figure). is_name g.name ≡ true) c.figures = All-weaker (λ (g : Figure). (is_name g.name ≡ true) × (unsigned_abs g.value < 10 ^ 37)) (λ (g : Figure). is_name g.name ≡ true) (λ g both. both.0) c.figures is.figures in
-        let held = figures-reached c.met c.figures queues names rights.figures in
-        reached c.met c.figures held c refl refl rights.few (some-queue c.met c.figures held f fs same) (horizons-reached 0 None c.met c.horizons rights.horizons)
+pub queue_reports_reached : QueueReportsAreReached
+queue_reports_reached c is queues none =
+    let rights = right-parts c none in
+    reached c.met c.figures (figures-held c.met c.figures queues rights.figures) (names-shown c.met c.figures is.figures rights.figures) c refl refl rights.few
+    (horizons-reached c.met c.horizons rights.horizons)

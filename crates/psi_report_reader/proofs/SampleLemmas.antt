@@ -1,16 +1,13 @@
 -- What holds of the horizons, the names and the values of samples of a network.
-use Rattle.std.specs.Prelude.{◌≡◌, ℕ, suc, ◌+◌, ◌*◌, ◌^◌, ◌<◌, ◌≤◌, ◌≤ℤ◌, ℤ, pos, List, [], ◌∷◌, ◌++◌, map, length, All, int_le, unsigned_abs, count_ones, slice_index, Bool, true, false, refl}
+use Rattle.std.specs.Prelude.{◌≡◌, ℕ, suc, ◌+◌, ◌*◌, ◌^◌, ◌<◌, ◌≤◌, ◌≤ℤ◌, ℤ, pos, List, [], ◌∷◌, ◌++◌, map, length, All, int_le, unsigned_abs, count_ones, slice_index, Bool, true, refl}
 use Rattle.std.specs.Int.Count.{ones}
-use Rattle.std.specs.Str.{bytes_eq}
-use Rattle.std.proofs.Common.{ap, sym, ◌∙◌, subst, inl, inr, arith}
+use Rattle.std.proofs.Common.{ap, sym, ◌∙◌, subst, arith}
 use Rattle.std.proofs.Math.Pow.{pow-lt, pow_pos}
-use Rattle.std.proofs.lemmas.Bool.{cases_order, eq-eqb, le-leb, leb-true, and_parts, false_from_ne_true}
+use Rattle.std.proofs.lemmas.Bool.{eq-eqb, le-leb, leb-true, and_parts}
 use Rattle.std.proofs.lemmas.Int.{ints}
 use Rattle.std.proofs.lemmas.Nat.{ones_cat}
 use Rattle.std.proofs.lemmas.List.Elements.{All-nil, All-cons, All-head, All-tail, All-map, All-weaker}
-use Rattle.std.proofs.lemmas.Slice.Eq.{bytes_eq-Decides}
 use Rattle.psi_state.specs.Ascending.{IsDistinct}
-use Rattle.psi_state.specs.Members.{In}
 use Rattle.psi_state.specs.State.{IsBelow, AreCapacities}
 use Rattle.psi_state.specs.declared.Outcome.{Outcome}
 use Rattle.psi_state.specs.declared.Outcome.TheVariants.{Met, NotMet}
@@ -23,13 +20,16 @@ use Rattle.psi_reward.specs.Worth.{worth_of}
 use Rattle.psi_report.specs.Samples.{IsHorizon, IsSampleOf, met_states, met_horizons}
 use Rattle.psi_report.specs.Quantities.{Quantity, queues_from, queue_quantities, reward_quantities}
 use Rattle.psi_report.specs.Report.{contents_of}
+use Rattle.psi_report.proofs.StandsLemmas.{length-queues_from}
+use Rattle.psi_report.proofs.FiguresLemmas.{names-queues, names-rewards}
 use Rattle.psi_report_reader.specs.Reading.{IsReport}
 use Rattle.psi_report_reader.specs.Samples.{AreOf}
 use Rattle.psi_report_reader.specs.Sound.{is_horizon, is_customers, is_reward_value}
 use Rattle.psi_report_reader.proofs.AllowLemmas.{ordered}
 use Rattle.psi_report_reader.proofs.PowerLemmas.{one-bit, no-bit}
 use Rattle.psi_report_reader.proofs.SmallLemmas.{IsMost, IsMostAt, told-fit}
-use Rattle.psi_report_reader.proofs.WorthLemmas.{held-few, worth-few}
+use Rattle.psi_report_reader.proofs.WorthLemmas.{held-few, worth-few, all-left, all-right}
+use Rattle.psi_report_reader.proofs.OrderLemmas.{by_order}
 
 -- ---- horizons
 
@@ -39,13 +39,10 @@ ones-pow k =
     ap ones (sym whole) ∙ ones_cat k 1 0 (pow_pos k) ∙ (let first = one-bit in let last = no-bit in omega arith)
 
 pow-most : (k : ℕ) → k ≤ 22 → 2 ^ k ≤ 4194304
-pow-most k few = elim (cases_order k 22) [
-  | inl same ↦ rw same (omega arith)
-  | inr apart ↦ elim apart [
-    | inl less ↦ (let below : 2 ^ k < 2 ^ 22 = pow-lt less in omega arith)
-    | inr more ↦ absurd (omega arith)
-  ]
-]
+pow-most k few = by_order k 22
+    (λ same. rw same (omega arith))
+    (λ less. (let below : 2 ^ k < 2 ^ 22 = pow-lt less in omega arith))
+    (λ more. absurd (omega arith))
 
 pub horizon-few : (t : ℕ) → IsHorizon t → t ≤ 4194304
 horizon-few t is = rw is.power (pow-most is.exponent is.few)
@@ -102,36 +99,6 @@ rewards-pass caps states are below (r ∷ rewards) all =
       rewards-pass caps states are below rewards (All-tail (λ (r : NamedReward). IsReward caps r.kind) r rewards all),
     )
 
--- ---- names
-
--- names that differ from those of all quantities after them
-abbrev pub AreApart : List Quantity → Type 0
-AreApart [] = Unit {0}
-AreApart (q ∷ qs) = All (λ (r : Quantity). bytes_eq q.name r.name ≡ false) qs × AreApart qs
-
-apart-names : (x : List ℕ) (qs : List Quantity) → (In x (map (λ q. q.name) qs) → ⊥) → All (λ (r : Quantity). bytes_eq x r.name ≡ false) qs
-apart-names x [] out = All-nil (λ (r : Quantity). bytes_eq x r.name ≡ false)
-apart-names x (q ∷ qs) out =
-    All-cons (λ (r : Quantity). bytes_eq x r.name ≡ false) q qs (false_from_ne_true (bytes_eq x q.name) (λ is. out (inl ((bytes_eq-Decides x q.name).0 is)))) (apart-names x qs (λ there. out (inr there)))
-
-apart-quantities : (qs : List Quantity) → IsDistinct (map (λ q. q.name) qs) → AreApart qs
-apart-quantities [] differ = tt
-apart-quantities (q ∷ qs) differ = (apart-names q.name qs differ.0, apart-quantities qs differ.1)
-
-queue-names : (i : ℕ) (queues : List Queue) → map (λ (q : Quantity). q.name) (queues_from i queues) ≡ map (λ (q : Queue). q.name) queues
-unfolding queues_from
-queue-names i [] = refl
-queue-names i (queue ∷ queues) = ap (λ (names : List (List ℕ)). queue.name ∷ names) (queue-names (i + 1) queues)
-
-reward-names : (rewards : List NamedReward) → map (λ (q : Quantity). q.name) (map (λ r. record { name = r.name; value = worth_of r.kind }) rewards) ≡ map (λ (r : NamedReward). r.name) rewards
-reward-names [] = refl
-reward-names (r ∷ rewards) = ap (λ (names : List (List ℕ)). r.name ∷ names) (reward-names rewards)
-
-queue-count : (i : ℕ) (queues : List Queue) → length (queues_from i queues) ≡ length queues
-unfolding queues_from
-queue-count i [] = refl
-queue-count i (queue ∷ queues) = ap suc (queue-count (i + 1) queues)
-
 reward-count : (rewards : List NamedReward) → (let qs : List Quantity = map (λ r. record { name = r.name; value = worth_of r.kind }) rewards in length qs ≡ length rewards)
 reward-count [] = refl
 reward-count (r ∷ rewards) = ap suc (reward-count rewards)
@@ -141,7 +108,7 @@ reward-count (r ∷ rewards) = ap suc (reward-count rewards)
 -- what a report has of quantities: they are so few, their names differ and their values pass
 pub record AreShown (p : ℤ → Bool) (most : ℕ) (states : List (List ℕ)) (qs : List Quantity) : Type 0 where
   pub few : length qs ≤ most
-  pub apart : AreApart qs
+  pub differ : IsDistinct (map (λ (q : Quantity). q.name) qs)
   pub passing : ArePassing p states qs
 
 module _ (net : Network) (outcomes : List Outcome) (are : AreOf net outcomes) where
@@ -149,18 +116,18 @@ module _ (net : Network) (outcomes : List Outcome) (are : AreOf net outcomes) wh
   queues-shown =
       let listed = are.network.queues in
       record {
-        few = (let count = queue-count 0 net.queues in let few = listed.few in omega arith);
-        apart = apart-quantities (queue_quantities net) (subst (λ (names : List (List ℕ)). IsDistinct names) (sym (queue-names 0 net.queues)) are.network.queue_names.differ);
+        few = (let count = length-queues_from 0 net.queues in let few = listed.few in omega arith);
+        differ = subst (λ (names : List (List ℕ)). IsDistinct names) (sym (names-queues 0 net.queues)) are.network.queue_names.differ;
         passing = queues-pass (caps_of net) (met_states outcomes) (capacities_kept net.queues listed) (met-below net outcomes are.samples) 0 net.queues;
       }
 
   pub queues-some : 1 ≤ length (queue_quantities net)
-  queues-some = (let count = queue-count 0 net.queues in let some = are.network.queues.some in omega arith)
+  queues-some = (let count = length-queues_from 0 net.queues in let some = are.network.queues.some in omega arith)
 
   pub rewards-shown : AreShown is_reward_value 64 (met_states outcomes) (reward_quantities net)
   rewards-shown = record {
     few = (let count = reward-count net.rewards in let few = are.network.few_rewards in omega arith);
-    apart = apart-quantities (reward_quantities net) (subst (λ (names : List (List ℕ)). IsDistinct names) (sym (reward-names net.rewards)) are.network.reward_names.differ);
+    differ = subst (λ (names : List (List ℕ)). IsDistinct names) (sym (names-rewards net.rewards)) are.network.reward_names.differ;
     passing = rewards-pass (caps_of net) (met_states outcomes) (capacities_kept net.queues are.network.queues) (met-below net outcomes are.samples) net.rewards are.network.rewards;
   }
 
@@ -194,19 +161,11 @@ samples-fit net outcomes are few =
     told-fit 2097120000000000 (2 ^ 64) (omega arith) (omega arith) net outcomes few (omega arith)
     (All-weaker IsHorizon (λ t. t < 2 ^ 64) (λ t is. (let most = horizon-few t is in omega arith)) (met_horizons outcomes) (met-horizons net outcomes are.samples))
     (most-at is_customers customers-most (met_states outcomes) (queue_quantities net) queues.passing
-    (subst (All (λ name. is_name name ≡ true)) (sym (queue-names 0 net.queues)) are.network.queue_names.each))
+    (subst (All (λ name. is_name name ≡ true)) (sym (names-queues 0 net.queues)) are.network.queue_names.each))
     (most-at is_reward_value worth-most (met_states outcomes) (reward_quantities net) rewards.passing
-    (subst (All (λ name. is_name name ≡ true)) (sym (reward-names net.rewards)) are.network.reward_names.each))
+    (subst (All (λ name. is_name name ≡ true)) (sym (names-rewards net.rewards)) are.network.reward_names.each))
 
 -- ---- samples in two parts
-
-all-left : {A : Type 0} (P : A → Type 0) (xs ys : List A) → All P (xs ++ ys) → All P xs
-all-left P [] ys all = All-nil P
-all-left P (x ∷ xs) ys all = All-cons P x xs (All-head P x (xs ++ ys) all) (all-left P xs ys (All-tail P x (xs ++ ys) all))
-
-all-right : {A : Type 0} (P : A → Type 0) (xs ys : List A) → All P (xs ++ ys) → All P ys
-all-right P [] ys all = all
-all-right P (x ∷ xs) ys all = all-right P xs ys (All-tail P x (xs ++ ys) all)
 
 module _ (net : Network) (outcomes others : List Outcome) (are : AreOf net (outcomes ++ others)) where
   pub of-left : AreOf net outcomes

@@ -10,7 +10,6 @@ use Rattle.std.proofs.lemmas.List.{length-map}
 use Rattle.std.proofs.lemmas.List.Elements.{All-nil, All-cons, All-head, All-tail, All-append, All-map, All-weaker}
 use Rattle.std.proofs.lemmas.List.Sums.{count_by-le-length}
 use Rattle.psi_state.specs.declared.Outcome.{Outcome}
-use Rattle.psi_state.specs.declared.Outcome.TheVariants.{Met, NotMet}
 use Rattle.psi_net_model.specs.Name.{is_name}
 use Rattle.psi_net_model.specs.Network.{Network}
 use Rattle.psi_reward.specs.Ranges.{least, greatest}
@@ -18,25 +17,12 @@ use Rattle.psi_report.specs.Samples.{met_states, met_horizons}
 use Rattle.psi_report.specs.Distinct.{insert_number, distinct}
 use Rattle.psi_report.specs.Quantities.{Quantity, queue_quantities, reward_quantities, sum_of}
 use Rattle.psi_report.specs.Report.{Trio, times, queue_trio, reward_trio, figure, figures_of, quantity_figures, horizon_count, contents_of}
-use Rattle.psi_report.specs.declared.figure.HorizonCount.{HorizonCount}
-use Rattle.psi_report.specs.declared.figure.Figure.{Figure}
+use Rattle.psi_report.proofs.TotalsLemmas.{length-met_states, length-met_horizons}
 use Rattle.psi_report_reader.specs.Reading.{IsReport}
 use Rattle.psi_report_reader.specs.Small.{IsMeasured, AreSamples, ReportIsRead}
+use Rattle.psi_report_reader.proofs.FieldLemmas.{FitsCount, FitsFigure}
 use Rattle.psi_report_reader.proofs.WorthLemmas.{least-has, greatest-has}
-use Rattle.psi_report_reader.proofs.ReadLemmas.{text-is-read}
-
--- no more samples are met than there are
-states-few : (outcomes : List Outcome) → length (met_states outcomes) ≤ length outcomes
-unfolding met_states
-states-few [] = omega arith
-states-few (Met horizon state ∷ outcomes) = (let rest = states-few outcomes in omega arith)
-states-few (NotMet limit ∷ outcomes) = (let rest = states-few outcomes in omega arith)
-
-horizons-few : (outcomes : List Outcome) → length (met_horizons outcomes) ≤ length outcomes
-unfolding met_horizons
-horizons-few [] = omega arith
-horizons-few (Met horizon state ∷ outcomes) = (let rest = horizons-few outcomes in omega arith)
-horizons-few (NotMet limit ∷ outcomes) = (let rest = horizons-few outcomes in omega arith)
+use Rattle.psi_report_reader.proofs.ReadLemmas.{text_is_read}
 
 -- what holds of the numbers of a list, holds of them in their order
 insert-all : (P : ℕ → Type 0) (n : ℕ) (ms : List ℕ) → P n → All P ms → All P (insert_number n ms)
@@ -50,10 +36,6 @@ pub distinct-all : (P : ℕ → Type 0) (ns : List ℕ) → All P ns → All P (
 unfolding distinct
 distinct-all P [] all = All-nil P
 distinct-all P (n ∷ ns) all = insert-all P n (distinct ns) (All-head P n ns all) (distinct-all P ns (All-tail P n ns all))
-
--- figures can be read back
-abbrev FitsFigure : Figure → Type 0
-FitsFigure f = (is_name f.name ≡ true) × (unsigned_abs f.value < 10 ^ 37)
 
 -- values of a magnitude of at most b
 module _ (b : ℕ) where
@@ -103,17 +85,16 @@ module _ (b : ℕ) where
         → All (IsMostAt (met_states outcomes)) (queue_quantities net) → All (IsMostAt (met_states outcomes)) (reward_quantities net) → IsReport (contents_of net outcomes)
     unfolding contents_of
     told-fit net outcomes small few steps queues rewards =
-        let met = states-few outcomes in
-        let horizons = horizons-few outcomes in
+        let met = length-met_states outcomes in
+        let horizons = length-met_horizons outcomes in
         let hs = met_horizons outcomes in
-        let Fits : HorizonCount → Type 0 = λ h. (h.horizon < 2 ^ 64) × (h.count < 2 ^ 64) in
         let count : (t : ℕ) → times t hs ≤ length hs = λ t. count_by-le-length (λ m. m == t) hs in
         let short : (t : ℕ) → times t hs < 2 ^ 64 = λ t. (let one = count t in omega arith) in
         record {
           samples = omega arith;
           met = omega arith;
-          horizons = All-map Fits (horizon_count hs) (distinct hs)
-              (All-weaker (λ t. t < 2 ^ 64) (λ t. Fits (horizon_count hs t)) (λ t small. (small, short t)) (distinct hs) (distinct-all (λ t. t < 2 ^ 64) hs steps));
+          horizons = All-map FitsCount (horizon_count hs) (distinct hs)
+              (All-weaker (λ t. t < 2 ^ 64) (λ t. FitsCount (horizon_count hs t)) (λ t small. (small, short t)) (distinct hs) (distinct-all (λ t. t < 2 ^ 64) hs steps));
           figures = All-append FitsFigure (flat_map (quantity_figures queue_trio (met_states outcomes)) (queue_quantities net))
               (flat_map (quantity_figures reward_trio (met_states outcomes)) (reward_quantities net))
               (figures-fit queue_trio (met_states outcomes) (queue_quantities net) (omega arith) queues)
@@ -131,4 +112,4 @@ contents-fit net outcomes are =
     (measured-most (met_states outcomes) (reward_quantities net) are.rewards)
 
 pub report-is-read : ReportIsRead
-report-is-read net outcomes are = text-is-read (contents_of net outcomes) (contents-fit net outcomes are)
+report-is-read net outcomes are = text_is_read (contents_of net outcomes) (contents-fit net outcomes are)

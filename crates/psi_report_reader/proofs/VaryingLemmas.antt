@@ -1,9 +1,8 @@
 -- The rewards of samples vary only where a queue does.
-use Rattle.std.specs.Prelude.{◌≡◌, ℕ, suc, ◌+◌, ◌<◌, ℤ, pos, ◌≤ℤ◌, List, [], ◌∷◌, ◌++◌, map, length, slice_index, All, Bool, true, false, not, ◌&&◌, None, refl}
+use Rattle.std.specs.Prelude.{◌≡◌, ℕ, suc, ◌+◌, ◌<◌, ℤ, pos, ◌≤ℤ◌, List, [], ◌∷◌, ◌++◌, map, length, slice_index, slice_index_or, All, Bool, true, false, not, ◌&&◌, None, refl}
 use Rattle.std.specs.List.{flat_map}
 use Rattle.std.specs.Ordering.{int_eq}
-use Rattle.std.proofs.Common.{ap, sym, ◌∙◌, subst, inl, inr, arith}
-use Rattle.std.proofs.lemmas.Bool.{cases_order}
+use Rattle.std.proofs.Common.{ap, sym, ◌∙◌, subst, arith}
 use Rattle.std.proofs.lemmas.Bool.Decides.{Decides-int_eq}
 use Rattle.std.proofs.lemmas.Grind.{same_number_lists}
 use Rattle.std.proofs.lemmas.Int.{ints, clamps}
@@ -22,6 +21,7 @@ use Rattle.psi_report_reader.specs.Samples.{AreOf}
 use Rattle.psi_report_reader.specs.Sound.{is_greatest, varies, varying_behind, varying_reward}
 use Rattle.psi_report_reader.proofs.SampleLemmas.{met-below}
 use Rattle.psi_report_reader.proofs.WorthLemmas.{least-has, greatest-has}
+use Rattle.psi_report_reader.proofs.OrderLemmas.{by_order}
 
 int-same : (y z : ℤ) → y ≡ z → int_eq y z ≡ true
 int-same y z same = (Decides-int_eq y z).1 same
@@ -50,19 +50,13 @@ abbrev AreSame : ℕ → List ℕ → List ℕ → Type 0
 AreSame i x s = (j : ℕ) → j < i → slice_index s j ≡ slice_index x j
 
 same-more : (i : ℕ) (x s : List ℕ) → AreSame i x s → pos (slice_index s i) ≡ pos (slice_index x i) → AreSame (i + 1) x s
-same-more i x s same here j less = elim (cases_order j i) [
-  | inl at ↦ rw at (omega (arith, ints))
-  | inr apart ↦ elim apart [
-    | inl before ↦ same j before
-    | inr past ↦ absurd (omega arith)
-  ]
-]
+same-more i x s same here j less = by_order j i
+    (λ at. rw at (omega (arith, ints)))
+    (λ before. same j before)
+    (λ past. absurd (omega arith))
 
 all-more : (i : ℕ) (x : List ℕ) (xs : List (List ℕ)) → All (AreSame i x) xs → All (λ s. pos (slice_index s i) ≡ pos (slice_index x i)) xs → All (AreSame (i + 1) x) xs
-all-more i x [] all here = All-nil (AreSame (i + 1) x)
-all-more i x (s ∷ xs) all here =
-    All-cons (AreSame (i + 1) x) s xs (same-more i x s (All-head (AreSame i x) s xs all) (All-head (λ s. pos (slice_index s i) ≡ pos (slice_index x i)) s xs here))
-    (all-more i x xs (All-tail (AreSame i x) s xs all) (All-tail (λ s. pos (slice_index s i) ≡ pos (slice_index x i)) s xs here))
+all-more i x xs all here j d less = same-more i x (slice_index_or xs j d) (all j d less) (here j d less)
 
 -- ---- figures
 
@@ -107,17 +101,12 @@ module _ (x : List ℕ) (xs : List (List ℕ)) where
 
 -- states within capacities that have the same numbers are one
 all-first : (caps x : List ℕ) (xs : List (List ℕ)) → length x ≡ length caps → All (λ s. IsBelow s caps) xs → All (AreSame (length caps) x) xs → All (λ s. s ≡ x) xs
-all-first caps x [] long below same = All-nil (λ s. s ≡ x)
-all-first caps x (s ∷ xs) long below same =
-    let own : IsBelow s caps = All-head (λ s. IsBelow s caps) s xs below in
-    let count = own.same_length in
-    let first : AreSame (length caps) x s = All-head (AreSame (length caps) x) s xs same in
-    All-cons (λ s. s ≡ x) s xs (same_number_lists s x (count ∙ sym long) (λ j less. first j (omega arith)))
-    (all-first caps x xs long (All-tail (λ s. IsBelow s caps) s xs below) (All-tail (AreSame (length caps) x) s xs same))
+all-first caps x xs long below same i d less =
+    let count = (below i d less).same_length in
+    same_number_lists (slice_index_or xs i d) x (count ∙ sym long) (λ j small. same i d less j (omega arith))
 
 all-none : (x : List ℕ) (xs : List (List ℕ)) → All (AreSame 0 x) xs
-all-none x [] = All-nil (AreSame 0 x)
-all-none x (s ∷ xs) = All-cons (AreSame 0 x) s xs (λ j less. absurd (omega arith)) (all-none x xs)
+all-none x xs i d less j few = absurd (omega arith)
 
 -- the figures of no samples
 sums-steady : (rs : List Quantity) (k : ℕ) (e : Figure) → varying_behind k e (flat_map (quantity_figures reward_trio []) rs) ≡ None

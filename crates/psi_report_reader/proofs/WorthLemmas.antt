@@ -2,7 +2,7 @@
 use Rattle.std.specs.Prelude.{◌≡◌, ℕ, suc, ◌+◌, ◌*◌, ◌≤◌, ℤ, pos, ◌+ℤ◌, List, [], ◌∷◌, ◌++◌, length, map, nat_lt, slice_index, slice_index_or, All, unsigned_abs, int_lt, Bool, true, false, None, refl}
 use Rattle.std.specs.List.{flat_map}
 use Rattle.std.proofs.Common.{inl, inr, arith}
-use Rattle.std.proofs.lemmas.Bool.{cases_order, cond_both, le-leb}
+use Rattle.std.proofs.lemmas.Bool.{cases_lt, cond_both, le-leb}
 use Rattle.std.proofs.lemmas.Int.{ints, unsigned_abs-mul}
 use Rattle.std.proofs.lemmas.List.{length-map, get_or_past}
 use Rattle.std.proofs.lemmas.List.Elements.{All-nil, All-cons, All-head, All-tail, All-map}
@@ -24,12 +24,9 @@ use Rattle.psi_report_reader.specs.Sound.{is_reward_value}
 
 -- a number of a state of these capacities
 pub held-few : (caps x : List ℕ) (i : ℕ) → AreCapacities caps → IsBelow x caps → slice_index x i ≤ 65535
-held-few caps x i are below = elim (cases_order i (length x)) [
-  | inl same ↦ (let none = get_or_past x i 0 (omega arith) in omega arith)
-  | inr apart ↦ elim apart [
-    | inl less ↦ (let here = below.each i less in let same = below.same_length in let most = are.most i (omega arith) in omega arith)
-    | inr more ↦ (let none = get_or_past x i 0 (omega arith) in omega arith)
-  ]
+held-few caps x i are below = elim (cases_lt i (length x)) [
+  | inl less ↦ (let here = below.each i less in let same = below.same_length in let most = are.most i (omega arith) in omega arith)
+  | inr past ↦ (let none = get_or_past x i 0 past in omega arith)
 ]
 
 -- the least and the greatest of values have what the values have
@@ -58,12 +55,9 @@ weighted-few weight v small few =
     omega arith
 
 entry-few : (row : List ℤ) (v : ℕ) → All IsSmall row → IsOne (entry row v)
-entry-few row v small = elim (cases_order v (length row)) [
-  | inl same ↦ (let none = get_or_past row v (pos 0) (omega arith) in rw none (omega arith))
-  | inr apart ↦ elim apart [
-    | inl less ↦ (let one : unsigned_abs (entry row v) ≤ 1000000000 = small v (pos 0) less in omega arith)
-    | inr more ↦ (let none = get_or_past row v (pos 0) (omega arith) in rw none (omega arith))
-  ]
+entry-few row v small = elim (cases_lt v (length row)) [
+  | inl less ↦ (let one : unsigned_abs (entry row v) ≤ 1000000000 = small v (pos 0) less in omega arith)
+  | inr past ↦ (let none = get_or_past row v (pos 0) past in rw none (omega arith))
 ]
 
 sum-few : (y z : ℤ) (n : ℕ) → IsOne y → unsigned_abs z ≤ n * 65535000000000 → unsigned_abs (y +ℤ z) ≤ suc n * 65535000000000
@@ -79,19 +73,19 @@ linear-few (weight ∷ weights) (v ∷ vs) small few =
     (weighted-few weight v (All-head IsSmall weight weights small) (All-head (λ n. n ≤ 65535) v vs few))
     (linear-few weights vs (All-tail IsSmall weight weights small) (All-tail (λ n. n ≤ 65535) v vs few))
 
-front : (xs ys : List ℤ) → All IsSmall (xs ++ ys) → All IsSmall xs
-front [] ys all = All-nil IsSmall
-front (x ∷ xs) ys all = All-cons IsSmall x xs (All-head IsSmall x (xs ++ ys) all) (front xs ys (All-tail IsSmall x (xs ++ ys) all))
+pub all-left : {A : Type 0} (P : A → Type 0) (xs ys : List A) → All P (xs ++ ys) → All P xs
+all-left P [] ys all = All-nil P
+all-left P (x ∷ xs) ys all = All-cons P x xs (All-head P x (xs ++ ys) all) (all-left P xs ys (All-tail P x (xs ++ ys) all))
 
-back : (xs ys : List ℤ) → All IsSmall (xs ++ ys) → All IsSmall ys
-back [] ys all = all
-back (x ∷ xs) ys all = back xs ys (All-tail IsSmall x (xs ++ ys) all)
+pub all-right : {A : Type 0} (P : A → Type 0) (xs ys : List A) → All P (xs ++ ys) → All P ys
+all-right P [] ys all = all
+all-right P (x ∷ xs) ys all = all-right P xs ys (All-tail P x (xs ++ ys) all)
 
 table-few : (table : List (List ℤ)) (vs : List ℕ) → All IsSmall (flat_map (λ row. row) table) → unsigned_abs (added (map entry table) vs) ≤ length vs * 65535000000000
 table-few [] vs small = omega (arith, ints)
 table-few (row ∷ table) [] small = omega (arith, ints)
 table-few (row ∷ table) (v ∷ vs) small =
-    sum-few (entry row v) (added (map entry table) vs) (length vs) (entry-few row v (front row (flat_map (λ r. r) table) small)) (table-few table vs (back row (flat_map (λ r. r) table) small))
+    sum-few (entry row v) (added (map entry table) vs) (length vs) (entry-few row v (all-left IsSmall row (flat_map (λ r. r) table) small)) (table-few table vs (all-right IsSmall row (flat_map (λ r. r) table) small))
 
 -- a worth of at most 32 queues
 abbrev IsFew : ℤ → Type 0

@@ -44,8 +44,8 @@ reward-is = record {
 worth-is : worth_of kind caps ≡ pos 2097120000000000
 worth-is = refl
 
-pub worths-reached : WorthsAreReached
-worths-reached z is = record {
+pub worths_reached : WorthsAreReached
+worths_reached z is = record {
   caps = caps;
   capacities = capacities_kept (replicate 32 full) listed;
   kind = kind;

@@ -4,7 +4,7 @@ ghost use Rattle.std.specs.Prelude.{◌≡◌, ◌<◌, length, All, IfOk, IfErr
 ghost use Rattle.psi_state.specs.State.{AreCapacities};
 ghost use Rattle.psi_reward.specs.Ranges.{least, greatest};
 ghost use Rattle.psi_reward.specs.Refusing.{queues_of, numbers_of, IsSmall, IsValid, refusal_of, has_lengths};
-ghost use Rattle.psi_reward.specs.Worth.{worth_of};
+ghost use Rattle.psi_reward.specs.Worth.{worth_of, is_linear};
 
 use crate::checks::has_rows;
 use crate::extremes::{count_above, greatest_held, least_held};
@@ -55,6 +55,16 @@ impl Reward {
             return Err(RewardRefusal::Length);
         }
         Ok(Reward { caps, kind })
+    }
+
+    /// Returns whether it is the sum of weight times number held, as [`RewardKind::Linear`] says.
+    pub fn is_linear(&self) -> bool
+        ensures { result ≡ is_linear (reward_kind self.now) }
+    {
+        match &self.kind {
+            RewardKind::Linear { .. } => true,
+            _ => false,
+        }
     }
 }
 

@@ -8,7 +8,7 @@ use Rattle.psi_event.proofs.ChoiceLemmas.{all_or_some, first_some-none, first_so
 use Rattle.psi_event.specs.Choice.{first_some}
 use Rattle.psi_route.specs.Routing.{Routing, has_room, beats, best_at, best, taken, moved, act, IsRouting, HasRoom, Lacks, IsBest, IsPassed, Leaves, Remains, Routed}
 use Rattle.psi_route.specs.Acting.{Leads, NoRoom}
-use Rattle.psi_route.specs.ActingLaws.{act-idle, act-serves}
+use Rattle.psi_route.specs.Inner.ActingLaws.{act-idle, act-serves}
 
 pub then_some-true : {A : Type 0} (b : Bool) (a : A) → b ≡ true → then_some b a ≡ Some a
 then_some-true b a is = ap (λ t. then_some t a) is

@@ -4,7 +4,7 @@ use Rattle.std.proofs.lemmas.Bool.{leb-true, leb-false}
 use Rattle.psi_route.specs.Routing.{Shape, routing, best, taken, moved, routed, HasRoom}
 use Rattle.psi_route.specs.Acting.{Leads, NoRoom}
 use Rattle.psi_route.proofs.ActingLemmas.{best-from_leads, best-is, best-none}
-use Rattle.psi_route.specs.ActingLaws.{best-place, act-serves, act-idle}
+use Rattle.psi_route.specs.Inner.ActingLaws.{best-place, act-serves, act-idle}
 use Rattle.psi_route.proofs.PlainLemmas.{first_best}
 use Rattle.psi_route.specs.Leader.{IsLeader}
 use Rattle.psi_route.specs.declared.keys.Leader.{Leader}

@@ -10,7 +10,7 @@ use Rattle.psi_event.specs.Piecewise.{is_on, all_on, first_on, second_on, IsSum,
 use Rattle.psi_event.proofs.TestingLemmas.{set-on, sum-by}
 use Rattle.psi_route.specs.Routing.{Shape, routing, act, routed, taken, HasRoom, Lacks}
 use Rattle.psi_route.specs.Acting.{NoRoom}
-use Rattle.psi_route.specs.ActingLaws.{act-idle}
+use Rattle.psi_route.specs.Inner.ActingLaws.{act-idle}
 use Rattle.psi_route.specs.Accepted.{IsRouteShape}
 use Rattle.psi_route.specs.Pieces.{for_source, for_target, serving, on_side, bound_of, choosing, Stays}
 use Rattle.psi_route.proofs.AcceptedLemmas.{routing-is}

@@ -8,7 +8,7 @@ use Rattle.psi_event.specs.Law.{IsMonotone, IsUpset, ShowsUpset}
 use Rattle.psi_event.proofs.ChoiceLemmas.{first_some-of_none, first_some-of_found}
 use Rattle.psi_route.specs.Routing.{Shape, Routing, routing, routed, act, Lacks, IsBest, IsPassed, crosses, Crosses, full_but, pair_of, pair_at, pair_from, pair_between, pair_behind, first_pair, batch_pair, upset_of}
 use Rattle.psi_route.proofs.ActingLemmas.{act-routed, false-then_some}
-use Rattle.psi_route.specs.ActingLaws.{true-then_some}
+use Rattle.psi_route.specs.Inner.ActingLaws.{true-then_some}
 use Rattle.psi_route.specs.Accepted.{IsRouteShape}
 use Rattle.psi_route.proofs.AcceptedLemmas.{routing-is, source-most}
 use Rattle.psi_route.proofs.MonotoneLemmas.{ordered-without}

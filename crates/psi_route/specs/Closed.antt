@@ -7,7 +7,7 @@ use Rattle.psi_state.specs.State.{IsBelow}
 use Rattle.psi_state.proofs.BoxesLemmas.{set-below}
 use Rattle.psi_event.specs.Law.{IsClosed}
 use Rattle.psi_route.specs.Routing.{Shape, Routing, routing, best, taken, moved, routed}
-use Rattle.psi_route.specs.ActingLaws.{act-idle, act-serves, best-place}
+use Rattle.psi_route.specs.Inner.ActingLaws.{act-idle, act-serves, best-place}
 
 pub taken-below : (r : Routing) (x y : List ℕ) → IsBelow x y → IsBelow (taken r x) y
 taken-below r x y below =

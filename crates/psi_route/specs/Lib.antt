@@ -2,7 +2,7 @@
 pub mod Routing
 pub mod Refusals
 pub mod Acting
-pub mod ActingLaws
+pub mod Inner
 pub mod Accepted
 pub mod Closed
 pub mod Route

@@ -3,7 +3,6 @@ pub mod EndingsLemmas
 pub mod AboutsLemmas
 pub mod ReplayingLemmas
 pub mod AskedLemmas
-pub mod EdgeLemmas
 pub mod HeadlineLemmas
 pub mod ReadFilesLemmas
 pub mod FinishingLemmas

@@ -5,7 +5,7 @@ use Rattle.std.proofs.lemmas.Bool.{cases_lt, lt-leb}
 use Rattle.std.proofs.lemmas.List.{take_all, length-take-le}
 use Rattle.psi_log_format.specs.Log.{Certificate}
 use Rattle.psi_log_words.specs.Refusal.{Refusal, refused}
-use Rattle.psi_log_words.specs.declared.refusals.Cause.TheVariants.{TooLong}
+use Rattle.psi_log_words.specs.declared.refusals.LogCause.TheVariants.{TooLong}
 use Rattle.psi_log.specs.Reading.{read}
 use Rattle.psi_replay.specs.Verdict.{verdict_of}
 use Rattle.psi_net_model.specs.Network.{Network}

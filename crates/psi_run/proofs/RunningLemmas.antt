@@ -5,7 +5,7 @@ use Rattle.psi_io.specs.Sink.{appended}
 use Rattle.psi_program.specs.Seen.{ShelfSeen, IsUnread}
 use Rattle.psi_program.specs.Written.{IsWrittenAs}
 use Rattle.psi_program.specs.Call.{Call}
-use Rattle.psi_program.proofs.RunningLemmas.{IsProgram, runs}
+use Rattle.psi_program.proofs.RunningLemmas.{AreStatuses, IsProgram, runs}
 use Rattle.psi_reply.specs.Lines.{unread_line}
 use Rattle.psi_net_model.specs.Network.{Network}
 use Rattle.psi_net.specs.Reading.{network_of}
@@ -25,7 +25,8 @@ use Rattle.psi_run.specs.Ending.{IsMeant, IsCaused, IsEnding}
 use Rattle.psi_run.specs.Call.{reply_to_call, IsCommand, ReadFailed, unread_line_of, IsRun}
 use Rattle.psi_run.proofs.ReadFilesLemmas.{asked_cut}
 
-ok-not_err : {A B : Type 0} (r : Result A B) → IsOk r → IsErr r → ⊥
+-- a result is not both
+pub ok-not_err : {A B : Type 0} (r : Result A B) → IsOk r → IsErr r → ⊥
 ok-not_err (Ok a) ok err = absurd cc
 ok-not_err (Err b) ok err = absurd cc
 
@@ -78,6 +79,19 @@ printed-replied ending.Done printed = tt
 printed-replied ending.NotCoupled printed = tt
 printed-replied status printed = absurd printed
 
+pub are-statuses : AreStatuses ending.ReadFault ending.WriteFault ending.OutOfMemory ending.Usage IsReplied IsReported IsPrinted
+are-statuses = record {
+  usage_replied = tt;
+  no_read = λ kind. kind;
+  no_write = λ kind. kind;
+  no_memory = λ kind. kind;
+  read_write = λ e. absurd cc;
+  read_memory = λ e. absurd cc;
+  write_memory = λ e. absurd cc;
+  silent = λ kind. kind;
+  printed = printed-replied;
+}
+
 read-ok : (command : Result Command ℕ) (file : File) → IsRead command file → IsOk command
 read-ok (Ok command) file read = refl
 read-ok (Err place) file read = absurd read
@@ -90,15 +104,7 @@ module _ (call : Call) where
 
   is-program : IsProgram faults ending.Usage IsReplied IsReported IsPrinted (IsReplyTo asked) call (reply_to_call call) (unread_line_of call) (IsCommand call) (IsErr asked)
   is-program = record {
-    usage_replied = tt;
-    read_fault = λ kind. kind;
-    write_fault = λ kind. kind;
-    out_of_memory = λ kind. kind;
-    read_write = λ e. absurd cc;
-    read_memory = λ e. absurd cc;
-    write_memory = λ e. absurd cc;
-    silent = λ kind. kind;
-    printed = printed-replied;
+    statuses = are-statuses;
     own = λ given is. record {
       replied = reply-replied asked given is;
       other = reply-usage asked given is;

@@ -4,9 +4,9 @@ use Rattle.psi_io.specs.Sink.{appended}
 use Rattle.psi_command.specs.Command.{Command}
 use Rattle.psi_run.specs.Reply.{reply_to, IsReplyTo}
 use Rattle.psi_program.specs.Seen.{ShelfSeen, ShelfCall, seen_with, AgreesWith}
-use Rattle.psi_run.specs.Reads.{IsMissed, AreAsked}
+use Rattle.psi_run.specs.Reads.{IsMissed, AreAsked, AreGiven}
 use Rattle.psi_run.specs.Means.{Means}
-use Rattle.psi_program.specs.Ending.{replied, MayReply, IsCaused as IsCausedBy}
+use Rattle.psi_program.specs.Ending.{replied, MayReply, IsCaused as IsCausedBy, HasRead}
 use Rattle.psi_reply.specs.Ending.{Ending, ending_reply}
 
 -- the cause of each ending: a reply is one that the words can have, a file is missed, or an allocation failed in the work for a command
@@ -29,3 +29,8 @@ pub record IsEnding (shelf : ShelfSeen) (command : Result Command ℕ) (ending :
 abbrev pub IsEndingOf : ShelfCall → Result Command ℕ → Ending → Type 0
 IsEndingOf call command ending = (told : List ℕ → Option (List ℕ)) → AgreesWith told call
     → IsEnding (seen_with call told) command ending × AreAsked (seen_with call told) command (ending_reply ending).status
+
+-- and where the shelf gives each file that is named, no read failed
+pub record EndsAnyhow (call : ShelfCall) (gives : List ℕ → Type 0) (command : Result Command ℕ) (ending : Ending) : Type 0 where
+  pub any : IsEndingOf call command ending
+  pub read : AreGiven gives command → HasRead ending

@@ -1,6 +1,6 @@
 -- A run of the program, by what crossed its edges.
 use Rattle.std.specs.Prelude.{◌≡◌, ℕ, List, [], Option, Some, Ok}
-use Rattle.psi_program.specs.Run.{Run, Agrees, call_of}
+use Rattle.psi_program.specs.Run.{Run, IsRunBy, call_of}
 use Rattle.psi_command.specs.declared.status.Status.{Status}
 use Rattle.psi_command.specs.Status.{status_code, IsReplied}
 use Rattle.psi_command.specs.Command.{Command}
@@ -15,7 +15,5 @@ pub record IsRight (told : List ℕ → Option (List ℕ)) (run : Run) (result :
   pub means : (command : Command) → command_of run.words ≡ Ok command → IsReplied result → Means command told (Some []) (Some run.out) result
 
 -- a run of the program: it has a status, and is right whatever the files hold of which the answers are prefixes
-pub record IsRunOf (run : Run) : Type 0 where
-  pub result : Status
-  pub code : status_code result ≡ run.status
-  pub right : (told : List ℕ → Option (List ℕ)) → Agrees told run.given → IsRight told run result
+abbrev pub IsRunOf : Run → Type 0
+IsRunOf run = IsRunBy status_code IsRight run

@@ -9,7 +9,7 @@ ghost use Rattle.psi_program.specs.Ending.{HasRead};
 ghost use Rattle.psi_program.specs.Finished.{IsFinished};
 ghost use Rattle.psi_run.specs.Reads.{read_of, AreGiven};
 ghost use Rattle.psi_reply.specs.Ending.{faults};
-ghost use Rattle.psi_run.specs.Ending.{IsEnding, IsEndingOf};
+ghost use Rattle.psi_run.specs.Ending.{IsEnding, IsEndingOf, EndsAnyhow};
 ghost use Rattle.psi_reply.specs.Ended.{ending_of};
 ghost use Rattle.psi_run.specs.Files.{IsNetAt};
 
@@ -40,7 +40,7 @@ pub(crate) fn perform<F: Shelf, O: Sink, E: Sink>(
     // failed.
     ensures finished { let command = Ok (requested request.entry) in
         let seen : ShelfCall = record { gave_before = F.gave shelf.old; gave_after = F.gave shelf.new; asked_before = F.asked shelf.old; asked_after = F.asked shelf.new; faults_before = F.faults shelf.old; faults_after = F.faults shelf.new } in
-        IsFinished faults (λ ending. IsEndingOf seen command ending × (AreGiven (F.gives shelf.old) command → HasRead ending))
+        IsFinished faults (EndsAnyhow seen (F.gives shelf.old) command)
         (O.takes out.old) (E.takes err.old)
         (record { before = O.held out.old; after = O.held out.new; took_before = O.took out.old; took_after = O.took out.new; faults_before = O.faults out.old; faults_after = O.faults out.new })
         (record { before = E.held err.old; after = E.held err.new; took_before = E.took err.old; took_after = E.took err.new; faults_before = E.faults err.old; faults_after = E.faults err.new })

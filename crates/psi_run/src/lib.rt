@@ -19,4 +19,3 @@ pub use files::network_at;
 pub use laws::samples_are_right;
 pub use program::run;
 pub use psi_command::Status;
-pub use writing::line_of;

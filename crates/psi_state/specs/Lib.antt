@@ -7,6 +7,6 @@ pub mod Hull
 pub mod Volume
 pub mod Listing
 pub mod Ascending
-pub mod ArraysKept
+pub mod Inner
 pub mod Hashing
 pub mod Repeats

@@ -33,7 +33,7 @@ impl Model for Queues {
 
     ghost inverse = { λ xs. record { items = xs ++ replicate (32 - length xs) 0; len = length xs } };
 
-    ghost use Rattle.psi_state.specs.ArraysKept.{padded_queues};
+    ghost use Rattle.psi_state.specs.Inner.ArraysKept.{padded_queues};
 
     ghost inverse_ok = { λ a h. padded_queues a.items a.len h.0 h.1 h.2 };
 }

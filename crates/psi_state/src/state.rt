@@ -38,7 +38,7 @@ impl Model for State {
 
     ghost inverse = { λ xs. record { values = xs ++ replicate (32 - length xs) 0; len = length xs } };
 
-    ghost use Rattle.psi_state.specs.ArraysKept.{padded};
+    ghost use Rattle.psi_state.specs.Inner.ArraysKept.{padded};
 
     ghost inverse_ok = { λ a h. padded a.values a.len h.1 h.2 h.3 };
 }

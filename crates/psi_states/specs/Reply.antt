@@ -2,7 +2,7 @@
 use Rattle.std.specs.Prelude.{ℕ, List, codes, Option, None, Result, Ok, Err}
 use Rattle.psi_command.specs.Tables.{Table, table_of}
 use Rattle.psi_reply.specs.Reply.{Reply}
-use Rattle.psi_streams.specs.Asked.{Asked, Program}
+use Rattle.psi_streams.specs.Asked.{Asked, TableProgram}
 use Rattle.psi_streams.specs.Reply.{reply_to as reply_under}
 
 -- what is asked for: the table of samples of the words, or the place of the word that offends
@@ -11,7 +11,7 @@ asked_of (Ok table) = Ok (record { table = table; steps = None })
 asked_of (Err place) = Err place
 
 -- the program
-abbrev pub states : Program
+abbrev pub states : TableProgram
 states = record { name = codes "psi_states"; asked = λ words. asked_of (table_of words) }
 
 -- the reply to words, where the shelf tells the network file

@@ -9,6 +9,7 @@ ghost use Rattle.psi_command.specs.Status.{status_code, IsReplied};
 ghost use Rattle.psi_command.specs.Tables.{Table, table_of};
 ghost use Rattle.psi_reply.specs.Reply.{Reply};
 ghost use Rattle.psi_streams.specs.Asked.{seen_result, IsInRange};
+ghost use Rattle.psi_streams.specs.SeenBy.{sink_seen};
 ghost use Rattle.psi_states.specs.Reply.{asked_of, reply_to};
 ghost use Rattle.psi_states.specs.Means.{IsTableOf, Means};
 ghost use Rattle.psi_states.specs.Seen.{IsGiven};
@@ -70,8 +71,8 @@ pub(crate) fn run<F: Shelf, O: Sink, E: Sink>(
     ensures call { IsRun (record {
       words = map string_bytes words.now;
       shelf = record { told = F.told shelf.old; asked_before = F.asked shelf.old; asked_after = F.asked shelf.new; faults_before = F.faults shelf.old; faults_after = F.faults shelf.new };
-      out = record { before = O.held out.old; after = O.held out.new; took_before = O.took out.old; took_after = O.took out.new; faults_before = O.faults out.old; faults_after = O.faults out.new };
-      err = record { before = E.held err.old; after = E.held err.new; took_before = E.took err.old; took_after = E.took err.new; faults_before = E.faults err.old; faults_after = E.faults err.new };
+      out = sink_seen O.held O.took O.faults out.old out.new;
+      err = sink_seen E.held E.took E.faults err.old err.new;
     }) result }
 
     // The headline: where the words ask for the table of a network's samples, the shelf tells a file that reads as a

@@ -1,25 +1,23 @@
 -- The report of samples is that of what the rows of their table tell.
-use Rattle.std.specs.Prelude.{◌≡◌, ℕ, zero, suc, ◌+◌, ℤ, pos, List, [], ◌∷◌, ◌++◌, map, length, replicate, slice_index_or, Option, Some, None, refl}
+use Rattle.std.specs.Prelude.{◌≡◌, ℕ, suc, ◌+◌, ℤ, pos, List, [], ◌∷◌, ◌++◌, map, length, replicate, slice_index_or, Option, refl}
 use Rattle.std.specs.Fmt.{decimal, signed_decimal}
-use Rattle.std.specs.List.{flat_map, slice_get}
-use Rattle.std.proofs.Common.{sym, ap, ◌∙◌, append_assoc, append-nil, arith}
+use Rattle.std.specs.List.{flat_map}
+use Rattle.std.proofs.Common.{sym, ap, ◌∙◌, append_assoc, append-nil}
 use Rattle.std.proofs.lemmas.List.{length-map}
-use Rattle.psi_state.specs.State.{numbers_from}
 use Rattle.psi_state.specs.declared.Outcome.{Outcome}
 use Rattle.psi_state.specs.declared.Outcome.TheVariants.{Met, NotMet}
 use Rattle.psi_net_model.specs.Network.{Network}
 use Rattle.psi_report.specs.declared.figure.Figure.{Figure}
-use Rattle.psi_report.specs.Contents.{Contents}
 use Rattle.psi_report.specs.Distinct.{distinct}
 use Rattle.psi_report.specs.Samples.{met_states, met_horizons}
 use Rattle.psi_report.specs.Quantities.{Quantity, queue_quantities, reward_quantities}
 use Rattle.psi_report.specs.Report.{Trio, horizon_count, queue_trio, reward_trio, figures_of, quantity_figures, contents_of}
 use Rattle.psi_report.specs.Text.{text_of}
-use Rattle.psi_reply.specs.Sample.{sampled}
 use Rattle.psi_reply.specs.Report.{samples_of}
+use Rattle.psi_reply.proofs.ReportingLemmas.{samples_number, samples_append}
 use Rattle.psi_table.specs.Table.{quantities, value_fields, table_text}
 use Rattle.psi_table.proofs.TableLemmas.{table_joined}
-use Rattle.psi_states_laws.specs.Told.{Told, told_of, told_fields, met_rows, column, column_figures, told_contents}
+use Rattle.psi_states_laws.specs.Told.{Told, told_of, met_rows, column, column_figures, told_contents}
 use Rattle.psi_states_laws.specs.Statements.{TablesAreJoined, PrintedAreJoined, RowsTell, ReportsAreOfTables}
 
 -- ---- joined ranges
@@ -27,25 +25,10 @@ use Rattle.psi_states_laws.specs.Statements.{TablesAreJoined, PrintedAreJoined, 
 pub tables_joined : TablesAreJoined
 tables_joined net first xs ys = table_joined net first xs ys
 
-samples-number : (net : Network) (seed first count : ℕ) → length (samples_of net seed first count) ≡ count
-samples-number net seed first zero = refl
-samples-number net seed first (suc count) = ap suc (samples-number net seed (suc first) count)
-
-samples-append : (net : Network) (seed first m n : ℕ) → samples_of net seed first (m + n) ≡ samples_of net seed first m ++ samples_of net seed (first + m) n
-samples-append net seed first zero n =
-    let none : 0 + n ≡ n = omega arith in
-    let same : first ≡ first + 0 = omega arith in
-    ap (samples_of net seed first) none ∙ ap (λ f. samples_of net seed f n) same
-samples-append net seed first (suc m) n =
-    let more : suc m + n ≡ suc (m + n) = omega arith in
-    let same : suc first + m ≡ first + suc m = omega arith in
-    ap (samples_of net seed first) more
-    ∙ ap (λ (os : List Outcome). sampled net seed first ∷ os) (samples-append net seed (suc first) m n ∙ ap (λ f. samples_of net seed (suc first) m ++ samples_of net seed f n) same)
-
 pub printed_joined : PrintedAreJoined
 printed_joined net seed first m n =
-    let count = samples-number net seed first m in
-    ap (table_text net first) (samples-append net seed first m n)
+    let count = samples_number net seed first m in
+    ap (table_text net first) (samples_append net seed first m n)
     ∙ rw count at (table_joined net first (samples_of net seed first m) (samples_of net seed (first + m) n))
 
 -- ---- what rows tell

@@ -1,6 +1,6 @@
 -- What a call is seen to do, from an ending and how it was written.
-use Rattle.std.specs.Prelude.{◌≡◌, ℕ, List, Option, Some, Result, Ok, Err, IsOk, ◌⊎◌, refl}
-use Rattle.std.proofs.Common.{inl, inr, sym, subst}
+use Rattle.std.specs.Prelude.{◌≡◌, ℕ, List, Option, Some, Ok, Err, IsOk, ◌⊎◌, refl}
+use Rattle.std.proofs.Common.{inl, inr, subst}
 use Rattle.psi_io.specs.Shelf.{Read, Given}
 use Rattle.psi_program.specs.Seen.{ShelfCall, seen_with, AgreesWith, SinkSeen, HasFailed, IsUnread}
 use Rattle.psi_program.specs.Finished.{IsFinished}
@@ -8,49 +8,31 @@ use Rattle.psi_program.specs.Ending.{replied}
 use Rattle.psi_program.specs.Call.{Call}
 use Rattle.psi_program.proofs.SparingLemmas.{spared}
 use Rattle.psi_program.proofs.FinishingLemmas.{finished_with}
+use Rattle.psi_program.proofs.EdgeLemmas.{unasked, HasRunIn, edge, texts, finished_alone}
 use Rattle.psi_command.specs.declared.status.Status.{Status}
 use Rattle.psi_command.specs.declared.status.Status.TheVariants as status
-use Rattle.psi_command.specs.Status.{IsReplied}
+use Rattle.psi_command.specs.Status.{status_code, IsReplied}
 use Rattle.psi_reply.specs.Reply.{Reply, usage_reply}
-use Rattle.psi_streams.specs.Asked.{Asked, Program, seen_asked, seen_result}
-use Rattle.psi_streams.specs.declared.program.Asked.{Asked as Own}
+use Rattle.psi_streams.specs.Asked.{Asked, TableProgram}
 use Rattle.psi_streams.specs.Named.{named_reply, faults}
 use Rattle.psi_streams.specs.Reply.{reply_to}
 use Rattle.psi_streams.specs.Means.{Means}
 use Rattle.psi_streams.specs.Seen.{IsGiven}
 use Rattle.psi_streams.specs.Ended.{IsEndingOf}
 use Rattle.psi_streams.specs.Call.{AreTaken, IsRun}
+use Rattle.psi_streams.specs.Run.{IsRight, IsRunOf}
 use Rattle.psi_streams.proofs.EndingsLemmas.{no_table}
 use Rattle.psi_streams.proofs.RunningLemmas.{run_is, run_means, run_headline}
 
-module _ (name : List ℕ) (shelf : ShelfCall) (gives : List ℕ → Type 0) (out_takes err_takes : ℕ → Type 0) (out err : SinkSeen) (result : Status) where
-  -- what was done for what is asked was done for the words that ask it
-  pub finished_words : (words asked : Result Asked ℕ) → words ≡ asked → IsFinished (faults name) (IsEndingOf name shelf gives asked) out_takes err_takes out err result
-      → IsFinished (faults name) (IsEndingOf name shelf gives words) out_takes err_takes out err result
-  finished_words words asked same finished =
-      subst (λ (w : Result Asked ℕ). IsFinished (faults name) (IsEndingOf name shelf gives w) out_takes err_takes out err result) (sym same) finished
+-- words that don't ask for a table end with the place of the word that offends, and the shelf isn't asked
+pub finished_usage : (name : List ℕ) (gave : List Given) (asked : List Read) (counts : List ℕ → ℕ) (place : ℕ) {gives : List ℕ → Type 0} {out_takes err_takes : ℕ → Type 0}
+    {out err : SinkSeen} {result : Status} → IsFinished (faults name) (λ ending. ending ≡ replied (named_reply name (usage_reply place))) out_takes err_takes out err result
+    → IsFinished (faults name) (IsEndingOf name (unasked gave asked counts) gives (Err place)) out_takes err_takes out err result
+finished_usage name gave asked counts place {gives = gives} finished =
+    finished_with _ (IsEndingOf name (unasked gave asked counts) gives (Err place)) _ _ _ _ _ finished
+    (record { any = λ told agrees. no_table name (seen_with (unasked gave asked counts) told) place refl; read = λ given. tt })
 
-  -- what was done for a table was done for the call that asks for it
-  pub finished_table : (call : Result Own ℕ) (own : Own) → call ≡ Ok own
-      → IsFinished (faults name) (IsEndingOf name shelf gives (Ok (seen_asked own))) out_takes err_takes out err result
-      → IsFinished (faults name) (IsEndingOf name shelf gives (seen_result call)) out_takes err_takes out err result
-  finished_table call own is finished =
-      subst (λ (r : Result Own ℕ). IsFinished (faults name) (IsEndingOf name shelf gives (seen_result r)) out_takes err_takes out err result) (sym is) finished
-
--- words that don't ask for a table end with the place of the word that offends, and a shelf that isn't asked is seen as it was
-module _ (name : List ℕ) (gave : List Given) (asked : List Read) (counts : List ℕ → ℕ) where
-  abbrev pub unasked : ShelfCall
-  unasked = record { gave_before = gave; gave_after = gave; asked_before = asked; asked_after = asked; faults_before = counts; faults_after = counts }
-
-  pub finished_usage : (call : Result Own ℕ) (place : ℕ) (gives : List ℕ → Type 0) (out_takes err_takes : ℕ → Type 0) (out err : SinkSeen) (result : Status)
-      → call ≡ Err place → IsFinished (faults name) (λ ending. ending ≡ replied (named_reply name (usage_reply place))) out_takes err_takes out err result
-      → IsFinished (faults name) (IsEndingOf name unasked gives (seen_result call)) out_takes err_takes out err result
-  finished_usage call place gives out_takes err_takes out err result wrong finished =
-      subst (λ (r : Result Own ℕ). IsFinished (faults name) (IsEndingOf name unasked gives (seen_result r)) out_takes err_takes out err result) (sym wrong)
-      (finished_with (replied (named_reply name (usage_reply place))) (IsEndingOf name unasked gives (Err place)) out_takes err_takes out err result finished
-      (record { any = λ told agrees. no_table name (seen_with unasked told) place refl; read = λ given. tt }))
-
-module _ (program : Program) (words : List (List ℕ)) (shelf : ShelfCall) (gives : List ℕ → Type 0) (out_takes err_takes : ℕ → Type 0) (out err : SinkSeen) (result : Status)
+module _ (program : TableProgram) (words : List (List ℕ)) {shelf : ShelfCall} {gives : List ℕ → Type 0} {out_takes err_takes : ℕ → Type 0} {out err : SinkSeen} {result : Status}
     (finished : IsFinished (faults program.name) (IsEndingOf program.name shelf gives (program.asked words)) out_takes err_takes out err result)
     (told : List ℕ → Option (List ℕ)) (agrees : AgreesWith told shelf) where
   abbrev call : Call
@@ -80,3 +62,12 @@ module _ (program : Program) (words : List (List ℕ)) (shelf : ShelfCall) (give
   finished_spared reply there given taken =
       let ends = finished.is.any told agrees in
       spared (faults program.name) _ _ (IsOk (program.asked words)) _ reply there out_takes err_takes taken result finished.ending ends.reply ends.cause (finished.is.read given) finished.taken
+
+-- what crossed in the call is a run, where some contents of files agree with the answers
+pub finished_edge : (program : TableProgram) (words : List (List ℕ)) {shelf : ShelfCall} {gives : List ℕ → Type 0} {out_takes err_takes : ℕ → Type 0} {out err : SinkSeen} {result : Status}
+    → IsFinished (faults program.name) (IsEndingOf program.name shelf gives (program.asked words)) out_takes err_takes out err result
+    → (told : List ℕ → Option (List ℕ)) → AgreesWith told shelf
+    → HasRunIn (IsRunOf program) words shelf out err (status_code result)
+finished_edge program words {shelf = shelf} {out = out} {err = err} {result = result} finished =
+    edge status_code words shelf out err result (texts finished) (IsRight program)
+    (λ told given agrees. record { call = finished_run program words (finished_alone finished) told agrees; means = finished_means program words (finished_alone finished) told agrees })

@@ -5,5 +5,5 @@ pub mod StatesLemmas
 pub mod EndingsLemmas
 pub mod RunningLemmas
 pub mod FinishingLemmas
-pub mod EdgeLemmas
 pub mod WalkingLemmas
+pub mod AdditiveLemmas

@@ -14,16 +14,13 @@ use Rattle.psi_command.specs.Command.{File}
 use Rattle.psi_reply.specs.Lines.{unread_line}
 use Rattle.psi_reply.specs.Reply.{Reply}
 use Rattle.psi_reply.specs.Ending.{Ending}
-use Rattle.psi_streams.specs.Asked.{Asked, Program}
+use Rattle.psi_run.proofs.RunningLemmas.{ok-not_err, are-statuses}
+use Rattle.psi_streams.specs.Asked.{Asked, TableProgram}
 use Rattle.psi_streams.specs.Named.{named_line, faults}
 use Rattle.psi_streams.specs.Reply.{IsOfTable, IsReplyTo}
 use Rattle.psi_streams.specs.Means.{Means}
 use Rattle.psi_streams.specs.Ended.{IsCaused, IsMeant, IsEnding}
 use Rattle.psi_streams.specs.Call.{reply_to_call, HasTable, ReadFailed, unread_line_of, IsStatusOf, IsRun}
-
-ok-not_err : {A B : Type 0} (r : Result A B) → IsOk r → IsErr r → ⊥
-ok-not_err (Ok a) ok err = absurd cc
-ok-not_err (Err b) ok err = absurd cc
 
 -- ---- what is known of a reply
 
@@ -60,31 +57,16 @@ module _ (name : List ℕ) where
   reply-kind (Ok asked) reply result is same = subst (IsOfTable asked.table.total) same is.status
   reply-kind (Err place) reply result is same = sym same ∙ ap (λ (r : Reply). r.status) is
 
--- ---- what is known of the statuses
-
-printed-replied : (s : Status) → IsPrinted s → IsReplied s
-printed-replied status.Done printed = tt
-printed-replied status.NotCoupled printed = tt
-printed-replied s printed = absurd printed
-
 -- ---- a call
 
-module _ (program : Program) (call : Call) where
+module _ (program : TableProgram) (call : Call) where
   abbrev words : Result Asked ℕ
   words = program.asked call.words
 
   is-program : IsProgram (faults program.name) status.Usage IsReplied IsReported IsPrinted (IsReplyTo program.name words) call (reply_to_call program call) (unread_line_of program call)
       (HasTable program call) (IsErr words)
   is-program = record {
-    usage_replied = tt;
-    read_fault = λ kind. kind;
-    write_fault = λ kind. kind;
-    out_of_memory = λ kind. kind;
-    read_write = λ e. absurd cc;
-    read_memory = λ e. absurd cc;
-    write_memory = λ e. absurd cc;
-    silent = λ kind. kind;
-    printed = printed-replied;
+    statuses = are-statuses;
     own = λ given is. record {
       replied = reply-replied program.name words given is;
       other = reply-usage program.name words given is;

@@ -4,19 +4,26 @@ use Rattle.std.specs.Cmp.Lexicographic.{pointwise}
 use Rattle.std.proofs.Common.{sym, ap, ◌∙◌, subst, arith}
 use Rattle.std.proofs.lemmas.List.{length-map}
 use Rattle.psi_state.specs.State.{IsBelow}
+use Rattle.psi_event.specs.Law.{Function}
 use Rattle.psi_past.specs.SeedWord.{seed_word}
 use Rattle.psi_reward.specs.Worth.{worth_of}
-use Rattle.psi_rate.specs.Composition.{Parts, picked}
+use Rattle.psi_rate.specs.Composition.{SystemParts, picked}
 use Rattle.psi_path.specs.Path.{Path, first_place, path_of, state_of, event_after, is_changed}
-use Rattle.psi_path.specs.Sums.{Worth, Sums, HasCounts, worth_at, sum_until, integers_until, count_until, customers_until, worth_until, chosen_until, changed_until}
+use Rattle.psi_path.specs.Sums.{Worth, Sums, HasCounts, ArePathSums, worth_at, sum_until, integers_until, count_until, customers_until, worth_until, chosen_until, changed_until}
 use Rattle.psi_net_model.specs.Network.{Network, NamedReward, caps_of, rates_of, functions_of}
 use Rattle.psi_net_model.specs.Valid.{IsNetwork}
 use Rattle.psi_net_model.specs.Made.{EachDoes}
 use Rattle.psi_net_model.specs.declared.entries.Queue.{Queue}
 use Rattle.psi_net_model.specs.declared.entries.NamedEvent.{NamedEvent}
+use Rattle.psi_kinds.specs.Kinds.{do_kind}
+use Rattle.psi_path_packed.proofs.AgreeLemmas.{walk-agrees}
+use Rattle.psi_path_table.proofs.TableLemmas.{table-agree}
 use Rattle.psi_reply.specs.Sample.{functions_by_time}
 use Rattle.psi_reply.proofs.SamplingLemmas.{functions_by_time-closed, functions-alike}
 use Rattle.psi_table.specs.Paths.{stream_path, worths_of, AreSumsFor, AreSumsOf}
+use Rattle.psi_streams.specs.declared.walking.Way.{Way}
+use Rattle.psi_streams.specs.declared.walking.Way.TheVariants.{Plain, Table, Packed}
+use Rattle.psi_streams.specs.Ways.{Walks, IsWayOf}
 
 -- ---- sums of what is the same at each time
 
@@ -89,7 +96,7 @@ each-count caps [] (event ∷ events) does = absurd does
 each-count caps (f ∷ fs) [] does = absurd does
 each-count caps (f ∷ fs) (event ∷ events) does = ap suc (each-count caps fs events does.1)
 
-module _ {E : Type 0} (function : E → List ℕ → List ℕ) (system : Parts E) (net : Network) (caps : system.caps ≡ caps_of net) (does : EachDoes (caps_of net) (map function system.events) net.events) where
+module _ {E : Type 0} (function : E → List ℕ → List ℕ) (system : SystemParts E) (net : Network) (caps : system.caps ≡ caps_of net) (does : EachDoes (caps_of net) (map function system.events) net.events) where
   queue-count : length system.caps ≡ length net.queues
   queue-count = ap (λ (xs : List ℕ). length xs) caps ∙ length-map net.queues (λ (q : Queue). q.capacity)
 
@@ -127,19 +134,51 @@ module _ {E : Type 0} (function : E → List ℕ → List ℕ) (system : Parts E
     is-alike : walked ≡ alike
     is-alike = ap (λ (rs : List ℕ). let p : Path = record { functions = map function system.events; rates = rs; words = seed_word seed stream; start = start } in p) rates
 
-    pub sums_of : ((q : ℕ) → q < length system.caps → slice_index sums.queues q ≡ customers_until walked q steps)
-        → ((r : ℕ) → r < length (worths_of net) → slice_index_or sums.rewards r (pos 0) ≡ worth_until walked (worth_at (worths_of net) r) steps)
-        → ((e : ℕ) → e < length system.events → slice_index sums.chosen e ≡ chosen_until walked e steps)
-        → ((e : ℕ) → e < length system.events → slice_index sums.changed e ≡ changed_until walked e steps)
-        → AreSumsOf net (stream_path net seed stream start) steps sums
-    sums_of queues rewards chosen changed =
+    pub sums_of : ArePathSums (length system.caps) (length (worths_of net)) (length system.events) (worths_of net) walked steps sums → AreSumsOf net (stream_path net seed stream start) steps sums
+    sums_of are =
         let fs = map function system.events in record {
           queues = λ q small.
-              queues q (let e = queue-count in omega arith) ∙ ap (λ (p : Path). customers_until p q steps) is-alike ∙ same-customers net seed stream start kept within fs does q steps;
+              are.queues q (let e = queue-count in omega arith) ∙ ap (λ (p : Path). customers_until p q steps) is-alike ∙ same-customers net seed stream start kept within fs does q steps;
           rewards = λ r small.
-              rewards r (let e = reward-count in omega arith) ∙ ap (λ (p : Path). worth_until p (worth_at (worths_of net) r) steps) is-alike
+              are.rewards r (let e = reward-count in omega arith) ∙ ap (λ (p : Path). worth_until p (worth_at (worths_of net) r) steps) is-alike
               ∙ same-worth net seed stream start kept within fs does (worth_at (worths_of net) r) steps;
-          chosen = λ e small. chosen e (let c = event-count in omega arith) ∙ ap (λ (p : Path). chosen_until p e steps) is-alike;
+          chosen = λ e small. are.chosen e (let c = event-count in omega arith) ∙ ap (λ (p : Path). chosen_until p e steps) is-alike;
           changed = λ e small.
-              changed e (let c = event-count in omega arith) ∙ ap (λ (p : Path). changed_until p e steps) is-alike ∙ same-changes net seed stream start kept within fs does e steps;
+              are.changed e (let c = event-count in omega arith) ∙ ap (λ (p : Path). changed_until p e steps) is-alike ∙ same-changes net seed stream start kept within fs does e steps;
         }
+
+-- ---- the ways of a network
+
+-- an event's function does what its kind does
+each-does : (caps : List ℕ) (fs : List (List ℕ → List ℕ)) (events : List NamedEvent) → EachDoes caps fs events → (e : ℕ) (x : List ℕ) → IsBelow x caps
+    → slice_index_or fs e (λ y. y) x ≡ slice_index_or (map (λ event. do_kind caps event.kind) events) e (λ y. y) x
+each-does caps [] [] does e x within = refl
+each-does caps [] (event ∷ events) does e x within = absurd does
+each-does caps (f ∷ fs) [] does e x within = absurd does
+each-does caps (f ∷ fs) (event ∷ events) does zero x within = does.0.each x within
+each-does caps (f ∷ fs) (event ∷ events) does (suc e) x within = each-does caps fs events does.1 e x within
+
+-- functions that agree on all states have the same ways
+ways-agree : (caps : List ℕ) (fs gs : List Function) → length fs ≡ length gs → ((e : ℕ) (x : List ℕ) → IsBelow x caps → slice_index_or fs e (λ y. y) x ≡ slice_index_or gs e (λ y. y) x)
+    → (worths : List Worth) (way : Way) → Walks caps fs worths way → Walks caps gs worths way
+ways-agree caps fs gs many each worths Plain is = tt
+ways-agree caps fs gs many each worths (Table table) is = table-agree caps fs gs table many each is
+ways-agree caps fs gs many each worths (Packed packed) is = walk-agrees caps fs gs (sym many) each worths packed is
+
+-- a way of functions that do what the network's kinds do is one of the network
+module _ {E : Type 0} (function : E → List ℕ → List ℕ) (system : SystemParts E) (net : Network) (caps : system.caps ≡ caps_of net) (does : EachDoes (caps_of net) (map function system.events) net.events) (way : Way) where
+  abbrev own_functions : List Function
+  own_functions = map function system.events
+
+  as-many : length own_functions ≡ length (functions_of net)
+  as-many = each-count (caps_of net) own_functions net.events does ∙ sym (length-map net.events (λ event. do_kind (caps_of net) event.kind))
+
+  pub way_there : IsWayOf net way → Walks system.caps own_functions (worths_of net) way
+  way_there is =
+      subst (λ (cs : List ℕ). Walks cs own_functions (worths_of net) way) (sym caps)
+      (ways-agree (caps_of net) (functions_of net) own_functions (sym as-many) (λ e x within. sym (each-does (caps_of net) own_functions net.events does e x within)) (worths_of net) way is)
+
+  pub way_back : Walks system.caps own_functions (worths_of net) way → IsWayOf net way
+  way_back is =
+      ways-agree (caps_of net) own_functions (functions_of net) as-many (each-does (caps_of net) own_functions net.events does) (worths_of net) way
+      (subst (λ (cs : List ℕ). Walks cs own_functions (worths_of net) way) caps is)

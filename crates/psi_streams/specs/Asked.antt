@@ -9,7 +9,7 @@ pub record Asked : Type 0 where
   pub steps : Option ℕ
 
 -- a program that prints tables: its name, and what its words ask for, or the place of the word that offends
-pub record Program : Type 0 where
+pub record TableProgram : Type 0 where
   pub name : List ℕ
   pub asked : List (List ℕ) → Result Asked ℕ
 

@@ -8,7 +8,7 @@ use Rattle.psi_command.specs.Status.{IsPrinted, IsReported, IsReplied}
 use Rattle.psi_command.specs.Command.{net_file}
 use Rattle.psi_reply.specs.Lines.{unread_line, memory_line}
 use Rattle.psi_reply.specs.Reply.{Reply}
-use Rattle.psi_streams.specs.Asked.{Asked, Program}
+use Rattle.psi_streams.specs.Asked.{Asked, TableProgram}
 use Rattle.psi_streams.specs.Named.{named_line}
 use Rattle.psi_streams.specs.Reply.{reply_to, IsOfTable}
 use Rattle.psi_streams.specs.Seen.{HasUnread, AreAsked}
@@ -22,7 +22,7 @@ IsStatusOf (Err place) status = status ≡ Usage
 abbrev pub AreTaken : (name : List ℕ) → (out_takes err_takes : ℕ → Type 0) → Result Asked ℕ → Reply → Type 0
 AreTaken name out_takes err_takes words reply = AreTakenOf out_takes err_takes (IsOk words) (named_line name memory_line) reply
 
-module _ (program : Program) where
+module _ (program : TableProgram) where
   -- the reply to a call, where its shelf tells the network file
   abbrev pub reply_to_call : Call → Option Reply
   reply_to_call call = reply_to program.name (program.asked call.words) call.shelf.told

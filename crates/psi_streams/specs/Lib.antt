@@ -4,8 +4,10 @@ pub mod Named
 pub mod Reply
 pub mod Means
 pub mod Seen
+pub mod SeenBy
 pub mod Ended
 pub mod Drawing
+pub mod Ways
 pub mod Tabled
 pub mod Call
 pub mod Run

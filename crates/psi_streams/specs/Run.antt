@@ -1,20 +1,18 @@
 -- A run of a program that prints tables, by what crossed its edges.
 use Rattle.std.specs.Prelude.{◌≡◌, ℕ, List, [], Option, Some, Ok}
-use Rattle.psi_program.specs.Run.{Run, Agrees, call_of}
+use Rattle.psi_program.specs.Run.{Run, IsRunBy, call_of}
 use Rattle.psi_command.specs.declared.status.Status.{Status}
 use Rattle.psi_command.specs.Status.{status_code, IsReplied}
-use Rattle.psi_streams.specs.Asked.{Asked, Program}
+use Rattle.psi_streams.specs.Asked.{Asked, TableProgram}
 use Rattle.psi_streams.specs.Means.{Means}
 use Rattle.psi_streams.specs.Call.{IsRun}
 
 -- the run is right, if the files hold what is told: its status says of the call what it says of each, and where it is one of a reply, the text
 -- that out accepted means what the table says
-pub record IsRight (program : Program) (told : List ℕ → Option (List ℕ)) (run : Run) (result : Status) : Type 0 where
+pub record IsRight (program : TableProgram) (told : List ℕ → Option (List ℕ)) (run : Run) (result : Status) : Type 0 where
   pub call : IsRun program (call_of told run) result
   pub means : (asked : Asked) → program.asked run.words ≡ Ok asked → IsReplied result → Means asked told (Some []) (Some run.out) result
 
 -- a run of the program: it has a status, and is right whatever the files hold of which the answers are prefixes
-pub record IsRunOf (program : Program) (run : Run) : Type 0 where
-  pub result : Status
-  pub code : status_code result ≡ run.status
-  pub right : (told : List ℕ → Option (List ℕ)) → Agrees told run.given → IsRight program told run result
+abbrev pub IsRunOf : TableProgram → Run → Type 0
+IsRunOf program run = IsRunBy status_code (IsRight program) run

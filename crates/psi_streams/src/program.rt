@@ -3,7 +3,7 @@
 ghost use Rattle.std.specs.Prelude.{◌≡◌, ◌≤◌, length, IfOk};
 ghost use Rattle.psi_io.specs.Shelf.{AgreesSince};
 ghost use Rattle.psi_program.specs.Finished.{IsFinished};
-ghost use Rattle.psi_program.specs.Seen.{ShelfCall};
+ghost use Rattle.psi_streams.specs.SeenBy.{shelf_call, sink_seen};
 ghost use Rattle.psi_streams.specs.Asked.{IsInRange, seen_result};
 ghost use Rattle.psi_streams.specs.Named.{faults};
 ghost use Rattle.psi_streams.specs.Seen.{IsGiven};
@@ -48,11 +48,8 @@ pub fn run<F: Shelf, O: Sink, E: Sink>(
     requires name { length name.now ≤ 10 }
     requires ranges { IfOk asked IsInRange }
     // The call ended by its cause, and with the text of its ending, whole or in part.
-    ensures finished { let seen : ShelfCall = record { gave_before = F.gave shelf.old; gave_after = F.gave shelf.new; asked_before = F.asked shelf.old; asked_after = F.asked shelf.new; faults_before = F.faults shelf.old; faults_after = F.faults shelf.new } in
-        IsFinished (faults name.now) (IsEndingOf name.now seen (F.gives shelf.old) (seen_result asked.entry)) (O.takes out.old) (E.takes err.old)
-        (record { before = O.held out.old; after = O.held out.new; took_before = O.took out.old; took_after = O.took out.new; faults_before = O.faults out.old; faults_after = O.faults out.new })
-        (record { before = E.held err.old; after = E.held err.new; took_before = E.took err.old; took_after = E.took err.new; faults_before = E.faults err.old; faults_after = E.faults err.new })
-        result }
+    ensures finished { IsFinished (faults name.now) (IsEndingOf name.now (shelf_call F.gave F.asked F.faults shelf.old shelf.new) (F.gives shelf.old) (seen_result asked.entry)) (O.takes out.old) (E.takes err.old)
+        (sink_seen O.held O.took O.faults out.old out.new) (sink_seen E.held E.took E.faults err.old err.new) result }
     // The answers agree with what the shelf tells.
     ensures agrees { AgreesSince (F.told shelf.old) (F.gave shelf.old) (F.gave shelf.new) }
     // Where the shelf gives the network file, no count of it rose.

@@ -30,4 +30,10 @@ impl<'n> Rewards for NetRewards<'n> {
         let _queues = self.net.queues();
         self.net.reward(r as u8).value(x)
     }
+
+    fn is_additive(&self, r: usize) -> bool {
+        // Called for its clause: there are at most 64 rewards.
+        let _queues = self.net.queues();
+        self.net.reward(r as u8).is_linear()
+    }
 }

@@ -5,7 +5,7 @@ ghost use Rattle.psi_io.specs.Shelf.{AgreesSince};
 ghost use Rattle.psi_closed.specs.Diagram.{IsTotal};
 ghost use Rattle.psi_net_model.specs.Network.{caps_of};
 ghost use Rattle.psi_program.specs.Finished.{IsFinished};
-ghost use Rattle.psi_program.specs.Seen.{ShelfCall};
+ghost use Rattle.psi_streams.specs.SeenBy.{shelf_call, sink_seen};
 ghost use Rattle.psi_streams.specs.Asked.{seen_asked, IsInRange};
 ghost use Rattle.psi_reply.specs.Closed.{AreMovesOf};
 ghost use Rattle.psi_reply.specs.Ending.{EndsWith};
@@ -41,9 +41,7 @@ fn write_open<O: Sink, E: Sink>(
     requires few { IfSome task.now.asked.steps (λ steps. steps ≤ 4290772992) }
     ensures { IsFinished (faults task.now.name.now) (λ ending. EndsWith ending (table_reply task.now.asked.steps net.now task.now.asked.table.seed task.now.asked.table.first (samples_of net.now task.now.asked.table.seed task.now.asked.table.first task.now.asked.table.count)))
         (O.takes out.old) (E.takes err.old)
-        (record { before = O.held out.old; after = O.held out.new; took_before = O.took out.old; took_after = O.took out.new; faults_before = O.faults out.old; faults_after = O.faults out.new })
-        (record { before = E.held err.old; after = E.held err.new; took_before = E.took err.old; took_after = E.took err.new; faults_before = E.faults err.old; faults_after = E.faults err.new })
-        result }
+        (sink_seen O.held O.took O.faults out.old out.new) (sink_seen E.held E.took E.faults err.old err.new) result }
 {
     let table = &task.asked.table;
     let Ok(plan) = plan_for(alloc, net, table.seed, table.first) else {
@@ -74,9 +72,7 @@ fn write_moves<O: Sink, E: Sink>(
     requires few { IfSome task.now.asked.steps (λ steps. steps ≤ 4290772992) }
     ensures { IsFinished (faults task.now.name.now) (λ ending. EndsWith ending (table_reply task.now.asked.steps net.now task.now.asked.table.seed task.now.asked.table.first (closed_samples_of net.now task.now.asked.table.seed total task.now.asked.table.first task.now.asked.table.count)))
         (O.takes out.old) (E.takes err.old)
-        (record { before = O.held out.old; after = O.held out.new; took_before = O.took out.old; took_after = O.took out.new; faults_before = O.faults out.old; faults_after = O.faults out.new })
-        (record { before = E.held err.old; after = E.held err.new; took_before = E.took err.old; took_after = E.took err.new; faults_before = E.faults err.old; faults_after = E.faults err.new })
-        result }
+        (sink_seen O.held O.took O.faults out.old out.new) (sink_seen E.held E.took E.faults err.old err.new) result }
 {
     let table = &task.asked.table;
     let past = SeedPast::new(table.seed, table.first);
@@ -106,9 +102,7 @@ fn write_closed<O: Sink, E: Sink>(
     requires most { total ≤ 256 }
     ensures { IsFinished (faults task.now.name.now) (λ ending. EndsWith ending (named_reply task.now.name.now (closed_states_reply task.now.asked.steps net.now task.now.asked.table.seed task.now.asked.table.first task.now.asked.table.count total)))
         (O.takes out.old) (E.takes err.old)
-        (record { before = O.held out.old; after = O.held out.new; took_before = O.took out.old; took_after = O.took out.new; faults_before = O.faults out.old; faults_after = O.faults out.new })
-        (record { before = E.held err.old; after = E.held err.new; took_before = E.took err.old; took_after = E.took err.new; faults_before = E.faults err.old; faults_after = E.faults err.new })
-        result }
+        (sink_seen O.held O.took O.faults out.old out.new) (sink_seen E.held E.took E.faults err.old err.new) result }
 {
     let moves = match moves_of(alloc, net) {
         Ok(moves) => moves,
@@ -132,9 +126,7 @@ fn write_states<O: Sink, E: Sink>(
     requires ranges { IsInRange task.now.asked }
     ensures { IsFinished (faults task.now.name.now) (λ ending. EndsWith ending (named_reply task.now.name.now (asked_reply (seen_asked task.now.asked) net.now)))
         (O.takes out.old) (E.takes err.old)
-        (record { before = O.held out.old; after = O.held out.new; took_before = O.took out.old; took_after = O.took out.new; faults_before = O.faults out.old; faults_after = O.faults out.new })
-        (record { before = E.held err.old; after = E.held err.new; took_before = E.took err.old; took_after = E.took err.new; faults_before = E.faults err.old; faults_after = E.faults err.new })
-        result }
+        (sink_seen O.held O.took O.faults out.old out.new) (sink_seen E.held E.took E.faults err.old err.new) result }
 {
     match task.asked.table.total {
         Some(total) => write_closed(alloc, net, task, total, out, err),
@@ -155,11 +147,8 @@ pub(crate) fn perform<F: Shelf, O: Sink, E: Sink>(
 ) -> Status
     requires name { length task.now.name.now ≤ 10 }
     requires ranges { IsInRange task.now.asked }
-    ensures finished { let seen : ShelfCall = record { gave_before = F.gave shelf.old; gave_after = F.gave shelf.new; asked_before = F.asked shelf.old; asked_after = F.asked shelf.new; faults_before = F.faults shelf.old; faults_after = F.faults shelf.new } in
-        IsFinished (faults task.now.name.now) (IsEndingOf task.now.name.now seen (F.gives shelf.old) (Ok (seen_asked task.now.asked))) (O.takes out.old) (E.takes err.old)
-        (record { before = O.held out.old; after = O.held out.new; took_before = O.took out.old; took_after = O.took out.new; faults_before = O.faults out.old; faults_after = O.faults out.new })
-        (record { before = E.held err.old; after = E.held err.new; took_before = E.took err.old; took_after = E.took err.new; faults_before = E.faults err.old; faults_after = E.faults err.new })
-        result }
+    ensures finished { IsFinished (faults task.now.name.now) (IsEndingOf task.now.name.now (shelf_call F.gave F.asked F.faults shelf.old shelf.new) (F.gives shelf.old) (Ok (seen_asked task.now.asked))) (O.takes out.old) (E.takes err.old)
+        (sink_seen O.held O.took O.faults out.old out.new) (sink_seen E.held E.took E.faults err.old err.new) result }
     // The answers agree with what the shelf tells.
     ensures agrees { AgreesSince (F.told shelf.old) (F.gave shelf.old) (F.gave shelf.new) }
     // Where the shelf gives the network file, no count rose.

@@ -21,16 +21,11 @@ use Rattle.psi_reward.specs.Worth.{worth_of}
 use Rattle.psi_net_model.specs.Network.{Network, NamedReward}
 use Rattle.psi_net_model.specs.declared.entries.Queue.{Queue}
 use Rattle.psi_report.specs.Quantities.{Quantity, queues_from, queue_quantities, reward_quantities}
+use Rattle.psi_report.proofs.StandsLemmas.{length-queues_from}
 use Rattle.psi_table.specs.Table.{quantities, value_fields, outcome_fields, stream_fields}
 use Rattle.psi_table.specs.Lines.{stream_line, behind, customers_fields, rewards_fields, IsPlainField}
 
 -- ---- one piece more
-
--- of numbers
-pub numbers_more : (f : ℕ → List ℕ) (xs : List ℕ) (i : ℕ) → i < length xs → flat_map f (take i xs) ++ f (slice_index xs i) ≡ flat_map f (take (suc i) xs)
-numbers_more f [] i small = absurd (omega arith)
-numbers_more f (x ∷ xs) zero small = sym (append-nil (f x))
-numbers_more f (x ∷ xs) (suc i) small = append_assoc (f x) (flat_map f (take i xs)) (f (slice_index xs i)) ∙ ap (λ (ys : List ℕ). f x ++ ys) (numbers_more f xs i (omega arith))
 
 -- of rewards
 abbrev value_piece : List ℕ → RewardKind → List ℕ
@@ -148,7 +143,7 @@ met-pieces : (old stream horizon queues rewards : List ℕ)
     → (((((old ++ stream) ++ 44 ∷ []) ++ horizon) ++ queues) ++ rewards) ++ 10 ∷ [] ≡ old ++ ((stream ++ ((44 ∷ horizon) ++ (queues ++ rewards))) ++ 10 ∷ [])
 met-pieces old stream horizon queues rewards = simp append_assoc
 
-unmet-pieces : (old stream commas : List ℕ) → ((old ++ stream) ++ commas) ++ 10 ∷ [] ≡ old ++ ((stream ++ commas) ++ 10 ∷ [])
+pub unmet-pieces : (old stream commas : List ℕ) → ((old ++ stream) ++ commas) ++ 10 ∷ [] ≡ old ++ ((stream ++ commas) ++ 10 ∷ [])
 unmet-pieces old stream commas = simp append_assoc
 
 pub line_met : (old : List ℕ) (net : Network) (stream horizon : ℕ) (state : List ℕ) → stream < 2 ^ 64 → horizon < 2 ^ 32 → length net.queues ≡ length state
@@ -162,11 +157,6 @@ line_met old net stream horizon state few fits count each small =
     ∙ ap (λ (xs : List ℕ). old ++ ((decimal stream ++ ((44 ∷ decimal horizon) ++ xs)) ++ 10 ∷ [])) (sym (values-told net state count))
     ∙ ap (λ (xs : List ℕ). old ++ xs) (sym line)
 
-pub queues-number : (i : ℕ) (queues : List Queue) → length (queues_from i queues) ≡ length queues
-unfolding queues_from
-queues-number i [] = refl
-queues-number i (queue ∷ queues) = ap suc (queues-number (i + 1) queues)
-
 pub commas : (qs : List Quantity) → behind (map (λ (q : Quantity). []) qs) ≡ replicate (length qs) 44
 commas [] = refl
 commas (q ∷ qs) = ap (λ (xs : List ℕ). 44 ∷ xs) (commas qs)
@@ -178,7 +168,7 @@ line_unmet old net stream limit few =
     let plain : All IsPlainField ([] ∷ none) = All-cons IsPlainField [] none refl (empty-plain (quantities net)) in
     let line = line-of net stream [] none (NotMet limit) few refl plain in
     let both = length-append (queue_quantities net) (reward_quantities net) in
-    let queues = queues-number 0 net.queues in
+    let queues = length-queues_from 0 net.queues in
     let rewards = length-map net.rewards worth in
     let number : suc (length (quantities net)) ≡ length net.queues + length net.rewards + 1 = omega arith in
     let pieces : replicate (length net.queues + length net.rewards + 1) 44 ≡ behind ([] ∷ none) =

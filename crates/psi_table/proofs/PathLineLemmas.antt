@@ -21,7 +21,8 @@ use Rattle.psi_table.specs.Table.{quantities}
 use Rattle.psi_table.specs.Lines.{behind, IsPlainField}
 use Rattle.psi_table.specs.Paths.{stream_path, sum_fields, count_fields, path_row, AreSumsOf}
 use Rattle.psi_table.specs.PathLines.{path_line, pieces, customers_piece, reward_piece, event_piece}
-use Rattle.psi_table.proofs.LineLemmas.{digits-field, number-field, fields-behind, empty-plain, commas, queues-number}
+use Rattle.psi_report.proofs.StandsLemmas.{length-queues_from}
+use Rattle.psi_table.proofs.LineLemmas.{digits-field, number-field, fields-behind, empty-plain, commas, unmet-pieces}
 
 -- ---- pieces
 
@@ -248,9 +249,6 @@ events-plain [] = All-nil IsPlainField
 events-plain (event ∷ events) =
     All-cons IsPlainField [] ([] ∷ flat_map no_fields events) refl (All-cons IsPlainField [] (flat_map no_fields events) refl (events-plain events))
 
-unwalked-pieces : (old stream commas : List ℕ) → ((old ++ stream) ++ commas) ++ 10 ∷ [] ≡ old ++ ((stream ++ commas) ++ 10 ∷ [])
-unwalked-pieces old stream commas = simp append_assoc
-
 pub line_unwalked : (old : List ℕ) (net : Network) (seed steps stream limit : ℕ) → stream < 2 ^ 64
     → ((old ++ decimal stream) ++ commas_of (length net.queues + length net.rewards + 2 * length net.events + 2)) ++ 10 ∷ [] ≡ old ++ path_line net seed steps stream (NotMet limit)
 unfolding path_line path_row
@@ -261,7 +259,7 @@ line_unwalked old net seed steps stream limit few =
     All-cons IsPlainField [] ([] ∷ rest) refl (All-cons IsPlainField [] rest refl
     (All-append IsPlainField none (flat_map no_fields net.events) (empty-plain (quantities net)) (events-plain net.events))) in
     let both = length-append (queue_quantities net) (reward_quantities net) in
-    let queues = queues-number 0 net.queues in
+    let queues = length-queues_from 0 net.queues in
     let rewards = length-map net.rewards worth in
     let number : length net.queues + length net.rewards + 2 * length net.events + 2 ≡ suc (suc (length (quantities net) + 2 * length net.events)) = omega arith in
     let behind-rest : commas_of (length (quantities net) + 2 * length net.events) ≡ behind rest =
@@ -271,6 +269,6 @@ line_unwalked old net seed steps stream limit few =
     ∙ sym (flat_map-append (λ (field : List ℕ). 44 ∷ field) none (flat_map no_fields net.events)) in
     let all : commas_of (length net.queues + length net.rewards + 2 * length net.events + 2) ≡ behind ([] ∷ [] ∷ rest) =
     ap commas_of number ∙ ap (λ (xs : List ℕ). 44 ∷ 44 ∷ xs) behind-rest in
-    unwalked-pieces old (decimal stream) (commas_of (length net.queues + length net.rewards + 2 * length net.events + 2))
+    unmet-pieces old (decimal stream) (commas_of (length net.queues + length net.rewards + 2 * length net.events + 2))
     ∙ ap (λ (xs : List ℕ). old ++ ((decimal stream ++ xs) ++ 10 ∷ [])) all
     ∙ ap (λ (xs : List ℕ). old ++ xs) (sym (row-of stream [] ([] ∷ rest) few plain))

@@ -1,5 +1,5 @@
 -- A table of paths of a network: comma-separated values as a table of samples, with a row of sums and counts for each stream.
-use Rattle.std.specs.Prelude.{◌≡◌, ℕ, suc, ◌<◌, List, [], ◌∷◌, ◌++◌, map, length, codes, pos, slice_index, slice_index_or, Option, Some, None}
+use Rattle.std.specs.Prelude.{ℕ, suc, List, [], ◌∷◌, ◌++◌, map, length, codes, Option, Some, None}
 use Rattle.std.specs.Fmt.{decimal, signed_decimal}
 use Rattle.std.specs.List.{flat_map}
 use Rattle.psi_state.specs.declared.Outcome.{Outcome}
@@ -7,7 +7,7 @@ use Rattle.psi_state.specs.declared.Outcome.TheVariants.{Met, NotMet}
 use Rattle.psi_past.specs.SeedWord.{seed_word}
 use Rattle.psi_reward.specs.Worth.{worth_of}
 use Rattle.psi_path.specs.Path.{Path}
-use Rattle.psi_path.specs.Sums.{Worth, Sums, HasCounts, worth_at, customers_until, worth_until, chosen_until, changed_until}
+use Rattle.psi_path.specs.Sums.{Worth, Sums, HasCounts, ArePathSums, worth_until, chosen_until, changed_until}
 use Rattle.psi_net_model.specs.Network.{Network, rates_of, functions_of}
 use Rattle.psi_net_model.specs.declared.entries.NamedEvent.{NamedEvent}
 use Rattle.psi_report.specs.Quantities.{Quantity, queue_quantities, reward_quantities}
@@ -77,12 +77,9 @@ worths_of net = map (λ r. worth_of r.kind) net.rewards
 abbrev pub AreSumsFor : Network → Sums → Type 0
 AreSumsFor net sums = HasCounts (length net.queues) (length net.rewards) (length net.events) sums
 
--- these are the sums of a path of so many steps
-pub record AreSumsOf (net : Network) (path : Path) (steps : ℕ) (sums : Sums) : Type 0 where
-  pub queues : (q : ℕ) → q < length net.queues → slice_index sums.queues q ≡ customers_until path q steps
-  pub rewards : (r : ℕ) → r < length net.rewards → slice_index_or sums.rewards r (pos 0) ≡ worth_until path (worth_at (worths_of net) r) steps
-  pub chosen : (e : ℕ) → e < length net.events → slice_index sums.chosen e ≡ chosen_until path e steps
-  pub changed : (e : ℕ) → e < length net.events → slice_index sums.changed e ≡ changed_until path e steps
+-- these are the sums of a path of so many steps, with the rewards of a network
+abbrev pub AreSumsOf : Network → Path → (steps : ℕ) → Sums → Type 0
+AreSumsOf net path steps sums = ArePathSums (length net.queues) (length net.rewards) (length net.events) (worths_of net) path steps sums
 
 -- where the sample of a stream is met, the sums are those of its path
 abbrev pub AreOfStream : Network → (seed steps stream : ℕ) → Outcome → Sums → Type 0

@@ -48,13 +48,22 @@ pub(crate) fn push_rewards(header: &mut ByteRecord, net: &Net) -> Result<(), All
     Ok(())
 }
 
-// The fields of the header.
-fn header_fields(alloc: Global, net: &Net) -> Result<ByteRecord, AllocError>
-    ensures { IfOk result (λ header. fields_of header ≡ header_fields net.now) }
+/// The fields with which a header begins.
+pub(crate) fn first_fields(alloc: Global) -> Result<ByteRecord, AllocError>
+    ensures fields { IfOk result (λ header. fields_of header ≡ codes "stream" ∷ codes "horizon" ∷ []) }
+    ensures whole { IfOk result (λ header. partial_of header ≡ []) }
 {
     let mut header = ByteRecord::new(alloc);
     header.push_field(b"stream")?;
     header.push_field(b"horizon")?;
+    Ok(header)
+}
+
+// The fields of the header.
+fn header_fields(alloc: Global, net: &Net) -> Result<ByteRecord, AllocError>
+    ensures { IfOk result (λ header. fields_of header ≡ header_fields net.now) }
+{
+    let mut header = first_fields(alloc)?;
     push_queues(&mut header, net)?;
     push_rewards(&mut header, net)?;
     Ok(header)

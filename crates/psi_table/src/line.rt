@@ -1,8 +1,7 @@
 //! The line of a stream.
 
-ghost use Rattle.std.specs.Prelude.{◌≡◌, ◌+◌, ◌*◌, ◌^◌, ◌<◌, ◌≤◌, ◌∷◌, ◌++◌, length, replicate, vec_len, vec_capacity, ℕ, All};
-ghost use Rattle.std.specs.Fmt.{decimal, signed_decimal};
-ghost use Rattle.std.specs.List.{flat_map};
+ghost use Rattle.std.specs.Prelude.{◌≡◌, ◌+◌, ◌*◌, ◌^◌, ◌<◌, ◌≤◌, ◌∷◌, ◌++◌, slice_index, vec_len, vec_capacity, ℕ, All};
+ghost use Rattle.std.specs.Fmt.{signed_decimal};
 ghost use Rattle.std.specs.Int.RustNames.{unsigned_abs};
 ghost use Rattle.psi_state.specs.State.{IsBelow};
 ghost use Rattle.psi_state.specs.declared.Outcome.TheVariants.{Met, NotMet};
@@ -11,32 +10,22 @@ ghost use Rattle.psi_net_model.specs.Network.{caps_of};
 ghost use Rattle.psi_report.specs.Samples.{IsSampleOf};
 ghost use Rattle.psi_table.specs.Lines.{stream_line, customers_fields, rewards_fields};
 
-use crate::number::{put_integer, put_number};
+use crate::number::{put_counted, put_empty, put_integer, put_number};
 use psi_net_model::Net;
 use psi_reward::RewardLaw;
 use psi_state::{Outcome, State};
 
-// Appends a comma and a number of customers.
-fn put_customers(line: &mut Vec<u8>, customers: u16)
-    requires { vec_len line.old + 21 ≤ vec_capacity line.old }
-    ensures text { line.new.items ≡ line.old.items ++ 44 ∷ decimal customers }
-    ensures count { vec_len line.new ≤ vec_len line.old + 21 }
-    ensures room { vec_capacity line.old ≤ vec_capacity line.new }
-{
-    line.push_reserved(b',');
-    put_number(line, customers as u64);
-}
-
-// Appends the number of customers of each queue, a comma before each.
+// Appends the number of customers of each queue, a comma before each. Each is a number of 16 bits.
 fn put_queues(line: &mut Vec<u8>, state: &State)
     requires { vec_len line.old + 672 ≤ vec_capacity line.old }
     ensures text { line.new.items ≡ line.old.items ++ customers_fields state.now }
+    ensures small { (i : ℕ) → slice_index state.now i < 2 ^ 16 }
     ensures count { vec_len line.new ≤ vec_len line.old + 672 }
     ensures room { vec_capacity line.old ≤ vec_capacity line.new }
 {
     let queues = state.len();
     for queue in 0..queues {
-        put_customers(line, state.get(queue));
+        put_counted(line, state.get(queue) as u64);
     }
 }
 
@@ -67,19 +56,6 @@ fn put_rewards(line: &mut Vec<u8>, net: &Net, state: &State)
     }
 }
 
-// Appends the empty fields of a sample that isn't met.
-fn put_empty(line: &mut Vec<u8>, net: &Net)
-    requires { vec_len line.old + 97 ≤ vec_capacity line.old }
-    ensures text { line.new.items ≡ line.old.items ++ replicate (length net.now.queues + length net.now.rewards + 1) 44 }
-    ensures count { vec_len line.new ≤ vec_len line.old + 97 }
-    ensures room { vec_capacity line.old ≤ vec_capacity line.new }
-{
-    let fields = net.queues() + net.rewards() + 1;
-    for _field in 0..fields {
-        line.push_reserved(b',');
-    }
-}
-
 // Appends the line of a stream whose sample is met.
 fn put_met(line: &mut Vec<u8>, net: &Net, stream: u64, horizon: u32, state: &State)
     requires room { vec_len line.old + 2200 ≤ vec_capacity line.old }
@@ -88,8 +64,6 @@ fn put_met(line: &mut Vec<u8>, net: &Net, stream: u64, horizon: u32, state: &Sta
     ensures count { vec_len line.new ≤ vec_len line.old + 2200 }
     ensures room { vec_capacity line.old ≤ vec_capacity line.new }
 {
-    // Called for its clause: the state's numbers have 16 bits.
-    let _queues = state.len();
     put_number(line, stream);
     line.push_reserved(b',');
     put_number(line, horizon as u64);
@@ -106,7 +80,7 @@ fn put_unmet(line: &mut Vec<u8>, net: &Net, stream: u64)
     ensures room { vec_capacity line.old ≤ vec_capacity line.new }
 {
     put_number(line, stream);
-    put_empty(line, net);
+    put_empty(line, net.queues() as u16 + net.rewards() as u16 + 1);
     line.push_reserved(b'\n');
 }
 

@@ -1,6 +1,6 @@
 //! Numbers in decimal digits, without a buffer of their own.
 
-ghost use Rattle.std.specs.Prelude.{◌≡◌, ◌+◌, ◌/◌, ◌%◌, ◌^◌, ◌<◌, ◌≤◌, [], ◌∷◌, ◌++◌, length, vec_len, vec_capacity};
+ghost use Rattle.std.specs.Prelude.{◌≡◌, ◌+◌, ◌/◌, ◌%◌, ◌^◌, ◌<◌, ◌≤◌, [], ◌∷◌, ◌++◌, length, replicate, vec_len, vec_capacity};
 ghost use Rattle.std.specs.Fmt.{decimal, signed_decimal};
 
 use itoa::Buffer;
@@ -116,4 +116,28 @@ pub(crate) fn put_wide(line: &mut Vec<u8>, value: i128)
 {
     let mut digits = Buffer::new();
     put(line, digits.format(value).as_bytes());
+}
+
+/// Appends a comma and a number.
+pub(crate) fn put_counted(line: &mut Vec<u8>, n: u64)
+    requires { vec_len line.old + 21 ≤ vec_capacity line.old }
+    ensures text { line.new.items ≡ line.old.items ++ 44 ∷ decimal n }
+    ensures small { n < 2 ^ 64 }
+    ensures count { vec_len line.new ≤ vec_len line.old + 21 }
+    ensures room { vec_capacity line.old ≤ vec_capacity line.new }
+{
+    line.push_reserved(b',');
+    put_number(line, n);
+}
+
+/// Appends empty fields, a comma before each.
+pub(crate) fn put_empty(line: &mut Vec<u8>, fields: u16)
+    requires { vec_len line.old + fields ≤ vec_capacity line.old }
+    ensures text { line.new.items ≡ line.old.items ++ replicate fields 44 }
+    ensures count { vec_len line.new ≡ vec_len line.old + fields }
+    ensures room { vec_capacity line.old ≤ vec_capacity line.new }
+{
+    for _field in 0..fields {
+        line.push_reserved(b',');
+    }
 }

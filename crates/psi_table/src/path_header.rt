@@ -7,7 +7,7 @@ ghost use Rattle.csv.specs.Records.{fields_of, partial_of};
 ghost use Rattle.psi_table.specs.Paths.{event_columns, paths_header};
 ghost use Rattle.psi_table.specs.PathLines.{paths_header_line};
 
-use crate::header::{push_queues, push_rewards, record_line};
+use crate::header::{first_fields, push_queues, push_rewards, record_line};
 use arrayvec::ArrayVec;
 use csv::ByteRecord;
 use itoa::Buffer;
@@ -54,9 +54,7 @@ fn push_events(header: &mut ByteRecord, net: &Net) -> Result<(), AllocError>
 fn paths_header(alloc: Global, net: &Net) -> Result<ByteRecord, AllocError>
     ensures { IfOk result (λ header. fields_of header ≡ paths_header net.now) }
 {
-    let mut header = ByteRecord::new(alloc);
-    header.push_field(b"stream")?;
-    header.push_field(b"horizon")?;
+    let mut header = first_fields(alloc)?;
     header.push_field(b"steps")?;
     push_queues(&mut header, net)?;
     push_rewards(&mut header, net)?;

@@ -1,13 +1,13 @@
 //! The line of the path of a stream.
 
-ghost use Rattle.std.specs.Prelude.{◌≡◌, ℕ, ◌+◌, ◌*◌, ◌^◌, ◌<◌, ◌≤◌, ◌∷◌, ◌++◌, List, pos, length, replicate, slice_index, slice_index_or, vec_len, vec_capacity};
-ghost use Rattle.std.specs.Fmt.{decimal, signed_decimal};
+ghost use Rattle.std.specs.Prelude.{◌≡◌, ℕ, ◌+◌, ◌*◌, ◌^◌, ◌<◌, ◌≤◌, ◌∷◌, ◌++◌, List, pos, length, slice_index, slice_index_or, vec_len, vec_capacity};
+ghost use Rattle.std.specs.Fmt.{signed_decimal};
 ghost use Rattle.std.specs.Int.RustNames.{unsigned_abs};
 ghost use Rattle.psi_state.specs.declared.Outcome.TheVariants.{Met, NotMet};
 ghost use Rattle.psi_table.specs.Paths.{stream_path, AreSumsFor, AreSumsOf, AreOfStream};
 ghost use Rattle.psi_table.specs.PathLines.{path_line, pieces, customers_piece, reward_piece, event_piece};
 
-use crate::number::{put_number, put_wide};
+use crate::number::{put_counted, put_empty, put_number, put_wide};
 use psi_net_model::Net;
 use psi_path::Walk;
 use psi_state::Outcome;
@@ -24,18 +24,6 @@ pub struct Walked<'w> {
     pub steps: u32,
     /// The walk that holds its sums and counts.
     pub walk: &'w Walk,
-}
-
-// Appends a comma and a number.
-fn put_counted(line: &mut Vec<u8>, n: u64)
-    requires { vec_len line.old + 21 ≤ vec_capacity line.old }
-    ensures text { line.new.items ≡ line.old.items ++ 44 ∷ decimal n }
-    ensures small { n < 2 ^ 64 }
-    ensures count { vec_len line.new ≤ vec_len line.old + 21 }
-    ensures room { vec_capacity line.old ≤ vec_capacity line.new }
-{
-    line.push_reserved(b',');
-    put_number(line, n);
 }
 
 // Appends a comma and a sum of values.
@@ -97,19 +85,6 @@ fn put_events(line: &mut Vec<u8>, walk: &Walk, count: u16)
     }
 }
 
-// Appends the empty fields of a sample that isn't met.
-fn put_empty(line: &mut Vec<u8>, net: &Net)
-    requires { vec_len line.old + 2146 ≤ vec_capacity line.old }
-    ensures text { line.new.items ≡ line.old.items ++ replicate (length net.now.queues + length net.now.rewards + 2 * length net.now.events + 2) 44 }
-    ensures count { vec_len line.new ≤ vec_len line.old + 2146 }
-    ensures room { vec_capacity line.old ≤ vec_capacity line.new }
-{
-    let fields = net.queues() as u16 + net.rewards() as u16 + 2 * net.events() + 2;
-    for _field in 0..fields {
-        line.push_reserved(b',');
-    }
-}
-
 // Appends the line of a stream whose sample is met.
 fn put_met(line: &mut Vec<u8>, net: &Net, stream: u64, horizon: u32, walked: &Walked<'_>)
     requires room { vec_len line.old + 46400 ≤ vec_capacity line.old }
@@ -133,8 +108,9 @@ fn put_unmet(line: &mut Vec<u8>, net: &Net, stream: u64)
     ensures text { (seed steps limit : ℕ) → line.new.items ≡ line.old.items ++ path_line net.now seed steps stream (NotMet limit) }
     ensures room { vec_capacity line.old ≤ vec_capacity line.new }
 {
+    let fields = net.queues() as u16 + net.rewards() as u16 + 2 * net.events() + 2;
     put_number(line, stream);
-    put_empty(line, net);
+    put_empty(line, fields);
     line.push_reserved(b'\n');
 }
 

@@ -11,7 +11,8 @@ use crate::header::header_line;
 use crate::line::put_line;
 use crate::path_header::paths_header_line;
 use crate::path_line::{LONGEST, Walked, put_path_line};
-use psi_io::{Sink, SinkFault, write_all};
+use psi_io::{Sink, SinkFault};
+use psi_log_writer::write_piece;
 use psi_net_model::{Net, OutOfMemory};
 use psi_state::Outcome;
 use std::alloc::Global;
@@ -151,14 +152,4 @@ impl Rows {
         self.bytes.clear();
         Ok(())
     }
-}
-
-// Writes a piece to the sink.
-fn write_piece<O: Sink>(piece: &[u8], out: &mut O) -> Result<(), SinkFault>
-    ensures { Sends result
-        (record { held = O.held out.old; took = O.took out.old; faults = O.faults out.old; takes = O.takes out.old })
-        (record { held = O.held out.new; took = O.took out.new; faults = O.faults out.new; takes = O.takes out.new })
-        [] piece.now }
-{
-    write_all(out, piece)
 }

@@ -8,7 +8,7 @@ use psi_closed::{ClosedPlan, Diagram};
 use psi_closed_arcs::{Arc, Arcs, Reach};
 use psi_kinds::Move;
 use psi_past::SeedPast;
-use psi_rate::Wheel;
+use psi_rate::{Wheel, first_answer};
 use psi_state::State;
 use std::alloc::Global;
 
@@ -108,7 +108,15 @@ fn make_plan(alloc: Global, calls: bool) -> Option<()> {
         return None;
     };
     if calls {
-        let _outcome = plan.sample();
+        call_plan(&mut plan);
     }
     Some(())
+}
+
+// A sample, and the first answer of the plan's runs.
+fn call_plan(plan: &mut ClosedPlan<'_, SeedPast>)
+    requires { plan.old.network.limit ≡ 6 }
+{
+    let _outcome = plan.sample();
+    let _first = first_answer(plan, 6);
 }

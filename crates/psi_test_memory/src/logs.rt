@@ -12,7 +12,7 @@ use psi_log_writer::{Block, log_fits, write_log};
 use psi_net::Net;
 use psi_past::{Past, SeedPast};
 use psi_region::Follower;
-use psi_replay::verdict;
+use psi_replay::{StreamReplay, verdict};
 use psi_state::{Bounds, Outcome, State, Step};
 use std::alloc::Global;
 
@@ -104,16 +104,18 @@ fn make_log(alloc: Global, calls: bool, net: &Net, limit: u8) -> Option<()>
         return None;
     };
     if calls {
-        call_reader(&reader);
+        call_reader(reader);
+        let _replay = StreamReplay::new(alloc, &system);
     }
     Some(())
 }
 
-fn call_reader(reader: &LogReader<'_>) {
+fn call_reader(reader: LogReader<'_>) {
     let _header = reader.header();
     let _before = reader.before();
     let _region = reader.region();
     let _stays = reader.stays();
+    let _left = reader.into_cursor();
 }
 
 // The header of the longest run of a plan over so many queues.

@@ -13,6 +13,7 @@ mod lists;
 mod logs;
 mod maps;
 mod networks;
+mod paths;
 mod sampling;
 mod tallies;
 
@@ -79,6 +80,7 @@ fn each_group(
     keeping::make(alloc, calls, net)?;
     sampling::make(alloc, calls, net)?;
     sampling::make(alloc, calls, fork)?;
+    paths::make(alloc, calls, net)?;
     tallies::make(alloc, calls, net)?;
     logs::make(alloc, calls, net, pair, ring)?;
     maps::make(alloc, calls, net)?;

@@ -5,7 +5,7 @@ ghost use Rattle.psi_state.specs.State.{AreCapacities};
 ghost use Rattle.psi_kinds.specs.Kinds.{AreQueues, IsKindOf};
 
 use psi_event::PiecewiseLaw;
-use psi_follow_packed::{Layout, Program};
+use psi_follow_packed::{Layout, MaskProgram};
 use psi_guard::{Guarded, Part};
 use psi_kinds::{Kind, KindRefusal, lower};
 use psi_route::{Full, Source};
@@ -83,7 +83,7 @@ fn events_that_tell_their_pieces_make_a_program(rt: HostRuntime) -> Result<(), F
     };
     let events = [lower(alloc, caps, &arrival)?, lower(alloc, caps, &service)?];
     let layout = Layout::<1>::new(caps).ok_or("one word for two queues")?;
-    assert!(rt; Program::new(alloc, layout, &events)?.is_some());
+    assert!(rt; MaskProgram::new(alloc, layout, &events)?.is_some());
     Ok(())
 }
 

@@ -1,7 +1,7 @@
 -- Invariants of the loops of `empty`.
 use Rattle.std.proofs.Common.{◌≡◌, ◌<◌, ℕ, false}
 use Rattle.psi_closed_arcs.specs.Sums.{has}
-use Rattle.psi_closed_arcs.specs.RowsKept.{sums_at}
+use Rattle.psi_closed_arcs.specs.Inner.RowsKept.{sums_at}
 use Rattle.psi_closed_arcs.proofs.arcs.empty.Given as goal
 
 abbrev pub invariant-loop-end : goal.invariant-loop-end

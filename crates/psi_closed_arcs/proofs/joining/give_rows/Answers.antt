@@ -4,8 +4,8 @@ use Rattle.std.proofs.lemmas.Bool.{cases_eq}
 use Rattle.psi_closed_arcs.specs.declared.sums.Sums.{Sums}
 use Rattle.psi_closed_arcs.specs.Sums.{has, Leads}
 use Rattle.psi_closed_arcs.specs.Held.{Listed}
-use Rattle.psi_closed_arcs.specs.RowsKept.{sums_at}
-use Rattle.psi_closed_arcs.specs.MarksKept.{Gives}
+use Rattle.psi_closed_arcs.specs.Inner.RowsKept.{sums_at}
+use Rattle.psi_closed_arcs.specs.Inner.MarksKept.{Gives}
 use Rattle.psi_closed_arcs.proofs.RowsLemmas.{read-own, read-other}
 use Rattle.psi_closed_arcs.proofs.PuttingLemmas.{iff-trans, gives-at, gives-reach}
 use Rattle.psi_closed_arcs.proofs.joining.give_rows.Goals as goal

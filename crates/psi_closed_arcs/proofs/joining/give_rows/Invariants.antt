@@ -2,8 +2,8 @@
 use Rattle.std.proofs.Common.{◌≡◌, ◌<◌, ◌≤◌, ◌↔◌, ℕ, true}
 use Rattle.psi_closed_arcs.specs.Sums.{has, Leads}
 use Rattle.psi_closed_arcs.specs.Held.{Listed}
-use Rattle.psi_closed_arcs.specs.RowsKept.{sums_at}
-use Rattle.psi_closed_arcs.specs.MarksKept.{Gives}
+use Rattle.psi_closed_arcs.specs.Inner.RowsKept.{sums_at}
+use Rattle.psi_closed_arcs.specs.Inner.MarksKept.{Gives}
 use Rattle.psi_closed_arcs.proofs.joining.give_rows.Given as goal
 
 abbrev pub invariant-loop-before : goal.invariant-loop-before

@@ -1,6 +1,6 @@
 -- Invariants of the loops of `fill`.
 use Rattle.std.proofs.Common.{◌≡◌, ℕ, ◌<◌, ◌≤◌}
-use Rattle.psi_closed_arcs.specs.RowsKept.{sums_at}
+use Rattle.psi_closed_arcs.specs.Inner.RowsKept.{sums_at}
 use Rattle.psi_closed_arcs.proofs.reach.fill.Given as goal
 
 abbrev pub invariant-loop-level : goal.invariant-loop-level

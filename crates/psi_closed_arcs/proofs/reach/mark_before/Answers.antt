@@ -10,14 +10,14 @@ use Rattle.psi_closed_arcs.proofs.reach.mark_before.Goals as goal
 pub loop-level-init : goal.loop-level-init
 loop-level-init c =
     let of = c.args.of.now in
-    behind-begun of.arcs c.args.rule.now of.levels of.total c.requires.sized.ranged c.requires.sized.small c.args.stretch.low c.args.stretch.start c.fill.new.marks c.args.first
+    behind-begun of.arcs c.args.rule.now of.levels of.total c.requires.stretch.sized.ranged c.requires.stretch.sized.small c.args.stretch.low c.args.stretch.start c.fill.new.marks c.args.first
     c.fill.ensures c.requires.begin
 
 pub loop-level-preserved : goal.loop-level-preserved
 loop-level-preserved c =
     let of = c.args.of.now in
-    let few = c.requires.sized.few in
-    behind-next of.arcs c.args.rule.now of.levels of.total c.requires.sized.ranged c.requires.sized.small c.args.stretch.low c.loop-level.level c.window.result c.loop-level.marks
+    let few = c.requires.stretch.sized.few in
+    behind-next of.arcs c.args.rule.now of.levels of.total c.requires.stretch.sized.ranged c.requires.stretch.sized.small c.args.stretch.low c.loop-level.level c.window.result c.loop-level.marks
     _ c.marks_past-past.result (omega arith) (omega arith) (read-default c.loop-level.marks c.loop-level.level (record { words = [] }) (omega arith)) c.window.ensures
     c.marks_past-past.ensures c.loop-level.invariant
 
@@ -25,7 +25,7 @@ pub returns : goal.returns
 returns c =
     let of = c.args.of.now in
     let test = c.loop-level-test.false in
-    let order = c.requires.order in
+    let order = c.requires.stretch.start_high in
     let end = c.loop-level.auto.level-end in
     let same : c.loop-level.level ≡ c.args.stretch.high = omega arith in
     subst (λ k. MarkBefore (Listed of.arcs) (Only (Listed of.arcs) (Allows c.args.rule.now)) c.args.stretch.low k c.loop-level.marks) same c.loop-level.invariant

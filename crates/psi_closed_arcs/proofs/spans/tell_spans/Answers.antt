@@ -2,7 +2,7 @@
 use Rattle.std.proofs.Common.{inl, inr, sym, subst, arith, slice_set, get_or-set_same, get_or-set_other}
 use Rattle.std.proofs.lemmas.Bool.{cases_eq}
 use Rattle.psi_closed_arcs.specs.declared.spans.Span.{Span}
-use Rattle.psi_closed_arcs.specs.SpansKept.{span_at, IsSpan}
+use Rattle.psi_closed_arcs.specs.Inner.SpansKept.{span_at, IsSpan}
 use Rattle.psi_closed_arcs.proofs.spans.tell_spans.Goals as goal
 
 pub loop-level-preserved : goal.loop-level-preserved

@@ -1,6 +1,6 @@
 -- Invariants of the loops of `tell_spans`.
 use Rattle.std.proofs.Common.{◌<◌, ◌≤◌, ℕ}
-use Rattle.psi_closed_arcs.specs.SpansKept.{span_at, IsSpan}
+use Rattle.psi_closed_arcs.specs.Inner.SpansKept.{span_at, IsSpan}
 use Rattle.psi_closed_arcs.proofs.spans.tell_spans.Given as goal
 
 -- the spans of the queues before this one are told

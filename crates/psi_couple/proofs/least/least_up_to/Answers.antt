@@ -1,6 +1,6 @@
 -- Answers in the proof of `least_up_to`.
 use Rattle.std.proofs.Common.{ℕ, ◌+◌, ◌-◌, ◌/◌, ap, sym, ◌∙◌, arith}
-use Rattle.psi_rate.specs.Composition.{Parts, system_functions}
+use Rattle.psi_rate.specs.Composition.{SystemParts, system_functions}
 use Rattle.psi_rate.proofs.FunctionsLemmas.{functions-closed}
 use Rattle.psi_horizon.specs.Runs.{ending_at}
 use Rattle.psi_couple.proofs.PlansLemmas.{none-over}
@@ -15,7 +15,7 @@ loop-high-preserved-then-is_some g c =
     let kept = c.loop-high.invariant in
     let test = c.loop-high-test.true in
     let closed = functions-closed g.E.EventLaw.capacities g.E.EventLaw.function system words g.met.E.EventLaw.closed c.requires.fit.same_caps in
-    let run_of = λ (s : Parts g.row.E.Denot) (w : ℕ → ℕ). ending_at s.split (system_functions g.E.EventLaw.function s w) s.caps middle in
+    let run_of = λ (s : SystemParts g.row.E.Denot) (w : ℕ → ℕ). ending_at s.split (system_functions g.E.EventLaw.function s w) s.caps middle in
     let is = c.ending.ensures.ending ∙ (ap (λ s. run_of s (g.P.Past.words c.loop-high.plan.past)) kept.system ∙ ap (λ w. run_of system w) kept.words) in
     record {
       order = omega arith;
@@ -35,7 +35,7 @@ loop-high-preserved g c =
     let system = c.args.plan.now.system in
     let words = g.P.Past.words c.args.plan.now.past in
     let closed = functions-closed g.E.EventLaw.capacities g.E.EventLaw.function system words g.met.E.EventLaw.closed c.requires.fit.same_caps in
-    let run_of = λ (s : Parts g.row.E.Denot) (w : ℕ → ℕ). ending_at s.split (system_functions g.E.EventLaw.function s w) s.caps middle in
+    let run_of = λ (s : SystemParts g.row.E.Denot) (w : ℕ → ℕ). ending_at s.split (system_functions g.E.EventLaw.function s w) s.caps middle in
     let is = c.ending.ensures.ending ∙ (ap (λ s. run_of s (g.P.Past.words c.loop-high.plan.past)) kept.system ∙ ap (λ w. run_of system w) kept.words) in
     record {
       order = omega arith;

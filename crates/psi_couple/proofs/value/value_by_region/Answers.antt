@@ -2,7 +2,7 @@
 use Rattle.std.proofs.Common.{◌≡◌, ℕ, List, Some, ap, sym, ◌∙◌}
 use Rattle.psi_reward.specs.Rewards.{reward_kind}
 use Rattle.psi_reward.specs.Worth.{worth_of}
-use Rattle.psi_rate.specs.Composition.{Parts, system_functions}
+use Rattle.psi_rate.specs.Composition.{SystemParts, system_functions}
 use Rattle.psi_region.specs.Region.{Area, ShowsBox}
 use Rattle.psi_couple.specs.Valuing.{common_value, value_at}
 use Rattle.psi_couple.proofs.PlansLemmas.{shown-ended}
@@ -13,7 +13,7 @@ returns-in-Some-clause-value g c =
     let plan = c.run_whole.new.plan in
     let words = g.P.Past.words plan.past in
     let value = worth_of (reward_kind c.args.reward.now) in
-    let run_of = λ (s : Parts g.row.E.Denot) (w : ℕ → ℕ). value_at value s.split (system_functions g.E.EventLaw.function s w) s.caps c.args.horizon in
+    let run_of = λ (s : SystemParts g.row.E.Denot) (w : ℕ → ℕ). value_at value s.split (system_functions g.E.EventLaw.function s w) s.caps c.args.horizon in
     let shown = shown-ended (λ (a : Area). ShowsBox a (Some c.in-Some.bounds)) plan.system.split plan.system.caps (system_functions g.E.EventLaw.function plan.system words)
     c.args.horizon plan.run c.run_whole.ensures.run c.in-Some.ensures.shown in
     c.value_on_box.ensures ∙ (ap (λ (xs : List (List ℕ)). common_value value xs) (sym shown.1)
@@ -24,7 +24,7 @@ returns-in-None-clause-value g c =
     let value = worth_of (reward_kind c.args.reward.now) in
     let plan = c.run_whole.new.plan in
     let words = g.P.Past.words plan.past in
-    let run_of = λ (s : Parts g.row.E.Denot) (w : ℕ → ℕ). value_at value s.split (system_functions g.E.EventLaw.function s w) s.caps c.args.horizon in
+    let run_of = λ (s : SystemParts g.row.E.Denot) (w : ℕ → ℕ). value_at value s.split (system_functions g.E.EventLaw.function s w) s.caps c.args.horizon in
     let shown = shown-ended (λ (a : Area). c.states.result.now ≡ a.states) plan.system.split plan.system.caps (system_functions g.E.EventLaw.function plan.system words)
     c.args.horizon plan.run c.run_whole.ensures.run c.states.ensures.states in
     c.value_on_set.ensures ∙ (ap (λ (xs : List (List ℕ)). common_value value xs) shown

@@ -3,7 +3,7 @@ use Rattle.std.proofs.Common.{◌≡◌, ℕ, suc, ◌*◌, ◌^◌, ◌%◌, �
 use Rattle.std.proofs.lemmas.Int.{to_z-of_z}
 use Rattle.psi_reward.specs.Rewards.{reward_kind}
 use Rattle.psi_reward.specs.Worth.{worth_of}
-use Rattle.psi_rate.specs.Composition.{Parts, system_functions}
+use Rattle.psi_rate.specs.Composition.{SystemParts, system_functions}
 use Rattle.psi_rate.specs.Doubling.{HasNone, IsFirst}
 use Rattle.psi_rate.proofs.DoublingLemmas.{shift-room, first-found}
 use Rattle.psi_rate.proofs.FunctionsLemmas.{functions-closed}
@@ -19,7 +19,7 @@ value_after-requires-clause-most g c =
     let limit = c.args.plan.now.system.limit in
     let bound = c.limit-limit.ensures.bound in
     let value = c.limit-limit.ensures.value in
-    subst (λ (s : Parts g.row.E.Denot). 1 * 2 ^ c.loop-exponent.exponent % 4294967296 ≤ 2 ^ s.limit) (sym c.loop-exponent.invariant.system)
+    subst (λ (s : SystemParts g.row.E.Denot). 1 * 2 ^ c.loop-exponent.exponent % 4294967296 ≤ 2 ^ s.limit) (sym c.loop-exponent.invariant.system)
     (shift-room c.loop-exponent.exponent limit (2 ^ limit) (omega arith) (omega arith) (omega arith))
 
 pub returns-in-Some-clause-first : goal.returns-in-Some-clause-first
@@ -28,7 +28,7 @@ returns-in-Some-clause-first g c =
     let system = c.args.plan.now.system in
     let value = worth_of (reward_kind c.args.reward.now) in
     let horizon = 1 * 2 ^ c.loop-exponent.exponent % 4294967296 in
-    let run_of = λ (s : Parts g.row.E.Denot) (w : ℕ → ℕ). value_at value s.split (system_functions g.E.EventLaw.function s w) s.caps in
+    let run_of = λ (s : SystemParts g.row.E.Denot) (w : ℕ → ℕ). value_at value s.split (system_functions g.E.EventLaw.function s w) s.caps in
     let kept = c.loop-exponent.invariant in
     let found = sym c.in-Some.is ∙ (c.value_after.ensures.value
     ∙ (ap (λ s. run_of s (g.P.Past.words c.loop-exponent.plan.past) horizon) kept.system ∙ ap (λ w. run_of system w horizon) kept.words)) in

@@ -3,7 +3,7 @@ use Rattle.std.proofs.Common.{◌≡◌, ℕ, List, length, map, refl, ap, sym, 
 use Rattle.std.specs.Prelude.{slice_get}
 use Rattle.psi_state.specs.State.{all_states}
 use Rattle.psi_exact.specs.Mapping.{Mapped}
-use Rattle.psi_exact.specs.ImagesKept.{AreImages, IsOneMore}
+use Rattle.psi_exact.specs.Inner.ImagesKept.{AreImages, IsOneMore}
 use Rattle.psi_exact.proofs.ImagesLemmas.{learned-none, learned-same, learned-next}
 use Rattle.psi_exact.proofs.SurveysLemmas.{event-caps}
 use Rattle.psi_exact.proofs.following.learn.Goals as goal

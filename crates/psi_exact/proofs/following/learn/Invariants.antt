@@ -1,7 +1,7 @@
 -- Invariants of the loops of `learn`.
 use Rattle.std.proofs.Common.{◌≡◌, length, map}
 use Rattle.psi_state.specs.State.{all_states}
-use Rattle.psi_exact.specs.ImagesKept.{AreImages, AreLearned}
+use Rattle.psi_exact.specs.Inner.ImagesKept.{AreImages, AreLearned}
 use Rattle.psi_exact.proofs.following.learn.Given as goal
 
 -- the events so far are known

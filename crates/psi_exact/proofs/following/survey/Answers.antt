@@ -5,7 +5,7 @@ use Rattle.psi_rate.specs.Composition.{system_functions}
 use Rattle.psi_rate.proofs.FunctionsLemmas.{functions-closed}
 use Rattle.psi_rate.specs.Outcomes.{meeting_at}
 use Rattle.psi_exact.specs.Mapping.{Mapped}
-use Rattle.psi_exact.specs.ImagesKept.{AreImages}
+use Rattle.psi_exact.specs.Inner.ImagesKept.{AreImages}
 use Rattle.psi_exact.proofs.SurveysLemmas.{meeting_within-only, meeting-reaches, meeting-below}
 use Rattle.psi_exact.proofs.following.survey.Goals as goal
 

@@ -25,6 +25,7 @@ returns g c =
     let at_low = c.follow.ensures.low course.caps functions (zeros course.caps) c.requires.program (zeros-caps course.caps) (c.pack-corners.ensures.low ∙ ap packs zero_is) in
     let at_high = c.follow.ensures.high course.caps functions course.caps c.requires.program (below-itself course.caps) (c.pack-corners.ensures.high ∙ ap packs caps_is) in
     record {
+      closed = c.caps-caps.ensures.closed;
       least = c.unpack.ensures.low low (within (zeros course.caps) (zeros-caps course.caps)) at_low;
       greatest = c.unpack.ensures.high high (within course.caps (below-itself course.caps)) at_high;
     }

@@ -1,5 +1,5 @@
 use Rattle.std.proofs.Common.{◌≡◌, length, take}
-use Rattle.psi_follow_packed.specs.FillingKept.{AreRepeated}
+use Rattle.psi_follow_packed.specs.Inner.FillingKept.{AreRepeated}
 use Rattle.psi_follow_packed.proofs.filling.repeat_with.Given as goal
 
 abbrev pub invariant-loop-at : goal.invariant-loop-at

@@ -1,7 +1,7 @@
 use Rattle.std.proofs.Common.{ap, ◌∙◌, arith}
 use Rattle.psi_follow_packed.specs.Views.{low_words, high_words}
 use Rattle.psi_follow_packed.specs.declared.pairs.PackedPair.{PackedPair}
-use Rattle.psi_follow_sets.specs.HalvesKept.{words_of_first}
+use Rattle.psi_follow_sets.specs.Inner.HalvesKept.{words_of_first}
 use Rattle.psi_follow_sets.proofs.HalvingLemmas.{gather-more}
 use Rattle.psi_follow_sets.proofs.gathering.gather.Goals as goal
 

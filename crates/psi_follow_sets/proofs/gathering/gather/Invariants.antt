@@ -1,6 +1,6 @@
 use Rattle.std.proofs.Common.{◌≡◌, ◌*◌, ◌<◌, ◌≤◌, length, take, slice_index, EachIndex}
 use Rattle.psi_state.specs.Ascending.{HaveSame}
-use Rattle.psi_follow_sets.specs.HalvesKept.{halves, words_of_first}
+use Rattle.psi_follow_sets.specs.Inner.HalvesKept.{halves, words_of_first}
 use Rattle.psi_follow_sets.proofs.gathering.gather.Given as goal
 
 abbrev pub invariant-loop-pair : goal.invariant-loop-pair

@@ -1,5 +1,5 @@
 use Rattle.std.proofs.Common.{◌≡◌, ◌*◌, length, take}
-use Rattle.psi_follow_sets.specs.HalvesKept.{halves, words_of_first}
+use Rattle.psi_follow_sets.specs.Inner.HalvesKept.{halves, words_of_first}
 use Rattle.psi_follow_sets.proofs.gathering.pair_whole.Given as goal
 
 abbrev pub invariant-loop-at : goal.invariant-loop-at

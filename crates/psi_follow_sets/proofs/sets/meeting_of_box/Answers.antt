@@ -34,7 +34,7 @@ returns g c = λ lo hi begun.
     let high = high_words c.follow_until_few.new.x in
     let run = subst (λ (ns : List ℕ). IsCornersRun g.row.K p.packing functions ns 1 (record { lo = lo; hi = hi }) low high c.follow_until_few.result) (behind-all numbers stop) (c.follow_until_few.ensures.run lo hi begun) in
     let told = c.box_has_at_most.ensures run.to.lo run.to.hi run.corners in
-    box-meets g.row.K p course.caps functions lo hi low high c.follow_until_few.result c.caps-caps.ensures.closed begun.ordered
+    box-meets g.row.K p course.caps functions lo hi low high c.follow_until_few.result c.requires.closed begun.ordered
     (subst (λ (cs : List ℕ). IsBelow hi cs) prepared.same_caps begun.within) numbers stop (low_words c.follow.new.x) c.unpack_one.result run
     (told.0 c.if-not-box_has_at_most.false) prepared c.follow.ensures.low
     (λ t below same. c.unpack_one.ensures t below (c.low.ensures ∙ same))

@@ -52,10 +52,13 @@ coalescence_of_few-requires g c =
       (
         search rules,
         (
-          c.requires.machine,
+          c.caps-caps.ensures.closed,
           (
-            record { each = events-left count count c.follow_until_few-left.result c.args.numbers.now c.requires.numbers run.left refl },
-            record { of = run.to; corners = run.corners },
+            c.requires.machine,
+            (
+              record { each = events-left count count c.follow_until_few-left.result c.args.numbers.now c.requires.numbers run.left refl },
+              record { of = run.to; corners = run.corners },
+            ),
           ),
         ),
       ),

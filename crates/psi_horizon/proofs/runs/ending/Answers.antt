@@ -1,12 +1,9 @@
 -- Answers in the proof of `ending`.
-use Rattle.std.proofs.Common.{ℕ, ◌^◌, List, map, length, ap, sym, ◌∙◌, subst}
-use Rattle.std.proofs.lemmas.List.{length-map}
-use Rattle.psi_rate.proofs.FunctionsLemmas.{functions-closed}
-use Rattle.psi_region.specs.Followed.{Followed, ending_of}
-use Rattle.psi_rate.specs.Numbers.{numbers_below}
+use Rattle.std.proofs.Common.{ℕ, ◌^◌, List, ap, sym, ◌∙◌, subst}
+use Rattle.psi_state.specs.Sets.{single}
 use Rattle.psi_rate.specs.Keeping.{KeepsNumbers}
 use Rattle.psi_rate.proofs.NumbersLemmas.{keeps-fewer}
-use Rattle.psi_horizon.proofs.AreasLemmas.{numbers-events, areas-ending}
+use Rattle.psi_horizon.proofs.AreasLemmas.{run-events, run-states}
 use Rattle.psi_horizon.proofs.runs.ending.Goals as goal
 
 pub extend_to-requires : goal.extend_to-requires
@@ -19,23 +16,12 @@ extend_to-requires g c =
     }
 
 pub ending-requires : goal.ending-requires
-ending-requires g c =
-    let system = c.args.system.now in
-    let network = g.F.Follower.stands_for c.args.follower.now in
-    record {
-      numbers = numbers-events system.rates (g.P.Past.words c.extend_to.new.past) c.args.horizon (length network.functions) c.below-run.result.now
-          (c.requires.fit.same_count ∙ sym (length-map system.events g.E.EventLaw.function)
-          ∙ sym (ap (λ (n : Followed). length n.functions) c.requires.follower))
-          (c.below-run.ensures.numbers ∙ ap (λ (rates : List ℕ). numbers_below rates (g.P.Past.words c.extend_to.new.past) c.args.horizon) c.wheel-wheel.ensures);
-    }
+ending-requires g c = record {
+  numbers = run-events g.E.EventLaw.capacities g.E.EventLaw.function c.args.system.now (g.P.Past.words c.args.past.now) c.args.horizon c.below-run.result.now
+      (g.F.Follower.stands_for c.args.follower.now) c.requires.fit c.requires.follower c.below-run.ensures.numbers c.wheel-wheel.ensures c.extend_to.ensures.words;
+}
 
 pub returns-clause-ending : goal.returns-clause-ending
 returns-clause-ending g c =
-    let system = c.args.system.now in
-    let words = g.P.Past.words c.args.past.now in
-    areas-ending system.split system.caps (map g.E.EventLaw.function system.events) system.rates words c.args.horizon c.below-run.result.now c.ending.result
-    (c.requires.fit.same_count ∙ sym (length-map system.events g.E.EventLaw.function))
-    (c.below-run.ensures.numbers ∙ ap (λ (rates : List ℕ). numbers_below rates (g.P.Past.words c.extend_to.new.past) c.args.horizon) c.wheel-wheel.ensures
-    ∙ ap (λ (w : ℕ → ℕ). numbers_below system.rates w c.args.horizon) c.extend_to.ensures.words)
-    (functions-closed g.E.EventLaw.capacities g.E.EventLaw.function system words g.met.E.EventLaw.closed c.requires.fit.same_caps)
-    (c.ending.ensures.ending ∙ ap (λ (n : Followed). ending_of n c.below-run.result.now) c.requires.follower)
+    c.ending.ensures.ending ∙ ap (λ (xs : List (List ℕ)). single xs) (run-states g.E.EventLaw.capacities g.E.EventLaw.function c.args.system.now (g.P.Past.words c.args.past.now) c.args.horizon c.below-run.result.now
+    (g.F.Follower.stands_for c.args.follower.now) c.requires.fit c.requires.follower c.below-run.ensures.numbers c.wheel-wheel.ensures c.extend_to.ensures.words g.met.E.EventLaw.closed)

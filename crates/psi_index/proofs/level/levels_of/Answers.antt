@@ -2,7 +2,7 @@
 use Rattle.std.proofs.Common.{◌+◌, ◌^◌, ◌≤◌, length, List, sym, ◌∙◌, subst, arith, zero, ◌<◌}
 use Rattle.std.proofs.Math.Nat.{pow-le-pow_right}
 use Rattle.psi_index.specs.Extremes.{AreLeast}
-use Rattle.psi_index.specs.LevelsKept.{AreLevels}
+use Rattle.psi_index.specs.Inner.LevelsKept.{AreLevels}
 use Rattle.psi_index.specs.declared.level.Level.{Level}
 use Rattle.psi_index.proofs.WidthsLemmas.{exponent-greatest, levels-more}
 use Rattle.psi_index.proofs.level.levels_of.Goals as goal

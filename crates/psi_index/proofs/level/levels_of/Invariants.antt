@@ -1,6 +1,6 @@
 -- Invariants of the loops of `levels_of`.
 use Rattle.std.proofs.Common.{◌≡◌, vec_len}
-use Rattle.psi_index.specs.LevelsKept.{AreLevels}
+use Rattle.psi_index.specs.Inner.LevelsKept.{AreLevels}
 use Rattle.psi_index.proofs.level.levels_of.Given as goal
 
 abbrev pub invariant-loop-made : goal.invariant-loop-made

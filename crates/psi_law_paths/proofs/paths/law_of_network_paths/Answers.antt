@@ -1,22 +1,11 @@
 -- Answers in the proof of `law_of_network_paths`.
-use Rattle.std.specs.Prelude.{◌^◌, refl}
-use Rattle.psi_path.specs.Path.{first_place}
+use Rattle.std.proofs.Common.{rules}
 use Rattle.psi_law.proofs.NetworkLemmas.{network-lawful}
-use Rattle.psi_law.specs.Networks.{network_chain, network_sample}
-use Rattle.psi_law_paths.proofs.PathLemmas.{are-paths, limit-small}
+use Rattle.psi_law_paths.proofs.PathLemmas.{are-paths}
 use Rattle.psi_law_paths.proofs.paths.law_of_network_paths.Goals as goal
 
 pub returns : goal.returns
 returns c =
-    let lawful = (network-lawful c.args.net.now c.queues-queues.ensures.kept).laws in
-    let laws = are-paths (network_chain c.args.net.now) (network_sample c.args.net.now) first_place (2 ^ c.args.net.now.limit)
-    lawful.is_chain lawful.reaches lawful.words (limit-small c.args.net.now.limit c.queues-queues.ensures.kept.limit) in
-    record {
-      stationary = laws.stationary;
-      mean = laws.mean;
-      tails = laws.tails;
-      intervals = laws.intervals;
-      bets = laws.bets;
-      unmet = laws.unmet_share;
-      walked = λ words start k. refl;
-    }
+    let kept = c.networks_are_kept.ensures.kept in
+    let paths = are-paths c.args.net.now.limit (network-lawful c.args.net.now kept).laws kept.limit in
+    search rules

@@ -4,7 +4,7 @@ use Rattle.std.proofs.Common.{ap, sym, ◌∙◌, arith}
 use Rattle.psi_log_format.specs.declared.header.Header.{Header}
 use Rattle.psi_log_format.specs.Log.{LogRegion}
 use Rattle.psi_log_words.specs.Regions.{box_before}
-use Rattle.psi_log.specs.LogViews.{entries_of}
+use Rattle.psi_log.specs.Inner.LogViews.{entries_of}
 use Rattle.psi_log.proofs.StepLemmas.{steps_end}
 use Rattle.psi_log.proofs.LogLemmas.{lines_more, lines_fail}
 use Rattle.psi_log.proofs.log.read_lines.Goals as goal

@@ -2,7 +2,7 @@
 use Rattle.std.specs.Prelude.{◌≡◌, ◌+◌, ◌-◌, ◌∷◌, length, drop}
 use Rattle.psi_log_words.specs.Regions.{box_before}
 use Rattle.psi_log.specs.Reading.{read_steps}
-use Rattle.psi_log.specs.LogViews.{entries_of}
+use Rattle.psi_log.specs.Inner.LogViews.{entries_of}
 use Rattle.psi_log.proofs.StepLemmas.{behind}
 use Rattle.psi_log.proofs.log.read_lines.Given as goal
 

@@ -4,7 +4,7 @@ use Rattle.std.proofs.Common.{ap, sym, ◌∙◌, subst}
 use Rattle.psi_log_format.specs.declared.header.Header.{Header}
 use Rattle.psi_log_words.specs.Refusal.{IsLogError}
 use Rattle.psi_log.specs.Cursor.{Cursor, ended}
-use Rattle.psi_log.specs.LogViews.{certificate_of}
+use Rattle.psi_log.specs.Inner.LogViews.{certificate_of}
 use Rattle.psi_log.proofs.ReadLemmas.{read_found, read_only}
 use Rattle.psi_log.proofs.LogLemmas.{log_read, begun_fails, steps_fail, end_fails}
 use Rattle.psi_log.proofs.log.read_log.Goals as goal

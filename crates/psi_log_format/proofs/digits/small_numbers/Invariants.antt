@@ -1,6 +1,6 @@
 -- Invariants of the loops of `small_numbers`.
 use Rattle.std.specs.Prelude.{◌≡◌, ◌≤◌, vec_len, vec_capacity}
-use Rattle.psi_log_format.specs.TableKept.{AreDigits}
+use Rattle.psi_log_format.specs.Inner.TableKept.{AreDigits}
 use Rattle.psi_log_format.proofs.digits.small_numbers.Given as goal
 
 abbrev pub invariant-loop-n : goal.invariant-loop-n

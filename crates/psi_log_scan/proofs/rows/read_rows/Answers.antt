@@ -7,7 +7,7 @@ use Rattle.psi_log_format.specs.Text.{numbers_text}
 use Rattle.psi_log_format.proofs.JoinedLemmas.{then}
 use Rattle.psi_log_words.specs.Regions.{ascends}
 use Rattle.psi_log_words.proofs.OrderLemmas.{order_none}
-use Rattle.psi_log_scan.specs.RowsViews.{IsNextRow, IsRead}
+use Rattle.psi_log_scan.specs.Inner.RowsViews.{IsNextRow, IsRead}
 use Rattle.psi_log_scan.proofs.RowsLemmas.{rising_more, rising_one}
 use Rattle.psi_log_scan.proofs.ScanLemmas.{is_state, scanned_none, scanned_more}
 use Rattle.psi_log_scan.proofs.rows.read_rows.Goals as goal

@@ -1,6 +1,6 @@
 -- Invariants of the loops of `runs::is_alike`.
 use Rattle.std.specs.Prelude.{◌*◌}
-use Rattle.psi_log_scan.specs.RowsViews.{IsAlike}
+use Rattle.psi_log_scan.specs.Inner.RowsViews.{IsAlike}
 use Rattle.psi_log_scan.proofs.runs.is_alike.Given as goal
 
 abbrev pub invariant-loop-block : goal.invariant-loop-block

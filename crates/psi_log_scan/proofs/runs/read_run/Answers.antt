@@ -42,5 +42,5 @@ loop-preserved c =
       last = ends_in all _ y made;
       read = read_more q c.args.text.now c.args.at c.loop.end (c.loop.end + c.args.run.now.len) c.args.states.now.states all _ (slice_set row queue c.loop.last) y
           c.loop.invariant.read c.loop.invariant.last made (above_other row queue c.loop.last n c.requires.run.queue c.in-Some.ensures.above)
-          c.in-Some.ensures.there c.in-Some.ensures.within (is_state q y (length-set row queue n) (range_set row queue n c.keep_range.ensures c.in-Some.ensures.range));
+          c.in-Some.ensures.there c.in-Some.ensures.within (is_state q y (length-set row queue n) (range_set row queue n c.padded-first.ensures.range c.in-Some.ensures.range));
     }

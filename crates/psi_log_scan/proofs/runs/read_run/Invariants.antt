@@ -1,7 +1,7 @@
 -- Invariants of the loops of `runs::read_run`.
 use Rattle.std.specs.Prelude.{◌≡◌, ◌≤◌, ◌*◌, ◌++◌, length, take, slice_set}
 use Rattle.psi_log_format.specs.Rows.{rows}
-use Rattle.psi_log_scan.specs.RowsViews.{EndsIn, IsRead}
+use Rattle.psi_log_scan.specs.Inner.RowsViews.{EndsIn, IsRead}
 use Rattle.psi_log_scan.proofs.runs.read_run.Given as goal
 
 abbrev pub invariant-loop : goal.invariant-loop

@@ -1,5 +1,4 @@
 -- Answers in the proof of `run`.
-use Rattle.psi_program.specs.Seen.{ShelfCall}
 use Rattle.psi_program.proofs.SparingLemmas.{spared}
 use Rattle.psi_merge.specs.Ended.{faults}
 use Rattle.psi_merge.proofs.RunningLemmas.{run_is}
@@ -19,18 +18,8 @@ returns-clause-headline g c =
 
 pub returns-clause-edge : goal.returns-clause-edge
 returns-clause-edge g c =
-    let old = c.args.shelf.now in
-    let new = c.work-ending.new.shelf in
-    let shelf : ShelfCall = record {
-      gave_before = g.F.Shelf.gave old;
-      gave_after = g.F.Shelf.gave new;
-      asked_before = g.F.Shelf.asked old;
-      asked_after = g.F.Shelf.asked new;
-      faults_before = g.F.Shelf.faults old;
-      faults_after = g.F.Shelf.faults new;
-    } in
     let written = rw (c.status.ensures, c.text.ensures) at c.finish.ensures.written in
-    ended_edge _ shelf _ _ c.finish.result _ c.work-ending.ensures.ending written (g.F.Shelf.told old) c.work-ending.ensures.agrees
+    ended_edge _ _ _ _ c.finish.result _ c.work-ending.ensures.ending written (g.F.Shelf.told c.args.shelf.now) c.work-ending.ensures.agrees
 
 pub returns-clause-spared : goal.returns-clause-spared
 returns-clause-spared g c reply there given taken =

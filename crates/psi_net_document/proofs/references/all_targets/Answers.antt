@@ -4,7 +4,7 @@ use Rattle.toml.specs.View.{view}
 use Rattle.psi_net_document.specs.Values.{each}
 use Rattle.psi_net_document.specs.References.{target_step}
 use Rattle.psi_net_document.specs.Targets.{AreTargets}
-use Rattle.psi_net_document.specs.MarksKept.{AreMarked}
+use Rattle.psi_net_document.specs.Inner.MarksKept.{AreMarked}
 use Rattle.psi_net_document.proofs.MarksLemmas.{no_marks}
 use Rattle.psi_net_document.proofs.PigeonLemmas.{no_targets}
 use Rattle.psi_net_document.proofs.references.all_targets.Goals as goal

@@ -2,7 +2,7 @@
 use Rattle.std.proofs.Common.{◌≡◌, List, ℕ, get_or, ap, ◌∙◌, subst, refl, arith}
 use Rattle.psi_state.specs.Members.{In}
 use Rattle.psi_pool.specs.declared.nodes.Node.{Node}
-use Rattle.psi_pool.specs.NodesKept.{node_at, states}
+use Rattle.psi_pool.specs.Inner.NodesKept.{node_at, states}
 use Rattle.psi_pool.proofs.PlacesLemmas.{node-read}
 use Rattle.psi_pool.proofs.KeepingLemmas.{seek-whole, seek-absent}
 use Rattle.psi_pool.proofs.CountingLemmas.{count-next_new, count-next_there}

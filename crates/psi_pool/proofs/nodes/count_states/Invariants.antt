@@ -1,7 +1,7 @@
 -- Invariants of the loops of `count_states`.
 use Rattle.std.proofs.Common.{◌≡◌, ◌≤◌, length}
 use Rattle.psi_state.specs.Sets.{ascending}
-use Rattle.psi_pool.specs.NodesKept.{states}
+use Rattle.psi_pool.specs.Inner.NodesKept.{states}
 use Rattle.psi_pool.proofs.nodes.count_states.Given as goal
 
 abbrev pub invariant-loop-place : goal.invariant-loop-place

@@ -1,6 +1,6 @@
 -- Invariants of the loops of `gather`.
 use Rattle.std.proofs.Common.{◌≡◌, vec_capacity}
-use Rattle.psi_pool.specs.NodesKept.{states}
+use Rattle.psi_pool.specs.Inner.NodesKept.{states}
 use Rattle.psi_pool.proofs.nodes.gather.Given as goal
 
 abbrev pub invariant-loop-node : goal.invariant-loop-node

@@ -1,6 +1,6 @@
 -- Answers in the proof of `link_all`.
 use Rattle.std.proofs.Common.{◌≡◌, ◌-◌, length, get_or, arith, refl, true}
-use Rattle.psi_pool.specs.NodesKept.{states}
+use Rattle.psi_pool.specs.Inner.NodesKept.{states}
 use Rattle.psi_pool.proofs.RelinkingLemmas.{relink-start, relink-more, relink-fewer, relink-end}
 use Rattle.psi_pool.proofs.nodes.link_all.Goals as goal
 

@@ -1,6 +1,6 @@
 -- Invariants of the loops of `link_all`.
 use Rattle.std.proofs.Common.{◌-◌, ◌≤◌, length}
-use Rattle.psi_pool.specs.NodesKept.{states}
+use Rattle.psi_pool.specs.Inner.NodesKept.{states}
 use Rattle.psi_pool.proofs.RelinkingLemmas.{IsRelinking}
 use Rattle.psi_pool.proofs.nodes.link_all.Given as goal
 

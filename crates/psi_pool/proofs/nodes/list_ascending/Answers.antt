@@ -2,7 +2,7 @@
 use Rattle.std.proofs.Common.{List, ℕ, ◌+◌, slice_set, ◌≡◌, get_or, ap, sym, ◌∙◌, refl, arith, subst}
 use Rattle.std.proofs.lemmas.Bool.{true≢false}
 use Rattle.psi_pool.specs.declared.nodes.Node.{Node}
-use Rattle.psi_pool.specs.NodesKept.{node_at}
+use Rattle.psi_pool.specs.Inner.NodesKept.{node_at}
 use Rattle.psi_pool.proofs.PlacesLemmas.{node-read}
 use Rattle.psi_pool.proofs.ListingLemmas.{IsListing, listing-listed, listing-aside}
 use Rattle.psi_pool.proofs.nodes.list_ascending.Goals as goal

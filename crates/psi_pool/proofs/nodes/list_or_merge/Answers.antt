@@ -1,7 +1,7 @@
 -- Answers in the proof of `list_or_merge`.
 use Rattle.std.proofs.Common.{◌+◌, ◌++◌, List, ℕ, length, subst}
 use Rattle.psi_state.specs.Ascending.{HaveSame}
-use Rattle.psi_pool.specs.NodesKept.{states}
+use Rattle.psi_pool.specs.Inner.NodesKept.{states}
 use Rattle.psi_pool.proofs.ListingLemmas.{listed-all, same-through}
 use Rattle.psi_pool.proofs.nodes.list_or_merge.Goals as goal
 

@@ -1,6 +1,6 @@
 -- Answers in the proof of `merge`.
 use Rattle.std.proofs.Common.{◌≡◌, ◌+◌, ◌-◌, ◌++◌, length, get_or, refl, subst, arith}
-use Rattle.psi_pool.specs.NodesKept.{states}
+use Rattle.psi_pool.specs.Inner.NodesKept.{states}
 use Rattle.psi_pool.proofs.ListingLemmas.{IsMerging, merging-start, merging-end, merged-listed, merged-node}
 use Rattle.psi_pool.proofs.nodes.merge.Goals as goal
 

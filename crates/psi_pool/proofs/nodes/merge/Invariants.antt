@@ -1,6 +1,6 @@
 -- Invariants of the loops of `merge`.
 use Rattle.std.proofs.Common.{◌+◌, ◌++◌, length}
-use Rattle.psi_pool.specs.NodesKept.{states}
+use Rattle.psi_pool.specs.Inner.NodesKept.{states}
 use Rattle.psi_pool.proofs.ListingLemmas.{IsMerging}
 use Rattle.psi_pool.proofs.nodes.merge.Given as goal
 

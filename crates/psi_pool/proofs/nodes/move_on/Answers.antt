@@ -2,7 +2,7 @@
 use Rattle.std.proofs.Common.{length, sym, ◌∙◌, subst, refl, arith}
 use Rattle.psi_state.specs.State.{IsBelow}
 use Rattle.psi_pool.specs.declared.nodes.Node.{Node}
-use Rattle.psi_pool.specs.NodesKept.{node_at}
+use Rattle.psi_pool.specs.Inner.NodesKept.{node_at}
 use Rattle.psi_pool.proofs.PlacesLemmas.{node-read, In-at}
 use Rattle.psi_pool.proofs.nodes.move_on.Goals as goal
 

@@ -1,6 +1,6 @@
 -- Invariants of the loops of `move_on`.
 use Rattle.std.proofs.Common.{◌≡◌, ◌<◌, ◌≤◌, ℕ}
-use Rattle.psi_pool.specs.NodesKept.{node_at}
+use Rattle.psi_pool.specs.Inner.NodesKept.{node_at}
 use Rattle.psi_pool.proofs.nodes.move_on.Given as goal
 
 abbrev pub invariant-loop-node : goal.invariant-loop-node

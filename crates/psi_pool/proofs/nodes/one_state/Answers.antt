@@ -4,7 +4,7 @@ use Rattle.std.proofs.lemmas.Bool.{not-true}
 use Rattle.std.specs.Cmp.Lexicographic.{pointwise}
 use Rattle.psi_state.proofs.StatesLemmas.{apart-from_eq}
 use Rattle.psi_pool.specs.declared.nodes.Node.{Node}
-use Rattle.psi_pool.specs.NodesKept.{node_at}
+use Rattle.psi_pool.specs.Inner.NodesKept.{node_at}
 use Rattle.psi_pool.proofs.PlacesLemmas.{node-read}
 use Rattle.psi_pool.proofs.CountingLemmas.{one-all, one-apart}
 use Rattle.psi_pool.proofs.nodes.one_state.Goals as goal

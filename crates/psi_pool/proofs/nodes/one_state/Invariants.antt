@@ -1,6 +1,6 @@
 -- Invariants of the loops of `one_state`.
 use Rattle.std.proofs.Common.{◌≡◌, ◌<◌, ℕ}
-use Rattle.psi_pool.specs.NodesKept.{node_at}
+use Rattle.psi_pool.specs.Inner.NodesKept.{node_at}
 use Rattle.psi_pool.proofs.nodes.one_state.Given as goal
 
 -- the nodes so far have the state of the first

@@ -3,7 +3,7 @@ use Rattle.std.proofs.Common.{◌≡◌, ◌+◌, ◌++◌, List, ℕ, length, a
 use Rattle.std.specs.List.Sorted.{IsPermutation}
 use Rattle.psi_state.specs.Sets.{ascending}
 use Rattle.psi_state.specs.Ascending.{HaveSame}
-use Rattle.psi_pool.specs.NodesKept.{states}
+use Rattle.psi_pool.specs.Inner.NodesKept.{states}
 use Rattle.psi_pool.proofs.SortingLemmas.{sorted-is}
 use Rattle.psi_pool.proofs.PlacesLemmas.{states-take}
 use Rattle.psi_pool.proofs.ListingLemmas.{same-through, same-ascending, no-states}

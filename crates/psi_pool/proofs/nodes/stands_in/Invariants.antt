@@ -1,6 +1,6 @@
 -- Invariants of the loops of `stands_in`.
 use Rattle.std.proofs.Common.{◌≡◌, ◌<◌, ℕ}
-use Rattle.psi_pool.specs.NodesKept.{node_at}
+use Rattle.psi_pool.specs.Inner.NodesKept.{node_at}
 use Rattle.psi_pool.proofs.nodes.stands_in.Given as goal
 
 -- no node so far has the state

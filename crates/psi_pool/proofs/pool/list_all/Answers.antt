@@ -1,7 +1,7 @@
 -- Answers in the proof of `list_all`.
 use Rattle.std.proofs.Common.{◌∙◌}
 use Rattle.psi_state.proofs.AscendingLemmas.{ascending-members}
-use Rattle.psi_pool.specs.TablesKept.{held}
+use Rattle.psi_pool.specs.Inner.TablesKept.{held}
 use Rattle.psi_pool.proofs.ListingLemmas.{same-through}
 use Rattle.psi_pool.proofs.pool.list_all.Goals as goal
 

@@ -1,7 +1,7 @@
 -- Invariants of the loops of `list_all`.
 use Rattle.std.proofs.Common.{◌≡◌, length, vec_capacity}
 use Rattle.psi_state.specs.Ascending.{HaveSame}
-use Rattle.psi_pool.specs.TablesKept.{held, IsTable}
+use Rattle.psi_pool.specs.Inner.TablesKept.{held, IsTable}
 use Rattle.psi_pool.proofs.pool.list_all.Given as goal
 
 abbrev pub invariant-loop-merge : goal.invariant-loop-merge

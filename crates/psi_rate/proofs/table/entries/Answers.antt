@@ -1,7 +1,7 @@
 -- Answers in the proof of `entries`.
 use Rattle.std.proofs.Common.{ℕ, ◌*◌, ◌-◌, ◌%◌, ◌^◌, List, length, ap, arith, subst, sym}
 use Rattle.std.proofs.lemmas.Nat.{one_shl}
-use Rattle.psi_rate.specs.TableKept.{AreFirstAbove}
+use Rattle.psi_rate.specs.Inner.TableKept.{AreFirstAbove}
 use Rattle.psi_rate.proofs.TableLemmas.{filled-first, filled-stretch}
 use Rattle.psi_rate.proofs.table.entries.Goals as goal
 

@@ -1,6 +1,6 @@
 -- Invariants of the loops of `entries`.
 use Rattle.std.proofs.Common.{ℕ, ◌*◌, ◌^◌, ◌<◌, ◌≤◌, length, get_or, vec_capacity}
-use Rattle.psi_rate.specs.TableKept.{AreFirstAbove}
+use Rattle.psi_rate.specs.Inner.TableKept.{AreFirstAbove}
 use Rattle.psi_rate.proofs.table.entries.Given as goal
 
 abbrev pub invariant-loop-event : goal.invariant-loop-event

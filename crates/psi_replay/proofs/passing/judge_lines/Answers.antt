@@ -10,7 +10,7 @@ use Rattle.psi_log.proofs.FrontLemmas.{ends_then, next_ends}
 use Rattle.psi_log_format.specs.Listed.{shown}
 use Rattle.psi_replay.specs.Verdict.{is_within, judge_step, event_numbers}
 use Rattle.psi_replay.specs.Judging.{Gives, region_before}
-use Rattle.psi_replay.specs.Passes.{told, and_then, verdict_left}
+use Rattle.psi_replay.specs.Passes.{told, and_then, left_with}
 use Rattle.psi_replay.proofs.JudgingLemmas.{regional_once, held_on}
 use Rattle.psi_replay.proofs.PassLemmas.{line_judged, pass_more, pass_fails}
 use Rattle.psi_replay.proofs.passing.judge_lines.Goals as goal
@@ -24,8 +24,7 @@ returns-in-Err-clause-refused g c =
     let test = c.loop-done-test.true in
     let size : c.header-horizon.result.horizon ≡ c.args.reader.now.header.horizon = ap (λ (k : Header). k.horizon) c.header-horizon.ensures.value in
     let same : reader.header.horizon ≡ c.args.reader.now.header.horizon = ap (λ (k : Header). k.horizon) kept.header in
-    subst (λ (k : Cursor). IsLogError c.in-Err.error (verdict_left system.caps system.limit (event_numbers system words) (system_functions g.E.EventLaw.function system words)
-    k.header k.done k.region k.rest (told c.loop-done.judged))) (sym c.in-Err.ensures.kept)
+    subst (λ (k : Cursor). IsLogError c.in-Err.error (left_with g.E.EventLaw.function system words k k.rest c.loop-done.judged)) (sym c.in-Err.ensures.kept)
     (pass_fails system.caps system.limit (event_numbers system words) (system_functions g.E.EventLaw.function system words) reader.header reader.done reader c.loop-done.judged c.in-Err.error
     refl refl (omega arith) c.in-Err.ensures.refused)
 

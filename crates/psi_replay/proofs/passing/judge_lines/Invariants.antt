@@ -3,7 +3,7 @@ use Rattle.std.specs.Prelude.{◌≡◌, List, ℕ, ◌++◌, length, true, OnOk
 use Rattle.psi_rate.specs.Composition.{system_functions}
 use Rattle.psi_log.specs.Cursor.{IsCursor, EndsAs}
 use Rattle.psi_replay.specs.Verdict.{is_within, event_numbers}
-use Rattle.psi_replay.specs.Passes.{told, verdict_left}
+use Rattle.psi_replay.specs.Passes.{told, verdict_left, left_with}
 use Rattle.psi_replay.proofs.passing.judge_lines.Given as goal
 
 -- what is left of the lines gives what all of them give, whatever text comes after
@@ -17,8 +17,7 @@ invariant-loop-done g l = record {
   queues : OnOk l.judged (l.reader.header.queues ≡ length l.system.caps);
   within : OnOk l.judged (is_within l.system.caps l.reader.region ≡ true);
   left : (more : List ℕ)
-      → verdict_left l.system.caps l.system.limit (event_numbers l.system (g.P.Past.words l.fn.past)) (system_functions g.E.EventLaw.function l.system (g.P.Past.words l.fn.past))
-      l.fn.reader.header l.fn.reader.done l.fn.reader.region (l.fn.reader.rest ++ more) (told l.fn.before)
+      → left_with g.E.EventLaw.function l.system (g.P.Past.words l.fn.past) l.fn.reader (l.fn.reader.rest ++ more) l.fn.before
       ≡ verdict_left l.system.caps l.system.limit (event_numbers l.system (g.P.Past.words l.fn.past)) (system_functions g.E.EventLaw.function l.system (g.P.Past.words l.fn.past))
       l.fn.reader.header l.done l.reader.region (l.reader.rest ++ more) (told l.judged);
 }

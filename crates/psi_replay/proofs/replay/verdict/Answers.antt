@@ -36,7 +36,7 @@ returns-clause-reached g c =
     let log = c.args.log.now in
     let words = seed_word log.header.seed log.header.stream in
     let f = system_functions g.E.EventLaw.function system words in
-    let closed = functions-closed g.E.EventLaw.capacities g.E.EventLaw.function system words g.met.E.EventLaw.closed c.caps-caps.ensures.fit.same_caps in
+    let closed = functions-closed g.E.EventLaw.capacities g.E.EventLaw.function system words g.met.E.EventLaw.closed c.judge_begin-begun.ensures.fit.same_caps in
     subst (λ (v : Verdict). ReachesAccepted f system.caps v) (sym (returns-clause-value g c))
     (verdict_reaches system.caps system.limit (event_numbers system words) f log c.header-header.ensures.log closed)
 
@@ -46,6 +46,6 @@ returns-clause-within g c =
     let log = c.args.log.now in
     let words = seed_word log.header.seed log.header.stream in
     let f = system_functions g.E.EventLaw.function system words in
-    let closed = functions-closed g.E.EventLaw.capacities g.E.EventLaw.function system words g.met.E.EventLaw.closed c.caps-caps.ensures.fit.same_caps in
+    let closed = functions-closed g.E.EventLaw.capacities g.E.EventLaw.function system words g.met.E.EventLaw.closed c.judge_begin-begun.ensures.fit.same_caps in
     subst (λ (v : Verdict). AcceptsWithin system.caps v) (sym (returns-clause-value g c))
     (verdict_within system.caps system.limit (event_numbers system words) f log c.header-header.ensures.log closed)

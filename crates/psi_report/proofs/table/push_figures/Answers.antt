@@ -1,6 +1,6 @@
 -- Answers in the proof of `table::push_figures`.
 use Rattle.std.proofs.Common.{subst, arith}
-use Rattle.psi_report.specs.RecordsKept.{Holds}
+use Rattle.psi_report.specs.Inner.RecordsKept.{Holds}
 use Rattle.psi_report.specs.Text.{figure_row}
 use Rattle.psi_report.proofs.RowLemmas.{rows_none, rows_more}
 use Rattle.psi_report.proofs.table.push_figures.Goals as goal

@@ -1,6 +1,6 @@
 -- The rows of the elements before it are written.
 use Rattle.std.proofs.Common.{ℕ, List, ◌++◌, map, take}
-use Rattle.psi_report.specs.RecordsKept.{Holds}
+use Rattle.psi_report.specs.Inner.RecordsKept.{Holds}
 use Rattle.psi_report.specs.Text.{count_row}
 use Rattle.psi_report.proofs.table.push_horizons.Given as goal
 

@@ -13,7 +13,7 @@ returns-in-Trial-clause-agrees g c = agrees_unmoved _ _
 
 pub returns-in-About-clause-finished : goal.returns-in-About-clause-finished
 returns-in-About-clause-finished g c =
-    rw c.in-About.is (finished_with _ _ _ _ _ _ c.finish.result c.finish.ensures (c.work.ensures.ending, c.work.ensures.read))
+    rw c.in-About.is (finished_with _ _ _ _ _ _ c.finish.result c.finish.ensures (record { any = c.work.ensures.ending; read = c.work.ensures.read }))
 
 pub returns-in-About-clause-spared : goal.returns-in-About-clause-spared
 returns-in-About-clause-spared g c = rw c.in-About.is c.work.ensures.spared
@@ -22,16 +22,16 @@ pub returns-in-Trial-clause-finished : goal.returns-in-Trial-clause-finished
 returns-in-Trial-clause-finished g c =
     let number = c.in-Trial.number in
     let worked = c.trial_ending.ensures in
-    rw c.in-Trial.is (finished_with _ _ _ _ _ _ c.finish-in-Trial.result c.finish-in-Trial.ensures (
-      λ told are. (on_number _ number _ _ refl worked.reply (λ has before after grew. trial_printed before after number (worked.kept has) grew), asked_trial _ number _ refl),
-      λ given. ends-read _ _ worked.reply,
-    ))
+    rw c.in-Trial.is (finished_with _ _ _ _ _ _ c.finish-in-Trial.result c.finish-in-Trial.ensures (record {
+      any = λ told are. (on_number _ number _ _ refl worked.reply (λ has before after grew. trial_printed before after number (worked.kept has) grew), asked_trial _ number _ refl);
+      read = λ given. ends-read _ _ worked.reply;
+    }))
 
 pub returns-in-Certify-clause-finished : goal.returns-in-Certify-clause-finished
 returns-in-Certify-clause-finished g c =
     let certify = c.in-Certify in
     rw c.in-Certify.is (finished_as _ _ _ _ _ _ c.perform.result c.perform.ensures.finished
-    (λ ending is. (is.0, λ given. is.1 (certify_given (g.F.Shelf.gives c.args.shelf.now) certify.net.now certify.seed certify.stream given))))
+    (λ ending is. record { any = is.0; read = λ given. is.1 (certify_given (g.F.Shelf.gives c.args.shelf.now) certify.net.now certify.seed certify.stream given) }))
 
 pub returns-in-Certify-clause-spared : goal.returns-in-Certify-clause-spared
 returns-in-Certify-clause-spared g c =

@@ -2,7 +2,7 @@
 use Rattle.std.proofs.Common.{◌≡◌, ◌+◌, List, ℕ, ◌++◌, take, IfSome, refl, sym, ◌∙◌, ap, subst}
 use Rattle.psi_log_format.specs.declared.header.TheConstants.{MOST_LOG_BYTES}
 use Rattle.psi_run.proofs.ReplayingLemmas.{read_whole}
-use Rattle.psi_io.proofs.AgreeingLemmas.{agrees_one, one_agrees, agrees_nothing, delivered_prefix}
+use Rattle.psi_io.proofs.AgreeingLemmas.{agrees_one, one_agrees, delivered_prefix}
 use Rattle.psi_run.proofs.files.feed_log.Goals as goal
 
 pub returns-in-Ok-clause-text : goal.returns-in-Ok-clause-text

@@ -2,7 +2,7 @@
 use Rattle.std.proofs.Common.{refl, Ok, Err}
 use Rattle.psi_net_document.specs.declared.refusals.TheConstants.{MOST_NET_BYTES}
 use Rattle.psi_run.proofs.EndingsLemmas.{judged_whole}
-use Rattle.psi_io.proofs.AgreeingLemmas.{agrees_one, one_agrees, agrees_nothing}
+use Rattle.psi_io.proofs.AgreeingLemmas.{agrees_one, one_agrees}
 use Rattle.psi_run.proofs.files.network_at.Goals as goal
 
 pub returns-in-Ok-net_of-clause-network : goal.returns-in-Ok-net_of-clause-network

@@ -1,6 +1,7 @@
 -- Answers in the proof of `work::perform`.
 use Rattle.psi_program.proofs.FinishingLemmas.{finished_as, finished_with}
-use Rattle.psi_streams.proofs.NamingLemmas.{ends_read, named_read}
+use Rattle.psi_run.proofs.SparingLemmas.{ends-read}
+use Rattle.psi_streams.proofs.NamingLemmas.{named_read}
 use Rattle.psi_streams.proofs.EndingsLemmas.{on_net, no_net}
 use Rattle.psi_streams.proofs.work.perform.Goals as goal
 
@@ -9,7 +10,7 @@ returns-in-Ok-clause-finished g c =
     finished_as _ _ _ _ _ _ c.write_states.result c.write_states.ensures
     (λ ending ends. record {
       any = λ told are. on_net _ _ _ c.in-Ok.ensures.asked c.in-Ok.net ending (c.in-Ok.ensures.network told are) ends;
-      read = λ given. ends_read ending _ ends;
+      read = λ given. ends-read ending _ ends;
     })
 
 pub returns-in-Err-clause-finished : goal.returns-in-Err-clause-finished

@@ -18,4 +18,4 @@ returns-clause-text c =
     let fourth = c.put_queues.ensures.text ∙ ap (λ (xs : List ℕ). xs ++ customers_fields state) third in
     let fifth = c.put_rewards.ensures.text ∙ ap (λ (xs : List ℕ). xs ++ rewards_fields state net.rewards) fourth in
     c.push_reserved-2.ensures.items ∙ ap (λ (xs : List ℕ). xs ++ 10 ∷ []) fifth
-    ∙ line_met old net c.args.stream c.args.horizon state c.ranges.stream.fits c.ranges.horizon.fits count c.len-queues.ensures.vector.each c.put_rewards.ensures.small
+    ∙ line_met old net c.args.stream c.args.horizon state c.ranges.stream.fits c.ranges.horizon.fits count c.put_queues.ensures.small c.put_rewards.ensures.small

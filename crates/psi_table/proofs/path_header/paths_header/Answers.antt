@@ -11,19 +11,13 @@ use Rattle.psi_table.proofs.path_header.paths_header.Goals as goal
 pub returns : goal.returns
 returns c =
     let net = c.args.net.now in
-    let first : fields_of c.push_field.new.self ≡ codes "stream" ∷ [] =
-    c.in_ok-push_field.ensures.fields ∙ ap (λ (fields : List (List ℕ)). fields ++ (partial_of c.new-header.result ++ codes "stream") ∷ []) c.new-header.ensures.fields
-    ∙ ap (λ (front : List ℕ). (front ++ codes "stream") ∷ []) c.new-header.ensures.partial in
-    let second : fields_of c.push_field-2.new.self ≡ codes "stream" ∷ codes "horizon" ∷ [] =
-    c.in_ok-push_field-2.ensures.fields ∙ ap (λ (fields : List (List ℕ)). fields ++ (partial_of c.push_field.new.self ++ codes "horizon") ∷ []) first
-    ∙ ap (λ (front : List ℕ). codes "stream" ∷ (front ++ codes "horizon") ∷ []) c.in_ok-push_field.ensures.partial in
-    let third : fields_of c.push_field-3.new.self ≡ codes "stream" ∷ codes "horizon" ∷ codes "steps" ∷ [] =
-    c.in_ok-push_field-3.ensures.fields ∙ ap (λ (fields : List (List ℕ)). fields ++ (partial_of c.push_field-2.new.self ++ codes "steps") ∷ []) second
-    ∙ ap (λ (front : List ℕ). codes "stream" ∷ codes "horizon" ∷ (front ++ codes "steps") ∷ []) c.in_ok-push_field-2.ensures.partial in
+    let steps : fields_of c.push_field.new.self ≡ codes "stream" ∷ codes "horizon" ∷ codes "steps" ∷ [] =
+    c.in_ok-push_field.ensures.fields ∙ ap (λ (fields : List (List ℕ)). fields ++ (partial_of c.in_ok-header.header ++ codes "steps") ∷ []) c.in_ok-header.ensures.fields
+    ∙ ap (λ (front : List ℕ). codes "stream" ∷ codes "horizon" ∷ (front ++ codes "steps") ∷ []) c.in_ok-header.ensures.whole in
     let queues = map (λ (q : Queue). codes "queue." ++ q.name) net.queues in
     let rewards = map (λ (r : NamedReward). codes "reward." ++ r.name) net.rewards in
     c.in_ok-push_events.ensures.fields
     ∙ ap (λ (fields : List (List ℕ)). fields ++ flat_map event_columns net.events)
     (c.in_ok-push_rewards.ensures.fields ∙ ap (λ (fields : List (List ℕ)). fields ++ rewards)
-    (c.in_ok-push_queues.ensures.fields ∙ ap (λ (fields : List (List ℕ)). fields ++ queues) third))
+    (c.in_ok-push_queues.ensures.fields ∙ ap (λ (fields : List (List ℕ)). fields ++ queues) steps))
     ∙ paths_header_is net

@@ -6,5 +6,6 @@ use Rattle.psi_table.proofs.path_line.put_unmet.Goals as goal
 pub returns-clause-text : goal.returns-clause-text
 returns-clause-text c seed steps limit =
     let net = c.args.net.now in
-    let second = c.put_empty.ensures.text ∙ ap (λ (xs : List ℕ). xs ++ replicate (length net.queues + length net.rewards + 2 * length net.events + 2) 44) c.put_number.ensures.text in
+    let fields = rw (c.queues.ensures.count, c.rewards.ensures, c.events.ensures.count) at c.put_empty.ensures.text in
+    let second = fields ∙ ap (λ (xs : List ℕ). xs ++ replicate (length net.queues + length net.rewards + 2 * length net.events + 2) 44) c.put_number.ensures.text in
     c.push_reserved.ensures.items ∙ ap (λ (xs : List ℕ). xs ++ 10 ∷ []) second ∙ line_unwalked c.args.line.now.items net seed steps c.args.stream limit c.ranges.stream.fits

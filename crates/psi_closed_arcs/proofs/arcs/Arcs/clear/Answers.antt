@@ -1,7 +1,7 @@
 -- Answers in the proof of `Arcs::clear`.
 use Rattle.std.proofs.Common.{◌≡◌, length, List, ap, ◌∙◌}
 use Rattle.psi_closed_arcs.specs.declared.sums.Sums.{Sums}
-use Rattle.psi_closed_arcs.specs.RowsKept.{arcs_of}
+use Rattle.psi_closed_arcs.specs.Inner.RowsKept.{arcs_of}
 use Rattle.psi_closed_arcs.proofs.RowsLemmas.{empty-arcs, written}
 use Rattle.psi_closed_arcs.proofs.arcs.Arcs.clear.Goals as goal
 

@@ -1,6 +1,6 @@
 -- Answers in the proof of `Arcs::has`.
 use Rattle.std.proofs.Common.{◌≤◌, ap, sym, ◌∙◌, arith}
-use Rattle.psi_closed_arcs.specs.RowsKept.{sums_at}
+use Rattle.psi_closed_arcs.specs.Inner.RowsKept.{sums_at}
 use Rattle.psi_closed_arcs.proofs.RowsLemmas.{seen-total, seen-end, seen-row, read-row}
 use Rattle.psi_closed_arcs.proofs.arcs.Arcs.has.Goals as goal
 

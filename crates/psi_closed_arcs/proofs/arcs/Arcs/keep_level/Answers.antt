@@ -1,7 +1,7 @@
 -- Answers in the proof of `Arcs::keep_level`.
 use Rattle.std.proofs.Common.{◌∙◌, arith}
 use Rattle.psi_closed_arcs.specs.Held.{Listed}
-use Rattle.psi_closed_arcs.specs.MarksKept.{Keeps}
+use Rattle.psi_closed_arcs.specs.Inner.MarksKept.{Keeps}
 use Rattle.psi_closed_arcs.proofs.RowsLemmas.{arc_of}
 use Rattle.psi_closed_arcs.proofs.PuttingLemmas.{put-more, put-all, iff-trans, keeps-at}
 use Rattle.psi_closed_arcs.proofs.arcs.Arcs.keep_level.Goals as goal

@@ -1,7 +1,7 @@
 -- Invariants of the loops of `Arcs::keep_level`.
 use Rattle.std.proofs.Common.{◌≡◌}
 use Rattle.psi_closed_arcs.specs.Held.{Listed}
-use Rattle.psi_closed_arcs.specs.MarksKept.{Keeps}
+use Rattle.psi_closed_arcs.specs.Inner.MarksKept.{Keeps}
 use Rattle.psi_closed_arcs.proofs.PuttingLemmas.{IsPut}
 use Rattle.psi_closed_arcs.proofs.arcs.Arcs.keep_level.Given as goal
 

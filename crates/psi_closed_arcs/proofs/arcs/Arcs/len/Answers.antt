@@ -1,7 +1,7 @@
 -- Answers in the proof of `Arcs::len`.
 use Rattle.std.proofs.Common.{◌≡◌, ◌*◌, List, length, subst}
 use Rattle.psi_closed_arcs.specs.declared.sums.Sums.{Sums}
-use Rattle.psi_closed_arcs.specs.RowsKept.{arcs_below}
+use Rattle.psi_closed_arcs.specs.Inner.RowsKept.{arcs_below}
 use Rattle.psi_closed_arcs.proofs.RowsLemmas.{seen-length, seen-distinct, seen-ranged}
 use Rattle.psi_closed_arcs.proofs.arcs.Arcs.len.Goals as goal
 

@@ -3,7 +3,7 @@ use Rattle.std.proofs.Common.{◌≡◌, true, ◌↔◌, sym, ◌∙◌, subst,
 use Rattle.psi_closed_arcs.specs.declared.sums.Sums.{Sums}
 use Rattle.psi_closed_arcs.specs.Sums.{has, Leads}
 use Rattle.psi_closed_arcs.specs.Held.{Listed}
-use Rattle.psi_closed_arcs.specs.MarksKept.{Gives}
+use Rattle.psi_closed_arcs.specs.Inner.MarksKept.{Gives}
 use Rattle.psi_closed_arcs.proofs.RowsLemmas.{arc_of, read-row}
 use Rattle.psi_closed_arcs.proofs.PuttingLemmas.{put-more, put-all, iff-trans, gives-near}
 use Rattle.psi_closed_arcs.proofs.arcs.Arcs.shift_level.Goals as goal

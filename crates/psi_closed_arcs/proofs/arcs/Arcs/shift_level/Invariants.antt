@@ -1,7 +1,7 @@
 -- Invariants of the loops of `Arcs::shift_level`.
 use Rattle.std.proofs.Common.{◌≡◌}
 use Rattle.psi_closed_arcs.specs.Held.{Listed}
-use Rattle.psi_closed_arcs.specs.MarksKept.{Gives}
+use Rattle.psi_closed_arcs.specs.Inner.MarksKept.{Gives}
 use Rattle.psi_closed_arcs.proofs.PuttingLemmas.{IsPut}
 use Rattle.psi_closed_arcs.proofs.arcs.Arcs.shift_level.Given as goal
 

@@ -4,8 +4,8 @@ use Rattle.std.proofs.lemmas.Bool.{cases_lt}
 use Rattle.std.proofs.lemmas.List.{get_or_default}
 use Rattle.psi_closed_arcs.specs.Held.{Listed}
 use Rattle.psi_closed_arcs.specs.Joining.{IsShiftable, IsChanging, IsShort, IsFull, Joined}
-use Rattle.psi_closed_arcs.specs.MarksKept.{TellsUseful}
-use Rattle.psi_closed_arcs.specs.SpansKept.{IsSpan, AreSpans, span_at}
+use Rattle.psi_closed_arcs.specs.Inner.MarksKept.{TellsUseful}
+use Rattle.psi_closed_arcs.specs.Inner.SpansKept.{IsSpan, AreSpans, span_at}
 use Rattle.psi_closed_arcs.specs.declared.spans.Span.{Span}
 use Rattle.psi_closed_arcs.specs.declared.marks.Marks.{Marks}
 use Rattle.psi_closed_arcs.proofs.MarkedLemmas.{useful-shiftable}

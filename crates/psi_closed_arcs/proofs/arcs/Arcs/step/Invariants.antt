@@ -2,8 +2,8 @@
 use Rattle.std.proofs.Common.{◌≡◌, min, max}
 use Rattle.psi_closed_arcs.specs.Held.{Listed}
 use Rattle.psi_closed_arcs.specs.Joining.{IsChanging, IsShort, IsFull, Joined}
-use Rattle.psi_closed_arcs.specs.MarksKept.{TellsUseful}
-use Rattle.psi_closed_arcs.specs.SpansKept.{AreSpans}
+use Rattle.psi_closed_arcs.specs.Inner.MarksKept.{TellsUseful}
+use Rattle.psi_closed_arcs.specs.Inner.SpansKept.{AreSpans}
 use Rattle.psi_closed_arcs.proofs.PuttingLemmas.{AreDone}
 use Rattle.psi_closed_arcs.proofs.arcs.Arcs.step.Given as goal
 

@@ -1,6 +1,6 @@
 -- Answers in the proof of `Marks::at`.
 use Rattle.std.proofs.Common.{◌≡◌, ◌+◌, suc, ap, ◌∙◌, arith}
-use Rattle.psi_closed_arcs.specs.RowsKept.{sums_at}
+use Rattle.psi_closed_arcs.specs.Inner.RowsKept.{sums_at}
 use Rattle.psi_closed_arcs.proofs.RowsLemmas.{read-row}
 use Rattle.psi_closed_arcs.proofs.marks.Marks.at.Goals as goal
 

@@ -5,7 +5,7 @@ use Rattle.psi_state.specs.State.{all_states}
 use Rattle.psi_event.specs.Law.{IsClosed}
 use Rattle.psi_exact.specs.Ranks.{AreRanksOf}
 use Rattle.psi_exact.specs.Mapping.{Mapped, map_of, sends}
-use Rattle.psi_exact.specs.TableKept.{table_of, AreRanks}
+use Rattle.psi_exact.specs.Inner.TableKept.{table_of, AreRanks}
 use Rattle.psi_exact.proofs.TablesLemmas.{ranks-looked_up, table_of-older}
 use Rattle.psi_exact.proofs.table.Table.follow.Goals as goal
 

@@ -3,7 +3,7 @@ use Rattle.std.proofs.Common.{◌≡◌, ◌≤◌, ℕ, List, length, ap, sym, 
 use Rattle.std.proofs.lemmas.List.{with_items_is}
 use Rattle.psi_state.specs.State.{all_states}
 use Rattle.psi_exact.specs.Mapping.{Mapped, map_of, sends}
-use Rattle.psi_exact.specs.TableKept.{table_of, AreRanks}
+use Rattle.psi_exact.specs.Inner.TableKept.{table_of, AreRanks}
 use Rattle.psi_exact.proofs.table.Table.older.Goals as goal
 
 pub write_composed-requires : goal.write_composed-requires

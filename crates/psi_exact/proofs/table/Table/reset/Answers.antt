@@ -2,7 +2,7 @@
 use Rattle.std.proofs.Common.{◌≡◌, ℕ, List, length, ap, sym, ◌∙◌}
 use Rattle.std.proofs.lemmas.List.{with_items_is}
 use Rattle.psi_exact.specs.Mapping.{Mapped, map_of}
-use Rattle.psi_exact.specs.TableKept.{table_of}
+use Rattle.psi_exact.specs.Inner.TableKept.{table_of}
 use Rattle.psi_exact.proofs.TablesLemmas.{table_of-itself}
 use Rattle.psi_exact.proofs.table.Table.reset.Goals as goal
 

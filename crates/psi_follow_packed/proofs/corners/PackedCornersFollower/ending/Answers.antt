@@ -9,4 +9,4 @@ returns-clause-ending g c =
     let made = c.moved_corners-least in
     subst (λ (n : Network g.row.E.Denot). c.one_of.result ≡ ending_of (followed g.E.EventLaw.function n) c.args.numbers.now) c.self.view_is
     (corners-ending (followed g.E.EventLaw.function c.self.inside.course) c.args.numbers.now made.result.0 made.result.1 c.one_of.result
-    c.caps-caps.ensures.closed c.self.invariant.1 made.ensures.least made.ensures.greatest c.one_of.ensures)
+    made.ensures.closed c.self.invariant.1 made.ensures.least made.ensures.greatest c.one_of.ensures)

@@ -6,7 +6,7 @@ use Rattle.psi_state.specs.Hull.{corners}
 use Rattle.psi_follow_packed.specs.UnitEvents.{unit_masks}
 use Rattle.psi_follow_packed.specs.Views.{low_words, high_words}
 use Rattle.psi_follow_packed.specs.Boxes.{AreCorners}
-use Rattle.psi_follow_packed.specs.FillingKept.{AreSums}
+use Rattle.psi_follow_packed.specs.Inner.FillingKept.{AreSums}
 use Rattle.psi_guard.specs.Envelope.{CanMoveAll}
 use Rattle.psi_follow_packed.proofs.UnitRulesLemmas.{unit_rule}
 use Rattle.psi_follow_packed.proofs.UnitWordsLemmas.{AreUps, can-or_misses, can-passes, misses-not, stays, passes}

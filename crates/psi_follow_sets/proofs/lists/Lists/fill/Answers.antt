@@ -7,7 +7,7 @@ use Rattle.psi_state.proofs.BoxesLemmas.{In-low, In-of_box, below-through}
 use Rattle.psi_follow_packed.specs.Packed.{packed}
 use Rattle.psi_follow_packed.specs.declared.layout.Packed.{Packed}
 use Rattle.psi_follow_packed.specs.declared.pairs.PackedPair.{PackedPair}
-use Rattle.psi_follow_sets.specs.HalvesKept.{halves, words_of_first}
+use Rattle.psi_follow_sets.specs.Inner.HalvesKept.{halves, words_of_first}
 use Rattle.psi_follow_sets.proofs.HalvingLemmas.{same-again, some-members}
 use Rattle.psi_follow_sets.proofs.lists.Lists.fill.Goals as goal
 

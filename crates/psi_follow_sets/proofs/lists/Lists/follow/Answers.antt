@@ -1,7 +1,7 @@
 use Rattle.std.proofs.Common.{◌≡◌, take, drop, inl, inr, subst, ◌∙◌, arith}
 use Rattle.std.proofs.lemmas.List.{with_items_is}
 use Rattle.psi_follow_sets.specs.Room.{held}
-use Rattle.psi_follow_sets.specs.HoldingKept.{AreMoved}
+use Rattle.psi_follow_sets.specs.Inner.HoldingKept.{AreMoved}
 use Rattle.psi_follow_sets.proofs.FollowingLemmas.{set-rest, follow-end}
 use Rattle.psi_follow_sets.proofs.RoomLemmas.{lists-with_pairs}
 use Rattle.psi_follow_sets.proofs.lists.Lists.follow.Goals as goal

@@ -1,5 +1,5 @@
 use Rattle.std.proofs.Common.{◌≤◌, length, drop}
-use Rattle.psi_follow_sets.specs.HoldingKept.{AreMoved}
+use Rattle.psi_follow_sets.specs.Inner.HoldingKept.{AreMoved}
 use Rattle.psi_follow_sets.proofs.lists.Lists.follow_apart.Given as goal
 
 -- the words are those that the numbers after this place make of the words of before

@@ -2,8 +2,8 @@ use Rattle.std.specs.Vec.{with_items}
 use Rattle.std.proofs.lemmas.List.{with_items_is}
 use Rattle.std.proofs.Common.{[], ◌∷◌, ◌∙◌, List, length, take, ap, sym, subst, refl, arith, rules}
 use Rattle.psi_follow_packed.specs.declared.pairs.PackedPair.{PackedPair}
-use Rattle.psi_follow_sets.specs.HalvesKept.{halves}
-use Rattle.psi_follow_sets.specs.HoldingKept.{SetFollows}
+use Rattle.psi_follow_sets.specs.Inner.HalvesKept.{halves}
+use Rattle.psi_follow_sets.specs.Inner.HoldingKept.{SetFollows}
 use Rattle.psi_follow_sets.proofs.FollowingLemmas.{each-from_all, set-each}
 use Rattle.psi_follow_sets.proofs.RoomLemmas.{lists-with_pairs}
 use Rattle.psi_follow_sets.proofs.lists.Lists.step.Goals as goal

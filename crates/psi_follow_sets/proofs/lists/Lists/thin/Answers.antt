@@ -3,7 +3,7 @@ use Rattle.std.proofs.lemmas.List.{with_items_is, length-take-le}
 use Rattle.psi_state.specs.Ascending.{HaveSame}
 use Rattle.psi_follow_packed.specs.declared.layout.Packed.{Packed}
 use Rattle.psi_follow_packed.specs.declared.pairs.PackedPair.{PackedPair}
-use Rattle.psi_follow_sets.specs.HalvesKept.{halves, words_of_first}
+use Rattle.psi_follow_sets.specs.Inner.HalvesKept.{halves, words_of_first}
 use Rattle.psi_follow_sets.proofs.HalvingLemmas.{same-again, same-through, some-left}
 use Rattle.psi_follow_sets.proofs.lists.Lists.thin.Goals as goal
 

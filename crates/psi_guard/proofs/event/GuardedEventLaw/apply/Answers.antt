@@ -1,7 +1,7 @@
 -- Answers in the proof of `GuardedEventLaw::apply`.
 use Rattle.std.proofs.Common.{ℕ, List, sym, ◌∙◌, subst}
 use Rattle.psi_state.specs.State.{IsBelow}
-use Rattle.psi_guard.specs.RuleLaws.{guarded-closed, guarded-keeps}
+use Rattle.psi_guard.specs.Inner.RuleLaws.{guarded-closed, guarded-keeps}
 use Rattle.psi_guard.proofs.event.GuardedEventLaw.apply.Goals as goal
 
 pub returns-then-allows-clause-within : goal.returns-then-allows-clause-within

@@ -2,7 +2,7 @@
 use Rattle.std.proofs.Common.{◌∙◌}
 use Rattle.psi_event.proofs.LawLemmas.{monotone-corners, tight-within}
 use Rattle.psi_guard.specs.Guarding.{guarded}
-use Rattle.psi_guard.specs.RuleLaws.{guarded-closed}
+use Rattle.psi_guard.specs.Inner.RuleLaws.{guarded-closed}
 use Rattle.psi_guard.proofs.event.GuardedEventLaw.envelope.Goals as goal
 
 pub returns-clause-within : goal.returns-clause-within

@@ -3,7 +3,7 @@ use Rattle.std.proofs.Common.{◌≡◌, ◌<◌, ◌≤◌, ◌⊎◌, true, sl
 use Rattle.psi_guard.specs.declared.parts.Part.{Part}
 use Rattle.psi_guard.specs.Guarding.{all_allow}
 use Rattle.psi_guard.specs.Refusals.{at}
-use Rattle.psi_guard.specs.RuleLaws.{guarded-keeps}
+use Rattle.psi_guard.specs.Inner.RuleLaws.{guarded-keeps}
 use Rattle.psi_guard.proofs.StepsLemmas.{IsMoving, all_allow-from, all_allow-out, moving-start, moving-step, moving-end}
 use Rattle.psi_guard.proofs.guarded.Guarded.apply_one.Goals as goal
 use Rattle.psi_guard.proofs.guarded.Guarded.apply_one.Goals.{else-part-held-via-then-part-held+else-held-part, else-part-held-via-else-part-held}

@@ -2,7 +2,7 @@
 use Rattle.std.proofs.Common.{◌≡◌, ◌≤◌, ℕ, suc, ◌+◌, List, [], ◌∷◌, ◌++◌, length, take, drop, ap, sym, ◌∙◌, subst, arith, None, take-suc, take_all, drop_of_length-le}
 use Rattle.psi_guard.specs.declared.parts.Part.{Part}
 use Rattle.psi_guard.specs.Guarding.{guarded, upset_of}
-use Rattle.psi_guard.specs.PartsKept.{no_part}
+use Rattle.psi_guard.specs.Inner.PartsKept.{no_part}
 use Rattle.psi_guard.specs.Refusals.{AreGuards, refusal_after, refusal_of, at}
 use Rattle.psi_guard.proofs.AcceptedLemmas.{guards-empty, guards-push, kept-room, refusal-found, refusal-later}
 use Rattle.psi_guard.proofs.guarded.Guarded.new.Goals as goal

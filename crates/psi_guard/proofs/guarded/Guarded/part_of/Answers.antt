@@ -2,7 +2,7 @@
 use Rattle.std.proofs.Common.{◌≡◌, ◌<◌, length, inl, inr, ap, sym, ◌∙◌, arith, below_more}
 use Rattle.psi_guard.specs.Guarding.{part_of, free_part}
 use Rattle.psi_guard.specs.Refusals.{at}
-use Rattle.psi_guard.specs.PlacesLaws.{part_of-at, named_or_free}
+use Rattle.psi_guard.specs.Inner.PlacesLaws.{part_of-at, named_or_free}
 use Rattle.psi_guard.proofs.guarded.Guarded.part_of.Goals as goal
 
 pub loop-i-init : goal.loop-i-init

@@ -2,7 +2,7 @@
 use Rattle.std.proofs.Common.{◌≡◌, ◌<◌, length, ap, sym, ◌∙◌, arith}
 use Rattle.psi_guard.specs.Guarding.{part_of}
 use Rattle.psi_guard.specs.Refusals.{at}
-use Rattle.psi_guard.specs.PlacesLaws.{part_of-at}
+use Rattle.psi_guard.specs.Inner.PlacesLaws.{part_of-at}
 use Rattle.psi_guard.proofs.guarded.Guarded.part_there.Goals as goal
 
 pub returns-then-part-queue-clause-value : goal.returns-then-part-queue-clause-value

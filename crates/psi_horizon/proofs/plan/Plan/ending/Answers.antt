@@ -36,9 +36,7 @@ invariant_of-self g c =
     let kept = c.self.invariant in
     record {
       fit = kept.fit;
-      split = kept.split;
       kept = subst (λ (w : ℕ → ℕ). KeepsNumbers system.rates w (2 ^ system.limit) c.ending.new.numbers) (sym c.ending.ensures.words) c.ending.ensures.kept;
       follower = c.ending.ensures.follower ∙ kept.follower;
-      within = tt;
-      run = tt;
+      traced = record { split = kept.traced.split; run = tt };
     }

@@ -8,7 +8,7 @@ use Rattle.psi_horizon.specs.Planned.{Planned}
 use Rattle.psi_region.specs.Followed.{AreEnds}
 use Rattle.psi_horizon.specs.Runs.{region_at}
 use Rattle.psi_horizon.proofs.RunsLemmas.{run-area}
-use Rattle.psi_horizon.proofs.AreasLemmas.{ends-within}
+use Rattle.psi_horizon.proofs.RunningLemmas.{ends-within}
 use Rattle.psi_horizon.proofs.plan.Plan.ends.Goals as goal
 
 pub returns-clause-ends : goal.returns-clause-ends
@@ -37,9 +37,7 @@ invariant_of-self g c =
     let kept = c.self.invariant in
     record {
       fit = kept.fit;
-      split = kept.split;
       kept = subst (λ (w : ℕ → ℕ). KeepsNumbers system.rates w (2 ^ system.limit) c.ends.new.numbers) (sym c.ends.ensures.words) c.ends.ensures.kept;
       follower = c.ends.ensures.follower ∙ kept.follower;
-      within = tt;
-      run = tt;
+      traced = record { split = kept.traced.split; run = tt };
     }

@@ -8,9 +8,7 @@ invariant_of-self g c =
     let kept = c.self.invariant in
     record {
       fit = kept.fit;
-      split = kept.split;
       kept = c.clear.ensures system.rates (g.P.Past.words c.replace.new.self) (g.P.Past.words c.self.inside.past) (2 ^ system.limit) kept.kept;
       follower = kept.follower;
-      within = tt;
-      run = tt;
+      traced = record { split = kept.traced.split; run = tt };
     }

@@ -1,6 +1,6 @@
 -- Answers in the proof of `Kept::troughs`.
 use Rattle.std.proofs.Common.{ℕ, List, sym, ◌∙◌, subst}
-use Rattle.psi_index.specs.BoundsKept.{AreTroughs}
+use Rattle.psi_index.specs.Inner.BoundsKept.{AreTroughs}
 use Rattle.psi_index.specs.Extremes.{IsRising}
 use Rattle.psi_index.proofs.RisingLemmas.{rising-troughs}
 use Rattle.psi_index.proofs.kept.Kept.troughs.Goals as goal

@@ -1,6 +1,6 @@
 -- Invariants of the loops of `IndexTable::first_below`.
 use Rattle.std.proofs.Common.{◌<◌, ◌≤◌, ◌-◌, ℕ, slice_index}
-use Rattle.psi_index.specs.SearchesKept.{AreNarrowed}
+use Rattle.psi_index.specs.Inner.SearchesKept.{AreNarrowed}
 use Rattle.psi_index.proofs.table.IndexTable.first_below.Given as goal
 
 abbrev pub invariant-loop-low : goal.invariant-loop-low

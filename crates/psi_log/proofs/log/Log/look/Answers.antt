@@ -2,7 +2,7 @@
 use Rattle.std.proofs.Common.{subst}
 use Rattle.psi_log_format.specs.Log.{Certificate, IsRegion}
 use Rattle.psi_log_format.specs.Listed.{shown}
-use Rattle.psi_log.specs.LogViews.{certificate_of}
+use Rattle.psi_log.specs.Inner.LogViews.{certificate_of}
 use Rattle.psi_log.proofs.ToldLemmas.{region_told, regional}
 use Rattle.psi_log.proofs.log.Log.look.Goals as goal
 

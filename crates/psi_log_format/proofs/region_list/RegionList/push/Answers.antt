@@ -2,7 +2,7 @@
 use Rattle.std.proofs.Common.{◌≡◌, ◌∙◌, ap, ◌++◌, [], ◌∷◌, List, map, arith}
 use Rattle.std.proofs.lemmas.Grind.{common_steps}
 use Rattle.psi_log_format.specs.Log.{LogRegion}
-use Rattle.psi_log_format.specs.declared.region_list.Place.{Place}
+use Rattle.psi_log_format.specs.declared.region_list.RegionPlace.{RegionPlace}
 use Rattle.psi_log_format.specs.Listed.{Regions, shown, placed_region}
 use Rattle.psi_log_format.proofs.RegionsLemmas.{regions_kept, regions_more}
 use Rattle.psi_log_format.proofs.region_list.RegionList.push.Goals as goal
@@ -29,5 +29,5 @@ returns-clause-regions c =
     let old = c.self.inside in
     regions_more old.boxes.items c.place_of.new.boxes.items old.states.states c.place_of.new.states.states c.in_ok-place.ensures.boxes c.in_ok-place.ensures.states old.places.items
     c.push_reserved.new.self.items c.in_ok-place.place (shown c.args.region.now) c.self.invariant
-    (c.push_reserved.ensures.items ∙ ap (λ (ps : List Place). ps ++ c.in_ok-place.place ∷ []) c.in_ok-make_room.ensures.elements) c.in_ok-place.ensures.region
+    (c.push_reserved.ensures.items ∙ ap (λ (ps : List RegionPlace). ps ++ c.in_ok-place.place ∷ []) c.in_ok-make_room.ensures.elements) c.in_ok-place.ensures.region
     ∙ ap (λ (rs : List LogRegion). rs ++ shown c.args.region.now ∷ []) (ap (λ (r : Regions). r.regions) c.self.view_is)

@@ -1,6 +1,6 @@
 -- Answers in the proof of `Table::push`.
-use Rattle.psi_pool.specs.TablesKept.{held}
-use Rattle.psi_pool.specs.NodesKept.{states}
+use Rattle.psi_pool.specs.Inner.TablesKept.{held}
+use Rattle.psi_pool.specs.Inner.NodesKept.{states}
 use Rattle.std.proofs.Common.{◌+◌, slice_set}
 use Rattle.psi_pool.proofs.KeepingLemmas.{members-inserted, members-through}
 use Rattle.psi_pool.proofs.table.Table.push.Goals as goal

@@ -1,7 +1,7 @@
 -- Answers in the proof of `Table::put`.
 use Rattle.std.proofs.Common.{◌<◌, inl, inr, length, refl}
 use Rattle.psi_state.specs.Members.{In}
-use Rattle.psi_pool.specs.TablesKept.{held}
+use Rattle.psi_pool.specs.Inner.TablesKept.{held}
 use Rattle.psi_pool.proofs.KeepingLemmas.{seek-whole, seek-absent, table-inserted, members-inserted}
 use Rattle.psi_pool.proofs.table.Table.put.Goals as goal
 

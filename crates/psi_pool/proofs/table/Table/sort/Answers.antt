@@ -6,8 +6,8 @@ use Rattle.psi_state.specs.Sets.{ascending}
 use Rattle.psi_state.specs.Ascending.{HaveSame}
 use Rattle.psi_state.proofs.AscendingLemmas.{ascending-members}
 use Rattle.psi_pool.specs.declared.nodes.Node.{Node}
-use Rattle.psi_pool.specs.NodesKept.{states}
-use Rattle.psi_pool.specs.TablesKept.{held}
+use Rattle.psi_pool.specs.Inner.NodesKept.{states}
+use Rattle.psi_pool.specs.Inner.TablesKept.{held}
 use Rattle.psi_pool.proofs.ListingLemmas.{same-through}
 use Rattle.psi_pool.proofs.table.Table.sort.Goals as goal
 

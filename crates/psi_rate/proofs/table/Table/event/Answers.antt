@@ -1,6 +1,6 @@
 -- Answers in the proof of `Table::event`.
 use Rattle.std.proofs.Common.{◌%◌, ◌^◌, length, subst, arith}
-use Rattle.psi_rate.specs.TableKept.{IsFirstAbove}
+use Rattle.psi_rate.specs.Inner.TableKept.{IsFirstAbove}
 use Rattle.psi_rate.proofs.TableLemmas.{entry-first, first-event, stretch-start, word-number}
 use Rattle.psi_rate.proofs.table.Table.event.Goals as goal
 

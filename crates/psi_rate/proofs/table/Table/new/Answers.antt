@@ -1,7 +1,7 @@
 -- Answers in the proof of `Table::new`.
 use Rattle.std.proofs.Common.{◌*◌, ◌^◌, arith, ap, ◌∙◌, sym, subst}
 use Rattle.std.proofs.lemmas.Bool.{eqb-true}
-use Rattle.psi_rate.specs.TableKept.{AreMultiples}
+use Rattle.psi_rate.specs.Inner.TableKept.{AreMultiples}
 use Rattle.psi_rate.proofs.TableLemmas.{shift-stretches}
 use Rattle.psi_rate.proofs.table.Table.new.Goals as goal
 

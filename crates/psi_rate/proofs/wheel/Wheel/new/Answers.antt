@@ -1,6 +1,6 @@
 -- Answers in the proof of `Wheel::new`.
 use Rattle.std.proofs.Common.{ℕ, ◌≤◌, List, length, slice_index, EachIndex, ◌∙◌, sym, subst, arith}
-use Rattle.psi_rate.specs.TableKept.{IsTable}
+use Rattle.psi_rate.specs.Inner.TableKept.{IsTable}
 use Rattle.psi_rate.proofs.DealtLemmas.{total-passes, total-take_more, totals_from-take_more, dial-whole, totals-within, length-some}
 use Rattle.psi_rate.proofs.wheel.Wheel.new.Goals as goal
 

@@ -1,7 +1,7 @@
 -- Invariants of the loops of `Wheel::new`.
 use Rattle.std.proofs.Common.{◌≡◌, ◌≤◌, length, take, vec_len, vec_capacity}
 use Rattle.psi_rate.specs.Rates.{total}
-use Rattle.psi_rate.specs.TotalsKept.{totals_from}
+use Rattle.psi_rate.specs.Inner.TotalsKept.{totals_from}
 use Rattle.psi_rate.proofs.wheel.Wheel.new.Given as goal
 
 abbrev pub invariant-loop-at : goal.invariant-loop-at

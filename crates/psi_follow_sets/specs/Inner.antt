@@ -1,0 +1,5 @@
+-- What types keep of their private fields, how they are seen, and laws that clauses rest on.
+pub mod HalvesKept
+pub mod HoldingKept
+pub mod UnitsKept
+pub mod MachinesKept

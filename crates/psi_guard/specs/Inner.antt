@@ -1,0 +1,5 @@
+-- What types keep of their private fields, how they are seen, and laws that clauses rest on.
+pub mod PartsKept
+pub mod PartsKeptLaws
+pub mod PlacesLaws
+pub mod RuleLaws

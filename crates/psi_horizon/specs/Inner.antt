@@ -1,0 +1,2 @@
+-- What types keep of their private fields, how they are seen, and laws that clauses rest on.
+pub mod PlanKept

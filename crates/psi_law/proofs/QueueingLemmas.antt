@@ -1,0 +1,94 @@
+-- A network for examples: one queue, which customers join and leave.
+use Rattle.std.specs.Prelude.{◌≡◌, ℕ, zero, suc, ◌-◌, ◌*◌, ◌<◌, ◌≤◌, List, [], ◌∷◌, map, slice_index, codes, refl}
+use Rattle.std.proofs.Common.{inl, inr, ap, sym, ◌∙◌, arith}
+use Rattle.std.proofs.lemmas.List.Elements.{All-nil, All-cons}
+use Rattle.psi_state.specs.Members.{In}
+use Rattle.psi_route.specs.declared.Full.TheVariants.{Lost}
+use Rattle.psi_kinds.specs.declared.kinds.Kind.{Kind}
+use Rattle.psi_kinds.specs.declared.kinds.Kind.TheVariants.{Arrival, Service}
+use Rattle.psi_kinds.specs.Refusals.{refusal_of}
+use Rattle.psi_rate.specs.Rates.{total}
+use Rattle.psi_net_model.specs.Network.{Network}
+use Rattle.psi_net_model.specs.Valid.{IsNetwork, IsQueue, IsAccepted}
+use Rattle.psi_net_model.specs.declared.entries.NamedEvent.{NamedEvent}
+use Rattle.psi_law.specs.Chains.{Chain, flow_to, IsBalanced}
+
+-- ---- weights that balance
+
+abbrev tail : List ℕ → List ℕ
+tail [] = []
+tail (n ∷ ns) = ns
+
+-- functions with the same list of values have the same value at each member
+same-map : {A : Type 0} (f g : A → ℕ) (xs : List A) (y : A) → map f xs ≡ map g xs → In y xs → f y ≡ g y
+same-map f g [] y same member = absurd member
+same-map f g (x ∷ xs) y same member = elim member [
+  | inl here ↦ ap f here ∙ (ap (λ (ns : List ℕ). slice_index ns 0) same ∙ ap g (sym here))
+  | inr there ↦ same-map f g xs y (ap (λ (ns : List ℕ). tail ns) same) there
+]
+
+-- so weights balance where two lists of numbers are the same
+pub balanced-by : (chain : Chain) (weight : List ℕ → ℕ) → map (flow_to chain weight) chain.states ≡ map (λ y. total chain.rates * weight y) chain.states → IsBalanced chain weight
+balanced-by chain weight same = record {
+  each = λ y member. same-map (flow_to chain weight) (λ z. total chain.rates * weight z) chain.states y same member;
+}
+
+-- and a value is at most a number where what it is above it is 0 at each state
+pub bounded-by : (chain : Chain) (value : List ℕ → ℕ) (high : ℕ) → map (λ x. value x - high) chain.states ≡ map (λ x. 0) chain.states → (x : List ℕ) → In x chain.states → value x ≤ high
+bounded-by chain value high same x member = (let e = same-map (λ y. value y - high) (λ y. 0) chain.states x same member in omega arith)
+
+-- ---- the network
+
+abbrev pub event : ℕ → Kind → NamedEvent
+event rate kind = record { name = codes "e"; server = 1; rate = rate; kind = kind }
+
+-- one queue with this capacity and this limit, which customers join at the rate 1 and leave at the rate 2; `first.toml` with capacity 2
+abbrev pub queueing : ℕ → ℕ → Network
+queueing capacity limit = record {
+  queues = record { name = codes "a"; capacity = capacity; servers = 1 } ∷ [];
+  events = event 1 (Arrival (0 ∷ [])) ∷ event 2 (Service (record { queue = 0; k = 1 }) [] Lost) ∷ [];
+  limit = limit;
+  split = 256;
+  rewards = [];
+}
+
+-- its states weigh 4, 2 and 1 with capacity 2
+abbrev pub halves : List ℕ → ℕ
+halves x = slice_index (4 ∷ 2 ∷ 1 ∷ []) (slice_index x 0)
+
+-- it is a network, whatever the limit is
+rate-small : (i : ℕ) → i < 2 → (1 ≤ slice_index (1 ∷ 2 ∷ []) i) × (slice_index (1 ∷ 2 ∷ []) i ≤ 2)
+rate-small zero small = (omega arith, omega arith)
+rate-small (suc zero) small = (omega arith, omega arith)
+rate-small (suc (suc i)) small = absurd (omega arith)
+
+queue-first : (i : ℕ) → i < 1 → slice_index (0 ∷ []) i ≡ 0
+queue-first zero small = refl
+queue-first (suc i) small = absurd (omega arith)
+
+pub queueing-kept : (capacity limit : ℕ) → 1 ≤ capacity → capacity ≤ 2 → limit ≤ 22 → IsNetwork (queueing capacity limit)
+unfolding refusal_of
+queueing-kept capacity limit some two most = record {
+  queues = record {
+    some = omega arith;
+    few = omega arith;
+    each = All-cons IsQueue (record { name = codes "a"; capacity = capacity; servers = 1 }) [] (record { some = omega arith; most = omega arith; served = omega arith; servers = omega arith; fits = omega arith }) (All-nil IsQueue);
+  };
+  rates = record {
+    some = omega arith;
+    few = omega arith;
+    least = λ i small. (rate-small i small).0;
+    most = λ i small. (let two = (rate-small i small).1 in omega arith);
+    bounded = omega arith;
+  };
+  kinds =
+      All-cons (λ e. IsAccepted (capacity ∷ []) e.kind) (event 1 (Arrival (0 ∷ []))) (event 2 (Service (record { queue = 0; k = 1 }) [] Lost) ∷ [])
+      (record { named = λ i small. (let first = queue-first i small in omega arith); accepted = refl })
+      (All-cons (λ e. IsAccepted (capacity ∷ []) e.kind) (event 2 (Service (record { queue = 0; k = 1 }) [] Lost)) []
+      (record { named = (record { queue = omega arith; least = omega arith; most = omega arith }, λ i small. absurd (omega arith)); accepted = refl })
+      (All-nil (λ e. IsAccepted (capacity ∷ []) e.kind)));
+  limit = most;
+  some_split = omega arith;
+  most_split = omega arith;
+  few_rewards = omega arith;
+}

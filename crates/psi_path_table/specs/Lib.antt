@@ -1,0 +1,4 @@
+-- The definitions of this crate.
+pub mod Table
+pub mod Inner
+pub mod Trail
