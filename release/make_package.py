@@ -16,7 +16,7 @@ licences. The programs are stripped of their symbols. It wants git, dpkg-deb, st
 tools/setup installs. What to do with them is said in docs/RELEASING.md. DEBEMAIL is the maintainer's
 address; where it isn't set it is that of the commit.
 
-The version is that of CITATION.cff, with the day and the commit behind it where this isn't tagged
+The version is that of CITATION.cff, with the day and the commit after it where this isn't tagged
 as `vVERSION`. The same commit and the same program give the same files, byte by byte.
 """
 

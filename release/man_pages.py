@@ -3,7 +3,7 @@
 Makes the man pages of the package, and writes them to a folder; DATE stands at their feet. Those of
 the commands are release/package_files/man/NAME.SECTION.md, written for the package, in which a line
 
-- `@options COMMAND` stands for the options of psi-COMMAND, as its reader of words has them;
+- `@options COMMAND` stands for the options of psi-COMMAND, as its parser has them;
 - `@kinds COMMAND` for the kinds of its first word;
 - `@status` for the statuses that the tools share;
 - `@synopsis`, `@commands` and `@statuses` for what `psi --help` says of its commands, and
@@ -18,6 +18,7 @@ have: headings, paragraphs, lists in lists, tables, quotes, blocks of code, and 
 italics and links. A table of two columns, or for which a page is too narrow, is a list.
 """
 
+import argparse
 import importlib
 import pathlib
 import re
@@ -33,7 +34,7 @@ ITEM = re.compile(r"( *)(-|\d+\.) +")
 # The name of another page, which isn't broken over two lines.
 PAGE = re.compile(r"psi-[a-z]+\(\d\)")
 INLINE = re.compile(r"`([^`]+)`|\*\*(.+?)\*\*|\*(.+?)\*|!?\[((?:[^\]`]|`[^`]*`)*)\]\(([^)\s]*)\)")
-# So many signs may a table have beside one another.
+# The most characters that a table may have beside one another.
 MOST_WIDE = 64
 BULLET = "\\(bu"
 SOURCES = TOP / "release/package_files/man"
@@ -49,7 +50,7 @@ STATUS = """| Status | Means |
 |---|---|
 | 0 | The answer is written. |
 | 1 | None of the streams is coupled, or work failed. |
-| 2 | A word or an input isn't what it should be. |
+| 2 | An argument or an input isn't what it should be. |
 | 3, 11, 12 | As psi(1), where that doesn't take the network. |
 | 6 | A file can't be read. |
 | 7 | The answer can't be written, which is looked at before the work. |
@@ -82,14 +83,14 @@ PLACES = (
 
 
 def escaped(text: str) -> str:
-    """A text in which no sign has a meaning for groff."""
+    """A text in which no character has a meaning for groff."""
     text = text.replace("\\", "\\e").replace("-", "\\-").replace("'", "\\(aq").replace("`", "\\(ga")
     text = text.replace("~", "\\(ti").replace("^", "\\(ha")
     return "".join(char if ord(char) < 128 else f"\\[u{ord(char):04X}]" for char in text)
 
 
 def plain(text: str) -> str:
-    """A text in sentences: a hyphen there isn't a sign of code, but for names of other pages."""
+    """A text in sentences: a hyphen there isn't one of code, but in names of other pages."""
     parts: list[str] = []
     end = 0
     for found in PAGE.finditer(text):
@@ -138,7 +139,7 @@ def line_of(text: str) -> str:
 
 
 def blocks_of(lines: list[str]) -> Iterator[tuple[str, Any]]:
-    """The blocks of some lines of Markdown: each is its sort and what it has."""
+    """The blocks of some lines of Markdown: each is its kind and its content."""
     place = 0
     while place < len(lines):
         line, begin = lines[place], place
@@ -342,10 +343,13 @@ def pages(top: pathlib.Path, date: str) -> Iterator[tuple[str, str]]:
 
 
 def main() -> None:
-    folder = pathlib.Path(sys.argv[1])
-    folder.mkdir(parents=True, exist_ok=True)
-    for name, text in pages(TOP, sys.argv[2] if len(sys.argv) > 2 else ""):
-        (folder / name).write_text(text)
+    reader = argparse.ArgumentParser(prog="man_pages", description="Make the man pages of the package.")
+    reader.add_argument("folder", type=pathlib.Path, metavar="FOLDER", help="where they are written")
+    reader.add_argument("date", nargs="?", default="", metavar="DATE", help="the date at their feet")
+    words = reader.parse_args()
+    words.folder.mkdir(parents=True, exist_ok=True)
+    for name, text in pages(TOP, words.date):
+        (words.folder / name).write_text(text)
 
 
 if __name__ == "__main__":

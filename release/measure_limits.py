@@ -10,7 +10,7 @@ processor time, 60 where N isn't given, is ended, and its status is `killed`. --
 in whose name WORD stands.
 
 What would take long isn't run to its end. Networks that never couple have a small limit L; with a
-limit of 22 a run has 2 to the power 22 - L times as many steps, and `scaled` tells so many times
+limit of 22 a run has 2 to the power 22 - L times as many steps, and `scaled` tells that many times
 its time. Logs that are judged state by state have a sixteenth of the greatest length, and `scaled`
 tells 16 times their time; those of the greatest length, and the closed network with most events,
 are run for their memory alone, and ended after 3 seconds. Processor time is that of the run alone,

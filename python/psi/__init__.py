@@ -62,7 +62,7 @@ __all__ = [
 ]
 
 # Names of the release before, which stay for one more.
-_RENAMED: dict[str, type] = {"Told": PsiError, "WrongArgument": ArgumentError}
+_RENAMED: dict[str, type] = {"Psi": Program, "Told": PsiError, "WrongArgument": ArgumentError}
 
 
 def __getattr__(name: str) -> type:

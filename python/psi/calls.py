@@ -8,7 +8,8 @@ from typing import Any
 from psi.results import Uncoupled
 from psi_tools.arguments import GREATEST, whole_argument
 from psi_tools.draw.program import Program
-from psi_tools.draw.reports import blocks_of, reports_of, size_of
+from psi_tools.draw.reports import reports_of
+from psi_tools.draw.streams import blocks_of, size_of
 from psi_tools.io.reports import Report
 from psi_tools.io.terminal import QUIET, Bar
 
@@ -76,7 +77,7 @@ def drawn(program: Program, data: bytes, seed: int, first: int, count: int) -> S
 
 
 def warn_uncoupled(uncoupled: int, many: int, more: str = "the others are biased") -> None:
-    """Warns where streams aren't coupled."""
+    """Warns where streams are not coupled."""
     if uncoupled:
         message = f"{uncoupled:,} of {many:,} streams weren't coupled; {more}"
         warnings.warn(message, Uncoupled, stacklevel=3)

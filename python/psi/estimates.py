@@ -10,11 +10,11 @@ from psi.calls import ProgressBar, drawn, resolved, streams_of, warn_uncoupled
 from psi.results import FewSamples, Probability
 from psi_tools.arguments import level_argument
 from psi_tools.draw.blocks import digest_of
-from psi_tools.draw.law import guaranteed_law_of, joint_law_of, law_of, share_where
+from psi_tools.draw.law import Samples
 from psi_tools.draw.program import Program
 from psi_tools.errors import ArgumentError, PsiError
 from psi_tools.io.reports import together
-from psi_tools.model.networks import Network, Source, data_of, network_of
+from psi_tools.model.networks import Source, data_of, network_of
 from psi_tools.stats.batches import REWARD, Batches, batches_of
 from psi_tools.stats.guaranteed import ASSUMED, Guarantee, Pilot, file_of
 from psi_tools.stats.guaranteed_rows import GuaranteedLaw, guaranteed_means
@@ -88,7 +88,7 @@ def report(
     Warns
     -----
     Uncoupled
-        Streams that aren't coupled are left out, so the others are biased.
+        Streams that are not coupled are left out, so the others are biased.
 
     Examples
     --------
@@ -162,7 +162,7 @@ def means(
     Warns
     -----
     Uncoupled
-        Streams aren't coupled: the means are of the others, and the intervals are wider.
+        Streams are not coupled: the means are of the others, and the intervals are wider.
     FewSamples
         A few samples carry a mean.
 
@@ -278,7 +278,7 @@ def law(
     Warns
     -----
     Uncoupled
-        Streams aren't coupled, so the others are biased.
+        Streams are not coupled, so the others are biased.
 
     Examples
     --------
@@ -301,33 +301,19 @@ def law(
     seed, first, count = streams_of(seed, first, count)
     program, net = resolved(program), network_of(net)
     program.ask("check", net.data)
+    samples = Samples(program, net, seed, first, count, ProgressBar)
     if not isinstance(name, str):
-        return _joint_law(program, net, name, seed, first, count, reward, guaranteed)
-    asked = program, net, name, seed, first, count, reward, ProgressBar
-    found: Law = guaranteed_law_of(*asked) if guaranteed else law_of(*asked)
+        if guaranteed or not name:
+            raise ArgumentError("guaranteed goes with one name" if guaranteed else "name is an empty list")
+        joint = samples.joint_law([*name], reward)
+        warn_uncoupled(joint.unknown, joint.many)
+        return pandas.DataFrame(joint.records(), columns=[*joint.columns, *SHARED]).set_index(joint.columns)
+    found: Law = samples.guaranteed_law(name, reward) if guaranteed else samples.law(name, reward)
     warn_uncoupled(found.unknown, found.many)
     table = pandas.DataFrame(found.records(), columns=RECORD).set_index("value")
     if not isinstance(found, GuaranteedLaw):
         return table
     return _certified(table, [found.row], net.data, seed, first, count, found.pilot)
-
-
-def _joint_law(
-    program: Program,
-    net: Network,
-    names: Sequence[str],
-    seed: int,
-    first: int,
-    count: int,
-    reward: bool,
-    guaranteed: bool,
-) -> pandas.DataFrame:
-    """The joint distribution of some queues and rewards."""
-    if guaranteed or not names:
-        raise ArgumentError("guaranteed goes with one name" if guaranteed else "name is an empty list")
-    found = joint_law_of(program, net, [*names], seed, first, count, reward, ProgressBar)
-    warn_uncoupled(found.unknown, found.many)
-    return pandas.DataFrame(found.records(), columns=[*found.columns, *SHARED]).set_index(found.columns)
 
 
 def probability(
@@ -365,12 +351,12 @@ def probability(
     -------
     Probability
         How many samples meet the condition; the share that they are of all that are coupled; and
-        the ends of the interval of Clopper and Pearson, which allows for those that aren't.
+        the ends of the interval of Clopper and Pearson, which allows for those that are not.
 
     Raises
     ------
     PsiError
-        The text is no condition, names what the network hasn't, or no stream is coupled.
+        The text is no condition, names what the network has not, or no stream is coupled.
     ArgumentError
         An argument is out of its range.
     Refused
@@ -379,7 +365,7 @@ def probability(
     Warns
     -----
     Uncoupled
-        Streams aren't coupled, so the others are biased.
+        Streams are not coupled, so the others are biased.
 
     Examples
     --------
@@ -395,7 +381,7 @@ def probability(
     seed, first, count = streams_of(seed, first, count)
     level, program, net = level_argument(level), resolved(program), network_of(net)
     program.ask("check", net.data)
-    found = share_where(program, net, where, seed, first, count, ProgressBar)
+    found = Samples(program, net, seed, first, count, ProgressBar).share_where(where)
     warn_uncoupled(found.unknown, found.many)
     if not found.known:
         raise PsiError(f"none of {found.many:,} streams is coupled", 1)

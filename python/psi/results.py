@@ -9,11 +9,11 @@ from psi_tools.errors import PsiError
 
 
 class NotCoupled(PsiError):
-    """A stream isn't coupled within the network's limit, so it has no sample."""
+    """A stream is not coupled within the network's limit, so it has no sample."""
 
 
 class Uncoupled(UserWarning):
-    """Some streams weren't coupled: what is reported of the others is biased."""
+    """Some streams were not coupled: what is reported of the others is biased."""
 
 
 class FewSamples(UserWarning):

@@ -56,7 +56,7 @@ def couple(net: Source, seed: int, stream: int, *, program: Program | None = Non
     Raises
     ------
     NotCoupled
-        The stream isn't coupled within the network's limit.
+        The stream is not coupled within the network's limit.
     ArgumentError
         An argument is out of its range.
     Refused
@@ -103,7 +103,7 @@ def reward(net: Source, seed: int, stream: int, name: str, *, program: Program |
     Raises
     ------
     NotCoupled
-        The value isn't known within the network's limit.
+        The value is not known within the network's limit.
     ArgumentError
         An argument is out of its range.
     Refused
@@ -191,7 +191,7 @@ def log(net: Source, seed: int, stream: int, *, program: Program | None = None) 
     Raises
     ------
     NotCoupled
-        The stream isn't coupled within the network's limit.
+        The stream is not coupled within the network's limit.
     ArgumentError
         An argument is out of its range.
     Refused
@@ -231,7 +231,7 @@ def replay(net: Source, log: str, *, program: Program | None = None) -> Coalesce
     Raises
     ------
     Refused
-        The log isn't accepted; `line` names the first of its lines that breaks a rule.
+        The log is not accepted; `line` names the first of its lines that breaks a rule.
 
     Examples
     --------

@@ -1,6 +1,8 @@
 """Samples of many streams, as arrays and as tables."""
 
-from typing import Any
+from collections.abc import Callable
+from functools import partial
+from typing import Any, TypeVar
 
 import numpy
 import pandas
@@ -11,11 +13,13 @@ from psi_tools.arguments import whole_argument
 from psi_tools.draw import paths as of_paths
 from psi_tools.draw.closed import MOST_TOTAL
 from psi_tools.draw.program import Program
-from psi_tools.draw.reports import blocks_of, size_of
-from psi_tools.draw.states import Draw, any_drawing, drawing, states_of
-from psi_tools.io.samples import Rows
+from psi_tools.draw.states import Draw, any_drawing, drawing
+from psi_tools.draw.streams import Streams, blocks_of, table_size
+from psi_tools.io.columns import Array, Columns
 from psi_tools.model.networks import Network, Source, header_of, network_of
 from psi_tools.stats.spans import Spans
+
+Value = TypeVar("Value")
 
 
 def samples(
@@ -40,7 +44,7 @@ def samples(
     count : int
         The number of streams, at least 1.
     keep : bool
-        Whether a stream that isn't coupled becomes a row of -1 instead of an exception. It may not
+        Whether a stream that is not coupled becomes a row of -1 instead of an exception. It may not
         be left out, since the others are biased.
     program : Program, optional
         The program that is run; the one that is built, or on the PATH, by default.
@@ -55,7 +59,7 @@ def samples(
     Raises
     ------
     NotCoupled
-        A stream isn't coupled within the network's limit, and `keep` is false.
+        A stream is not coupled within the network's limit, and `keep` is false.
     ArgumentError
         An argument is out of its range.
     Refused
@@ -101,7 +105,7 @@ def closed(
     count : int
         The number of streams, at least 1.
     keep : bool
-        Whether a stream that isn't coupled becomes a row of -1 instead of an exception.
+        Whether a stream that is not coupled becomes a row of -1 instead of an exception.
     program : Program, optional
         The program that is run; the one that is built, or on the PATH, by default.
 
@@ -114,11 +118,11 @@ def closed(
     Raises
     ------
     NotCoupled
-        A stream isn't coupled within the network's limit, and `keep` is false.
+        A stream is not coupled within the network's limit, and `keep` is false.
     ArgumentError
         An argument is out of its range.
     Refused
-        The network is refused, or isn't closed.
+        The network is refused, or is not closed.
 
     Examples
     --------
@@ -165,7 +169,7 @@ def states(
     pandas.DataFrame
         A row for each stream, in their order. The columns are stream; horizon, in steps; queue.NAME
         for each queue, in customers; and reward.NAME for each reward, in its unit. A stream that
-        isn't coupled has its row, whose other columns are missing. All columns but the first have
+        is not coupled has its row, whose other columns are missing. All columns but the first have
         pandas' nullable integers: those of a queue are the narrowest signed ones that hold its
         capacity, as Int8, so use `astype` before you multiply or add columns.
 
@@ -174,12 +178,12 @@ def states(
     ArgumentError
         An argument is out of its range.
     Refused
-        The network is refused, or isn't closed; `line` is the one that psi has for it.
+        The network is refused, or is not closed; `line` is the one that psi has for it.
 
     Warns
     -----
     Uncoupled
-        Streams aren't coupled. Means and counts pass over missing values, so they are biased.
+        Streams are not coupled. Means and counts pass over missing values, so they are biased.
 
     Examples
     --------
@@ -201,14 +205,14 @@ def states(
         total = whole_argument("total", total, 0, MOST_TOTAL)
     net, program = network_of(net), resolved(program)
     seed, first, count = streams_of(seed, first, count)
-    is_met, numbers = _drawn(drawing(program, net, seed, total), program, net, first, count)
-    warn_uncoupled(len(is_met) - len(numbers), len(is_met), "means of the others are biased")
+    draw, names = drawing(program, net, seed, total), header_of(net)
+    is_met, numbers = _drawn(draw, program, net, first, count, names[1:])
+    warn_uncoupled(int((~is_met).sum()), count, "means of the others are biased")
     whole = numpy.dtype(numpy.int64)
     types = [whole, *map(_narrow, net.capacities), *(whole for _ in net.rewards)]
-    names = header_of(net)
-    columns: dict[str, Any] = {names[0]: numpy.arange(len(is_met), dtype=numpy.uint64) + numpy.uint64(first)}
-    for name, kind, column in zip(names[1:], types, numbers.T):
-        values = numpy.zeros(len(is_met), kind)
+    columns: dict[str, Any] = {names[0]: numpy.arange(count, dtype=numpy.uint64) + numpy.uint64(first)}
+    for name, kind, column in zip(names[1:], types, numbers):
+        values = numpy.zeros(count, kind)
         values[is_met] = column
         columns[name] = pandas.arrays.IntegerArray(values, ~is_met)
     return pandas.DataFrame(columns)
@@ -250,7 +254,7 @@ def paths(
         queue.NAME and reward.NAME, the sums of the customers and of the value over the steps + 1
         states of the path; and for each event NAME and each server K from 1 on event.NAME.K and
         moved.NAME.K, how often the event was chosen, and how often it changed the state. A stream
-        that isn't coupled has its row, whose other columns are missing. All columns but the first
+        that is not coupled has its row, whose other columns are missing. All columns but the first
         are pandas' Int64; that of a reward whose sum may pass 64 bits has Python's own integers.
 
     Raises
@@ -258,12 +262,12 @@ def paths(
     ArgumentError
         An argument is out of its range.
     Refused
-        The network is refused, or isn't closed; `line` is the one that psi has for it.
+        The network is refused, or is not closed; `line` is the one that psi has for it.
 
     Warns
     -----
     Uncoupled
-        Streams aren't coupled. Means and counts pass over missing values, so they are biased.
+        Streams are not coupled. Means and counts pass over missing values, so they are biased.
 
     Notes
     -----
@@ -289,13 +293,15 @@ def paths(
     if total is not None:
         total = whole_argument("total", total, 0, MOST_TOTAL)
     steps = whole_argument("steps", steps, 0, of_paths.MOST_STEPS)
-    net, program = network_of(net), resolved(program)
+    opened, own = network_of(net), resolved(program)
     seed, first, count = streams_of(seed, first, count)
-    found = _rows(of_paths.drawing(program, net, seed, steps, total), program, first, count)
+    found = _under_bar(
+        own, first, count, lambda blocks, done: of_paths.paths_of(own, opened, seed, blocks, steps, total, done)
+    )
     warn_uncoupled(found.count(None), count, "means of the others are biased")
     is_met = numpy.array([row is not None for row in found])
     numbers = [row.split(",") for row in found if row is not None]
-    names, wide = of_paths.header_of(net), _wide_rewards(net, steps)
+    names, wide = of_paths.header_of(opened), _wide_rewards(opened, steps)
     columns: dict[str, Any] = {names[0]: numpy.arange(len(found), dtype=numpy.uint64) + numpy.uint64(first)}
     for place, name in enumerate(names[1:]):
         column = [int(row[place]) for row in numbers]
@@ -310,8 +316,8 @@ def _wide_rewards(net: Network, steps: int) -> set[str]:
     return {name for name, (least, most) in ends.items() if max(-least, most) * (steps + 1) >= 2**63}
 
 
-def _column(numbers: list[int], is_met: numpy.ndarray[Any, Any], is_wide: bool) -> Any:
-    """A column of whole numbers, which is missing where a stream isn't coupled."""
+def _column(numbers: list[int], is_met: Array, is_wide: bool) -> Any:
+    """A column of whole numbers, which is missing where a stream is not coupled."""
     if is_wide:
         values = numpy.full(len(is_met), pandas.NA, dtype=object)
         values[is_met] = numbers
@@ -326,37 +332,46 @@ def _narrow(capacity: int) -> "numpy.dtype[Any]":
     return numpy.min_scalar_type(-capacity - 1)
 
 
-def _array(
-    net: Source, seed: int, first: int, count: int, keep: bool, total: int | None, program: Program
-) -> numpy.ndarray[Any, Any]:
+def _array(net: Source, seed: int, first: int, count: int, keep: bool, total: int | None, program: Program) -> Array:
     """The states of some streams, as rows."""
     net = network_of(net)
     seed, first, count = streams_of(seed, first, count)
-    is_met, numbers = _drawn(any_drawing(program, net, seed, total), program, net, first, count)
+    queues = header_of(net)[2 : 2 + len(net.queues)]
+    is_met, numbers = _drawn(any_drawing(program, net, seed, total), program, net, first, count, queues)
     lost = numpy.flatnonzero(~is_met)
     if len(lost) and not keep:
         which = f"{len(lost):,} of {count:,} streams, first {first + int(lost[0])}"
         raise NotCoupled(f"not coupled: {which}; the others alone are biased", 1)
     rows = numpy.full((len(is_met), len(net.queues)), -1, _narrow(max(net.capacities)))
-    rows[is_met] = numbers[:, 1 : 1 + len(net.queues)]
+    for place, column in enumerate(numbers):
+        rows[is_met, place] = column
     return rows
 
 
 def _drawn(
-    draw: Draw, program: Program, net: Network, first: int, count: int
-) -> tuple[numpy.ndarray[Any, Any], numpy.ndarray[Any, Any]]:
-    """Which of some streams are coupled; and of these the horizons, queues and rewards, as rows."""
-    found = _rows(draw, program, first, count)
-    met = [row for row in found if row is not None]
-    numbers = numpy.fromstring(",".join(met), numpy.int64, sep=",") if met else numpy.zeros(0, numpy.int64)
-    return numpy.array([row is not None for row in found]), numbers.reshape(len(met), len(header_of(net)) - 1)
+    draw: Draw, program: Program, net: Network, first: int, count: int, names: list[str]
+) -> tuple[Array, list[Array]]:
+    """Which of some streams are coupled; and of these some columns."""
+    header = header_of(net)
+
+    def read(block: Streams) -> tuple[Array, list[Array]]:
+        table = Columns(header, draw(block), *block)
+        return table.is_met, [table.column(name) for name in names]
+
+    found = _under_bar(
+        program, first, count, lambda blocks, done: program.all([partial(read, block) for block in blocks], done)
+    )
+    columns = zip(*(columns for _, columns in found))
+    return numpy.concatenate([is_met for is_met, _ in found]), [numpy.concatenate(column) for column in columns]
 
 
-def _rows(draw: Draw, program: Program, first: int, count: int) -> Rows:
-    """The rows of some streams, drawn in blocks under a bar, none where one isn't coupled."""
-    size = size_of(count)
+def _under_bar(
+    program: Program, first: int, count: int, draw: Callable[[list[Streams], Callable[[int], None]], Value]
+) -> Value:
+    """What is drawn of some streams, in blocks under a bar."""
+    size = table_size(count, program.jobs)
     bar = ProgressBar(count)
     try:
-        return states_of(program, draw, blocks_of(first, count, size), lambda done: bar.show(min(done * size, count)))
+        return draw(blocks_of(first, count, size), lambda done: bar.show(min(done * size, count)))
     finally:
         bar.end()

@@ -18,7 +18,7 @@ def whole_argument(name: str, value: Any, least: int, most: int) -> int:
     except TypeError:
         number = None
     if number is None or not least <= number <= most:
-        raise ArgumentError(f"{name} is {value!r}; a whole number from {least} to {most} is wanted")
+        raise ArgumentError(f"{name} is {value!r}; a whole number from {least} to {most} is expected")
     return number
 
 
@@ -26,7 +26,7 @@ def level_argument(value: Any) -> float:
     """The confidence level that an argument is, as a share."""
     is_number = isinstance(value, numbers.Real) and not isinstance(value, bool)
     if not is_number or not LEAST_LEVEL <= value <= MOST_LEVEL:
-        raise ArgumentError(f"level is {value!r}; a share from {LEAST_LEVEL} to {MOST_LEVEL} is wanted, as 0.95")
+        raise ArgumentError(f"level is {value!r}; a share from {LEAST_LEVEL} to {MOST_LEVEL} is expected, as 0.95")
     return float(value)
 
 

@@ -111,7 +111,7 @@ def interval(row: dict[str, Any], claim: dict[str, Any], d: int) -> list[Fractio
     known, of = k - lost, claim["of"]
     wanted(known == sum(c for _, c in counts) and of in CLAIMS if counts else known >= 0 and of == "mean")
     wanted(all(least <= v <= greatest for v, _ in counts))
-    # Values that are sums along paths are of so many times, and a mean is that at one of them.
+    # Values that are sums along paths are sums over `times` times, and a mean is that at one of them.
     [times] = whole([row.get("times", 1)], 1)
     wanted(times == 1 or of == "mean")
     if of == "quantile":

@@ -201,7 +201,7 @@ class Network:
         self.events.append(Guarded([]))
 
     def event_of(self, seed: int, stream: int, time: int) -> int:
-        """The number of the event so many steps before time zero; that of idle is the greatest."""
+        """The number of the event this many steps before time zero; that of idle is the greatest."""
         counter, place = divmod(time - 1, 16)
         word = block(seed, stream, counter)[place]
         return bisect.bisect_right(self.totals, word % self.modulus)
@@ -288,7 +288,7 @@ class Log:
         hold(is_so, "refused " + cause, self.line)
 
     def words(self) -> list[bytes]:
-        """The words of the next line; behind the last line feed there is none."""
+        """The tokens of the next line; after the last line feed there is none."""
         self.line += 1
         self.hold(self.line < len(self.lines), "5 Truncated")
         return self.lines[self.line - 1].split(b" ")

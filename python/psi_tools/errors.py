@@ -12,7 +12,7 @@ class PsiError(Exception):
         The exit status of the command line: that of psi where psi refuses, and 2 where arguments
         are wrong.
     line : str or None
-        The line that psi itself printed on standard error; none where the fault isn't psi's.
+        The line that psi itself printed on standard error; none where the fault is not psi's.
     """
 
     def __init__(self, message: str, status: int = 2, line: str | None = None) -> None:
@@ -24,11 +24,11 @@ class PsiError(Exception):
 
 
 class ArgumentError(PsiError, ValueError):
-    """An argument of the module isn't what it should be."""
+    """An argument of the module is not what it should be."""
 
 
 class InputError(PsiError):
-    """An input isn't what it should be, so that it can't be drawn."""
+    """An input is not what it should be, so that it cannot be drawn."""
 
 
 class Refused(PsiError):

@@ -38,7 +38,7 @@ def sections_of(text: str) -> dict[int, tuple[str, str]]:
     return {0: ("", spaced(first)), **found}
 
 
-def hold(text: str, sentences: tuple[str, ...]) -> None:
+def expect(text: str, sentences: tuple[str, ...]) -> None:
     """A text has each of these sentences, once."""
     for sentence in sentences:
         assert text.count(sentence) == 1, sentence
@@ -69,15 +69,15 @@ class Course:
 
     def asks(self, number: int, *sentences: str) -> None:
         """An exercise has each of these sentences, once."""
-        hold(self.exercises[number][1], sentences)
+        expect(self.exercises[number][1], sentences)
 
     def solves(self, number: int, *sentences: str) -> None:
         """A solution has each of these sentences, once."""
-        hold(self.solutions[number][1], sentences)
+        expect(self.solutions[number][1], sentences)
 
     def page_has(self, name: str, *sentences: str) -> None:
         """A page has each of these sentences, once."""
-        hold(spaced(self.pages[name]), sentences)
+        expect(spaced(self.pages[name]), sentences)
 
 
 def answers_of(program: str) -> Answer:

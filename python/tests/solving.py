@@ -1,17 +1,20 @@
 """The stationary law of a small network, solved from its events as the plain program has them."""
 
 import itertools
+from typing import Any
 
 import numpy
 import scipy.sparse
 import scipy.sparse.linalg
 
-from oracle.plain_network import Network
+from oracle.plain_network import Network as Plain
+from oracle.plain_network import Reward, State
+from psi_tools.model.networks import Network
 
 
-def law_of(net, total=None):
+def law_of(net: Network, total: int | None = None) -> tuple[list[State], numpy.ndarray[Any, Any]]:
     """The states, of a total where one is given, and the probability of each."""
-    plain = Network({**net.heads, **net.table})
+    plain = Plain({**net.heads, **net.table})
     states = [*itertools.product(*(range(cap + 1) for cap in plain.caps))]
     states = [x for x in states if total is None or sum(x) == total]
     place = {x: k for k, x in enumerate(states)}
@@ -33,13 +36,13 @@ def law_of(net, total=None):
     return states, found
 
 
-def means_of(net, total=None):
+def means_of(net: Network, total: int | None = None) -> tuple[dict[str, float], dict[str, float]]:
     """The mean of each queue, and of each reward, by their names in two dicts."""
-    plain = Network({**net.heads, **net.table})
+    plain = Plain({**net.heads, **net.table})
     states, law = law_of(net, total)
     queues = dict(zip(net.queues, numpy.array(states).T @ law))
 
-    def mean(reward):
-        return sum(p * reward.value(x) for x, p in zip(states, law))
+    def mean(reward: Reward) -> float:
+        return float(sum(p * reward.value(x) for x, p in zip(states, law)))
 
     return queues, {reward.name: mean(reward) for reward in plain.rewards}

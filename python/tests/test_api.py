@@ -6,7 +6,9 @@ import pathlib
 import pickle
 import subprocess
 import sys
+import types
 import warnings
+from typing import Any
 
 import api_page
 import psi as module
@@ -19,22 +21,22 @@ from psi_tools.io.terminal import Bar
 CALLS = [name for name in module.__all__ if inspect.isfunction(getattr(module, name))]
 
 
-def desk():
+def desk() -> module.Network:
     net = module.Network().queue("desk", capacity=10)
     net.event("come", "arrival", rate=4, to=["desk"])
     return net.event("serve", "service", rate=5, source="desk")
 
 
 @pytest.mark.skipif(ALONE, reason="the page stands in docs/")
-def test_the_page_is_made_of_the_docstrings():
+def test_the_page_is_made_of_the_docstrings() -> None:
     """`python3 api_page.py ../docs/API.md` writes it again."""
     assert (TOP / "docs/API.md").read_text() == api_page.page()
 
 
 @pytest.mark.parametrize("name", CALLS)
-def test_each_argument_is_documented(name):
+def test_each_argument_is_documented(name: str) -> None:
     call = getattr(module, name)
-    sections = api_page.SECTION.split(inspect.getdoc(call))
+    sections = api_page.SECTION.split(inspect.getdoc(call) or "")
     text = dict(zip(sections[1::2], sections[2::2]))
     known = [entry.partition(" : ")[0] for entry, _ in api_page.entries_of(text["Parameters"])]
     assert known == list(inspect.signature(call).parameters)
@@ -43,7 +45,9 @@ def test_each_argument_is_documented(name):
 
 
 @pytest.mark.parametrize("name", [*CALLS, "Network", "Program"])
-def test_the_examples_run(program, environment, monkeypatch, name):
+def test_the_examples_run(
+    program: str, environment: dict[str, str], monkeypatch: pytest.MonkeyPatch, name: str
+) -> None:
     if name == "paths" and companion_of(program, "psi_paths") is None:
         pytest.skip("psi_paths isn't built")
     monkeypatch.setenv("PATH", environment["PATH"])
@@ -57,7 +61,7 @@ def test_the_examples_run(program, environment, monkeypatch, name):
     assert runner.summarize(verbose=False).failed == 0
 
 
-def test_results_are_tuples_with_names(psi):
+def test_results_are_tuples_with_names(psi: types.SimpleNamespace) -> None:
     found = psi.couple(desk(), 0, 0)
     assert found == (found.horizon, found.state) and type(found.state) is tuple
     assert psi.replay(desk(), psi.log(desk(), 0, 0)).state == found.state
@@ -69,12 +73,12 @@ def test_results_are_tuples_with_names(psi):
     assert "<th>states left of 11</th>" in exact._repr_html_() and exact._repr_html_().count("<tr>") == 5
 
 
-def test_what_is_shown(psi, program):
+def test_what_is_shown(psi: types.SimpleNamespace, program: str) -> None:
     assert repr(desk()) == "<Network: 1 queue, 2 events, 0 rewards>"
     assert repr(psi.Program(program, 3)) == f"<Program {program}, 3 jobs>"
 
 
-def test_an_exception_has_its_status_line_and_message(psi):
+def test_an_exception_has_its_status_line_and_message(psi: types.SimpleNamespace) -> None:
     net = desk()
     net.table["event"][0]["to"] = ["dsk"]
     with pytest.raises(psi.Refused) as fault:
@@ -86,7 +90,7 @@ def test_an_exception_has_its_status_line_and_message(psi):
     assert (type(again), again.status, again.line, str(again)) == (psi.Refused, 3, error.line, error.message)
 
 
-def test_a_program_works_on_after_a_refusal(program):
+def test_a_program_works_on_after_a_refusal(program: str) -> None:
     own = module.Program(program, 2)
     with pytest.raises(module.NotCoupled):
         short = desk()
@@ -100,7 +104,7 @@ def test_a_program_works_on_after_a_refusal(program):
     assert module.samples(desk(), count=20, program=own).shape == (20, 1)
 
 
-def test_paths_are_path_like(psi, tmp_path):
+def test_paths_are_path_like(psi: types.SimpleNamespace, tmp_path: pathlib.Path) -> None:
     path = tmp_path / "desk.toml"
     desk().write(path)
     assert (psi.samples(path, count=5) == psi.samples(desk(), count=5)).all()
@@ -108,8 +112,8 @@ def test_paths_are_path_like(psi, tmp_path):
     assert psi.check(str(path)) == psi.check(path)
 
 
-def test_names_of_the_release_before(program):
-    for old, new in (("Told", "PsiError"), ("WrongArgument", "ArgumentError")):
+def test_names_of_the_release_before(program: str) -> None:
+    for old, new in (("Psi", "Program"), ("Told", "PsiError"), ("WrongArgument", "ArgumentError")):
         with pytest.warns(DeprecationWarning, match=f"psi.{old} is psi.{new} now"):
             assert getattr(module, old) is getattr(module, new)
     with pytest.raises(AttributeError, match="no attribute 'nothing'"):
@@ -123,22 +127,23 @@ def test_names_of_the_release_before(program):
         module.use()
 
 
-def test_without_deprecated_names_nothing_is_warned_of(psi):
+def test_without_deprecated_names_nothing_is_warned_of(psi: types.SimpleNamespace) -> None:
     with warnings.catch_warnings():
         warnings.simplefilter("error")
         psi.means(desk(), count=400)
 
 
-def test_a_bar_is_shown_for_long_work_alone(monkeypatch, capsys):
+def test_a_bar_is_shown_for_long_work_alone(
+    monkeypatch: pytest.MonkeyPatch, capsys: pytest.CaptureFixture[str]
+) -> None:
     tqdm = pytest.importorskip("tqdm.auto")
-    made = []
+    made, plain = [], tqdm.tqdm
 
-    class Counted(tqdm.tqdm):
-        def __init__(self, *args, **named):
-            made.append(self)
-            super().__init__(*args, **{**named, "disable": False})
+    def counted(*args: Any, **named: Any) -> Any:
+        made.append(plain(*args, **{**named, "disable": False}))
+        return made[-1]
 
-    monkeypatch.setattr(tqdm, "tqdm", Counted)
+    monkeypatch.setattr(tqdm, "tqdm", counted)
     from psi.calls import ProgressBar
 
     bar = ProgressBar(10, "blocks")
@@ -154,7 +159,7 @@ def test_a_bar_is_shown_for_long_work_alone(monkeypatch, capsys):
     assert len(made) == 1 and isinstance(silent, Bar)
 
 
-def test_help_reads_well():
+def test_help_reads_well() -> None:
     """As `python -c "import psi; help(psi.samples)"` prints it."""
     done = subprocess.run(
         [sys.executable, "-c", "import psi; help(psi.samples)"],
@@ -167,6 +172,6 @@ def test_help_reads_well():
     assert "numpy.ndarray of int, shape (count, queues)" in done.stdout
 
 
-def test_types_are_shipped():
+def test_types_are_shipped() -> None:
     for package in ("psi", "psi_tools"):
         assert (pathlib.Path(module.__file__).parent.parent / package / "py.typed").exists()

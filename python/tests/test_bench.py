@@ -2,6 +2,7 @@
 chain."""
 
 import math
+import pathlib
 import random
 import shutil
 import statistics
@@ -31,7 +32,7 @@ HAS_OCTAVE = (
 )
 
 
-def small():
+def small() -> Network:
     """A network with each kind of event that the programs have."""
     net = Network().queue("a", 3, 2).queue("b", 2).queue("c", 3)
     net.event("come", "arrival", 3, to=["a", "b"])
@@ -44,7 +45,7 @@ def small():
     return networks.watching(net, "c")
 
 
-def case_of(net, watched, total=None, has_product_form=False):
+def case_of(net: Network, watched: str, total: int | None = None, has_product_form: bool = False) -> networks.Case:
     return networks.Case("small", "", net, watched, 100, 10, total, has_product_form)
 
 
@@ -57,23 +58,23 @@ CASES = {
 
 
 @pytest.fixture(scope="module")
-def chain(tmp_path_factory):
+def chain(tmp_path_factory: pytest.TempPathFactory) -> str:
     """The plain chain, built by cargo."""
     built = rivals.built_chain(tmp_path_factory.mktemp("chain"))
     return built or pytest.skip("cargo is not there")
 
 
 @pytest.fixture(params=CASES)
-def case(request):
+def case(request: pytest.FixtureRequest) -> networks.Case:
     return CASES[request.param]
 
 
-def exact(case):
+def exact(case: networks.Case) -> float:
     """The mean of the watched queue, from the plain program's events."""
     return solving.means_of(case.net, case.total)[0][case.watched]
 
 
-def written(case, folder):
+def written(case: networks.Case, folder: pathlib.Path) -> tuple[str, str]:
     """The network's file, and that of the plain chain."""
     file, plain = folder / "net.toml", folder / "chain.net"
     case.net.write(file)
@@ -81,28 +82,28 @@ def written(case, folder):
     return str(file), str(plain)
 
 
-def test_the_stationary_equations_have_the_mean(case):
+def test_the_stationary_equations_have_the_mean(case: networks.Case) -> None:
     mean, states = solve.mean_of(case.net, case.watched, case.total)
     assert math.isclose(mean, exact(case), rel_tol=1e-9)
     assert states == len(solving.law_of(case.net, case.total)[0])
     assert states == solve.count_of(case.net.capacities, case.total)
 
 
-def test_the_iteration_has_the_mean_that_is_solved_directly(monkeypatch):
+def test_the_iteration_has_the_mean_that_is_solved_directly(monkeypatch: pytest.MonkeyPatch) -> None:
     net = networks.line(3, 8, 1, 4, 5, "stay")
     direct = solve.mean_of(net, "q2", None)[0]
     monkeypatch.setattr(solve, "DIRECT", 0)
     assert math.isclose(solve.mean_of(net, "q2", None)[0], direct, rel_tol=1e-6)
 
 
-def test_the_plain_chain_has_the_mean(case, chain, tmp_path):
+def test_the_plain_chain_has_the_mean(case: networks.Case, chain: str, tmp_path: pathlib.Path) -> None:
     found = rivals.by_chain(chain, written(case, tmp_path)[1], 2_000_000)
     # Three half-widths: such an interval misses the mean once in some 370 times.
     assert abs(found.mean - exact(case)) < 3 * found.half / rivals.T_QUANTILE * 1.5
     assert found.half < 0.02 * exact(case)
 
 
-def test_the_plain_chain_refuses_other_texts(chain, tmp_path):
+def test_the_plain_chain_refuses_other_texts(chain: str, tmp_path: pathlib.Path) -> None:
     file = tmp_path / "chain.net"
     for text in ("", "capacities 1\nstart 0\nwatched 1\nevent first 1 - 1 0 leave\n", "nonsense\n"):
         file.write_text(text)
@@ -110,7 +111,7 @@ def test_the_plain_chain_refuses_other_texts(chain, tmp_path):
 
 
 @pytest.mark.skipif(not HAS_SIMPY, reason="python3-simpy is not there")
-def test_simpy_has_the_mean(case, tmp_path):
+def test_simpy_has_the_mean(case: networks.Case, tmp_path: pathlib.Path) -> None:
     file, _ = written(case, tmp_path)
     more = [] if case.total is None else ["--total", str(case.total)]
     means = []
@@ -124,13 +125,13 @@ def test_simpy_has_the_mean(case, tmp_path):
 
 
 @pytest.mark.skipif(not HAS_OCTAVE, reason="octave-queueing is not there")
-def test_octave_has_the_mean_where_there_is_product_form(case):
+def test_octave_has_the_mean_where_there_is_product_form(case: networks.Case) -> None:
     found = rivals.by_product_form(case)
     assert (found is not None) == case.has_product_form
     assert found is None or math.isclose(found.mean, exact(case), rel_tol=1e-9)
 
 
-def test_psi_has_the_mean(case, program, tmp_path):
+def test_psi_has_the_mean(case: networks.Case, program: str, tmp_path: pathlib.Path) -> None:
     if case.name == "small" and case.total is None:
         samples = 4_000
     else:
@@ -139,18 +140,32 @@ def test_psi_has_the_mean(case, program, tmp_path):
     assert abs(found.mean - exact(case)) < 1.7 * found.half < 0.5 * exact(case)
 
 
-def test_the_events_of_other_kinds_are_refused():
+def test_the_events_of_other_kinds_are_refused() -> None:
     net = Network().queue("a", 2).event("clear", "negative", 1, on="a")
     with pytest.raises(ValueError, match="no event of the kind negative"):
         events.events_of(net)
 
 
-def test_the_time_until_the_target_grows_with_the_square_of_the_width():
-    assert math.isclose(rivals.scaled(2.0, 0.04, 0.5, 1.5), 0.5 + 4)
-    assert math.isclose(rivals.scaled(2.0, 0.01, 0.5, 1.5), 0.5 + 0.25)
+def test_the_time_until_the_target_grows_with_the_square_of_the_width() -> None:
+    for half, times in ((0.04, 4), (0.01, 0.25)):
+        assert math.isclose(rivals.times_of(2.0, half), times)
+        assert math.isclose(rivals.Found(2.0, half, 0.5, 1.5, rivals.times_of(2.0, half)).seconds, 0.5 + times)
 
 
-def test_a_wrong_warm_up_is_measured(chain, tmp_path):
+def test_the_least_start_and_the_least_time_of_several_runs_are_taken() -> None:
+    runs, least = iter([(0.5, 3.0), (0.25, 4.0), (0.75, 2.25), (0.1, 8.0)]), rivals.Least()
+    for wanted in (0.5, 3.0), (0.25, 3.0), (0.25, 2.25):
+        found = least.of("net", "psi", lambda: rivals.Found(1.0, 0.01, *next(runs), 2.0, 1_000))
+        assert found and (found.start, found.measured) == wanted
+    assert found and found.seconds == 0.25 + 2 * 2.0 and found.step == 2.0 / 1_000 * 1e9
+    assert least.of("net", "octave", lambda: None) is None
+    # After a run that took long enough there is no other.
+    for seconds in rivals.ENOUGH, 1:
+        found = least.of("long", "psi", lambda: rivals.Found(1.0, 0.01, 0, seconds))
+        assert found and found.measured == rivals.ENOUGH
+
+
+def test_a_wrong_warm_up_is_measured(chain: str, tmp_path: pathlib.Path) -> None:
     mean, (none, long) = rivals.biases(chain, tmp_path, (0, 50_000), 2_000, 400)
     # M/M/1/K by its textbook formula.
     weights = [0.95**number for number in range(101)]
@@ -159,7 +174,7 @@ def test_a_wrong_warm_up_is_measured(chain, tmp_path):
     assert abs(long.mean - mean) < 2 * long.half
 
 
-def test_the_ten_networks_are_as_they_are_said_to_be():
+def test_the_ten_networks_are_as_they_are_said_to_be() -> None:
     cases = networks.cases()
     assert len(cases) == len({case.name for case in cases}) == 10
     sizes = [len(case.net.queues) for case in cases]
@@ -173,73 +188,86 @@ def test_the_ten_networks_are_as_they_are_said_to_be():
     assert counts == [10, 100, 1_000]
 
 
-def test_verdicts_on_instructions():
+def test_each_network_has_a_name_of_its_own() -> None:
+    grown = [case for family in networks.growing().values() for case in family.values()]
+    names = [case.name for case in networks.cases() + grown + networks.walked()]
+    assert len(set(names)) == len(names)
+
+
+def test_times_are_the_least_of_those_that_are_known_and_new_ones() -> None:
+    calls = {"none": [["true"]], "known": [["true"]], "slow": [["true"]] * 3}
+    found = measure.least_seconds(calls, {"known": 0.0, "other": 7.0})
+    assert found["known"] == 0.0 and found["other"] == 7.0
+    assert 0 <= found["none"] < float("inf") and 0 <= found["slow"] < float("inf")
+
+
+def test_verdicts_on_instructions() -> None:
     assert instructions.verdict(1_030, 1_000) == "" and instructions.verdict(970, 1_000) == ""
     assert instructions.verdict(1_031, 1_000) == "above its bound, +3.1 %"
     assert instructions.verdict(960, 1_000) == "below its bound, -4.0 %"
     assert instructions.verdict(1, None) == "no bound"
 
 
-def test_a_run_above_its_bound_or_without_one_is_a_fault(capsys):
+def test_a_run_above_its_bound_or_without_one_is_a_fault(capsys: pytest.CaptureFixture[str]) -> None:
     bounds = {("x86-64", "one"): 100, ("x86-64", "two"): 100}
     assert instructions.compare({"one": 100, "two": 104, "three": 1}, "x86-64", bounds) == 2
     assert capsys.readouterr().out.splitlines()[-1] == "1 runs within their bounds, 2 above"
 
 
-def test_every_run_has_a_bound_for_its_kit_and_level():
+def test_every_run_has_a_bound_for_its_kit_and_level() -> None:
     bounds = instructions.read_bounds()
     levels = {(kit, level) for kit, level, _ in bounds}
     assert levels and set(bounds) == {(*level, name) for level in levels for name in instructions.RUNS}
 
 
-def test_bounds_of_the_same_kit_and_level_are_compared_alone():
+def test_bounds_of_the_same_kit_and_level_are_compared_alone() -> None:
     bounds = {("a", "x86-64", "one"): 1, ("a", "x86-64-v3", "one"): 2, ("b", "x86-64", "one"): 3}
     assert instructions.bounds_of("a", "x86-64-v3", bounds) == {("x86-64-v3", "one"): 2}
     assert instructions.bounds_of("c", "x86-64", bounds) == {}
 
 
-def found(seconds):
-    return rivals.Found(1.0, 0.01, seconds, seconds)
+def found(seconds: float, steps: int | None = None) -> rivals.Found:
+    return rivals.Found(1.0, 0.01, 0.0, seconds, 1.0, steps)
 
 
-def test_the_page_names_where_a_method_takes_less_time():
+def test_the_page_names_where_a_method_takes_less_time() -> None:
     others = {"paths": None, "chain": found(1), "simpy": found(40), "scipy": None, "octave": None}
     one = page.Comparison(CASES["open"], 48, found(2), others)
-    said = page.where_right([one])
-    assert "**plain chain**: less time than PSI on small. " in said
-    assert "**SimPy**: more on small. " in said and "**octave-queueing**: not measured" in said
-    assert page.time_table([one]).splitlines()[-1] == "| small | - | 0.50 | 20.0 | - | - | 2.00 |"
+    printed = page.where_right([one])
+    assert "**plain chain**: less time than PSI on small. " in printed
+    assert "**SimPy**: more on small. " in printed and "**octave-queueing**: not measured" in printed
+    assert page.time_table([one]).splitlines()[-1] == "| small | - | 0.500 | 20.0 | - | - | 2.00 |"
 
 
-def test_the_page_has_the_paths_beside_the_chain():
-    one = page.Walk(CASES["open"], found(20), found(3), found(2))
-    one.paths.step, one.chain.step = 4.0, 3.2
+def test_the_page_has_the_paths_beside_the_chain() -> None:
+    paths, chain = found(3, 750_000_000), found(2, 625_000_000)
+    one = page.Walk(CASES["open"], found(20), paths, chain)
     assert page.walk_table([one]).splitlines()[-1] == "|  | 20.0 | 3.00 | 2.00 | 1.50 | 4.00 | 3.20 | 1.25 |"
     alone = page.Walk(CASES["open"], found(20), found(3), None)
     assert page.walk_table([alone]).splitlines()[-1] == "|  | 20.0 | 3.00 | - | - | - | - | - |"
 
 
-def test_paths_have_the_mean(case, program, tmp_path):
+def test_paths_have_the_mean(case: networks.Case, program: str, tmp_path: pathlib.Path) -> None:
     paths = companion_of(program, "psi_paths")
     if paths is None:
         pytest.skip("psi_paths isn't built")
     found = rivals.by_paths(paths, written(case, tmp_path)[0], case, 300_000)
     assert abs(found.mean - exact(case)) < 3 * found.half / rivals.PATHS_QUANTILE * 1.5
-    assert found.half < 0.05 * exact(case) and found.step > 0
+    assert found.half < 0.05 * exact(case) and found.step is not None and found.step > 0
 
 
-def test_the_networks_of_paths_are_those_that_the_chain_has():
+def test_the_networks_of_paths_are_those_that_the_chain_has() -> None:
     for case in networks.walked():
         assert events.text_of(case.net, case.watched, case.total)
         assert [reward["kind"] for reward in case.net.table["reward"]] == ["linear", "table"]
 
 
-def test_numbers_are_shown_in_two_or_three_figures():
-    shown = [page.shown(value) for value in (12_345, 123, 45.67, 1.234, 0.1234, 0.01234, None)]
-    assert shown == ["12,000", "120", "45.7", "1.23", "0.12", "0.01", "-"]
+def test_numbers_are_shown_in_three_figures() -> None:
+    shown = [page.shown(value) for value in (12_345, 123.4, 99.96, 45.67, 1.234, 0.1234, 0.00012345, 0, None)]
+    assert shown == ["12,300", "123", "100", "45.7", "1.23", "0.123", "0.000123", "0", "-"]
 
 
-def test_the_samples_of_a_seed_are_the_same(program, tmp_path):
+def test_the_samples_of_a_seed_are_the_same(program: str, tmp_path: pathlib.Path) -> None:
     file, _ = written(CASES["open"], tmp_path)
     streams = random.Random(1).sample(range(1_000), 2)
     outs = [measure.run([program, "report", file, "0", str(streams[0]), "50"]).out for _ in "ab"]

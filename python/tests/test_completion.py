@@ -6,7 +6,7 @@ import shutil
 import subprocess
 
 import pytest
-from conftest import SECONDS, TOP
+from conftest import SECONDS, TOP, match_in
 
 FILES = TOP / "release/package_files"
 # What stands before the cursor, and what is offered there.
@@ -33,8 +33,8 @@ words=({words}) CURRENT={count}
 """
 
 
-def offered(shell, line):
-    """What a shell offers behind a line, in order."""
+def offered(shell: str, line: str) -> list[str]:
+    """What a shell offers after a line, in order."""
     words = shlex.split(line) + ([""] if line.endswith(" ") else [])
     quoted, file = " ".join(map(shlex.quote, words)), FILES / f"completion.{shell}"
     script = {
@@ -51,7 +51,7 @@ def offered(shell, line):
 
 
 @pytest.mark.parametrize("shell", ["bash", "zsh", "fish"])
-def test_words_of_psi(shell):
+def test_words_of_psi(shell: str) -> None:
     if not shutil.which(shell):
         pytest.skip(f"{shell} isn't installed")
     for line, wanted in OFFERED.items():
@@ -64,10 +64,10 @@ def test_words_of_psi(shell):
 
 
 @pytest.mark.parametrize("shell", ["bash", "zsh", "fish"])
-def test_all_commands_are_offered(shell):
+def test_all_commands_are_offered(shell: str) -> None:
     text = (FILES / f"completion.{shell}").read_text()
     help_text = (TOP / "tools/command/help.txt").read_text()
-    usage = re.search(r"^Commands:\n(.*?)\n\n", help_text, re.S | re.M)
+    usage = match_in(r"^Commands:\n(.*?)\n\n", help_text, re.S | re.M)
     commands = {line.split()[0] for line in usage[1].splitlines()}
     assert len(commands) == 9
     assert all(re.search(rf"\b{command}\b", text) for command in commands)

@@ -22,7 +22,7 @@ NET = (
 NAMES = ("a", "b", "cost")
 
 
-def numbers(dice, depth):
+def numbers(dice: random.Random, depth: int) -> str:
     """A number of a condition, as text."""
     if not depth or dice.random() < 0.3:
         return dice.choice([*NAMES, str(dice.randrange(5))])
@@ -32,7 +32,7 @@ def numbers(dice, depth):
     return f"({left} {dice.choice('+-*')} {right})" if dice.random() < 0.5 else f"{left} {dice.choice('+-*')} {right}"
 
 
-def conditions(dice, depth):
+def conditions(dice: random.Random, depth: int) -> str:
     """A condition, as text."""
     kind = dice.random() if depth else 1
     if kind < 0.2:
@@ -40,14 +40,14 @@ def conditions(dice, depth):
     if kind < 0.6:
         parts = [f"({conditions(dice, depth - 1)})" for _ in range(dice.randrange(2, 4))]
         return dice.choice((" and ", " or ")).join(parts)
-    signs = [dice.choice(("==", "!=", "<", "<=", ">", ">=")) for _ in range(dice.choice((1, 1, 2)))]
+    comparisons = [dice.choice(("==", "!=", "<", "<=", ">", ">=")) for _ in range(dice.choice((1, 1, 2)))]
     text = numbers(dice, 2)
-    for sign in signs:
-        text += f" {sign} {numbers(dice, 2)}"
+    for comparison in comparisons:
+        text += f" {comparison} {numbers(dice, 2)}"
     return text
 
 
-def test_a_condition_means_what_it_means_in_python():
+def test_a_condition_means_what_it_means_in_python() -> None:
     dice, many, seen = random.Random(56), 0, set()
     for _ in range(300):
         text = conditions(dice, 3)
@@ -82,7 +82,7 @@ def test_a_condition_means_what_it_means_in_python():
         ("(" * 90 + "a" + ")" * 90 + " == 0", ["queue.a"]),
     ],
 )
-def test_columns_are_those_that_are_named(text, columns):
+def test_columns_are_those_that_are_named(text: str, columns: list[str]) -> None:
     assert Condition(NET, text).columns == columns
 
 
@@ -145,7 +145,7 @@ def test_columns_are_those_that_are_named(text, columns):
         *("import os", "del a", "assert a", "pass", "a: int == 0", "$a == 0", "a == 0 && b == 0", "!a"),
     ],
 )
-def test_what_is_no_condition_is_refused(text):
+def test_what_is_no_condition_is_refused(text: str) -> None:
     with pytest.raises(PsiError) as fault:
         Condition(NET, text)
     message = str(fault.value)
@@ -153,7 +153,7 @@ def test_what_is_no_condition_is_refused(text):
     assert message.isprintable() and len(message) < 400
 
 
-def test_messages_say_what_is_wrong():
+def test_messages_say_what_is_wrong() -> None:
     for text, message in (
         ("a ** 2 > 1", f"the condition has `a ** 2` where it can't stand: {FORM}"),
         ("a.b == 0", f"the condition has `a.b` where it can't stand: {FORM}"),
@@ -161,14 +161,14 @@ def test_messages_say_what_is_wrong():
         ("1 == 1", "the condition names no queue and no reward"),
         ("-" * 900 + "a == 0", f"the condition is nested more than {MOST_DEPTH} deep"),
         ("a" * 2_001, "the condition has more than 2,000 characters"),
-        ("ａ == 0", "the condition has characters that no name, number or sign has"),
+        ("ａ == 0", "the condition has characters that no name, number or operator has"),
     ):
         with pytest.raises(PsiError) as fault:
             Condition(NET, text)
         assert str(fault.value) == message
 
 
-def test_a_name_is_that_of_a_queue_first():
+def test_a_name_is_that_of_a_queue_first() -> None:
     assert column_of(NET, "a") == "queue.a"
     assert column_of(NET, "a", is_reward=True) == "reward.a"
     assert column_of(NET, "reward.a") == column_of(NET, "reward.a", is_reward=True) == "reward.a"

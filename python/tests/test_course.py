@@ -4,61 +4,45 @@ import collections
 import fractions
 import itertools
 import math
+import pathlib
 import re
 import tomllib
 
 import pytest
-from conftest import TOP
-from course import FOLDER, WORDS, Course, answers_of
+from conftest import TOP, erlang_b, match_in
+from course import FOLDER, WORDS, Answer, Course
 from oracle.plain_network import Network
 
 F = fractions.Fraction
 GALLERY = TOP / "examples"
 
 
-@pytest.fixture(scope="module")
-def course():
-    return Course.read()
-
-
-@pytest.fixture(scope="module")
-def answer(program):
-    return answers_of(program)
-
-
-def net_of(path):
+def net_of(path: pathlib.Path) -> Network:
     return Network(tomllib.loads(path.read_text()))
 
 
-def number_after(word, text):
+def number_after(word: str, text: str) -> int:
     """The number that follows a word in what psi prints."""
-    return int(re.search(rf"\b{word}[ ,](\d+)", text)[1])
+    return int(match_in(rf"\b{word}[ ,](\d+)", text)[1])
 
 
-def report_of(text):
+def report_of(text: str) -> dict[tuple[str, str], int]:
     """The values of a report."""
-    return {tuple(line.split(",")[:2]): int(line.split(",")[2]) for line in text.splitlines()[1:]}
+    rows = (line.split(",") for line in text.splitlines()[1:])
+    return {(item, name): int(value) for item, name, value in rows}
 
 
-def desk(rate, service, capacity):
+def desk(rate: float, service: float, capacity: int) -> list[float]:
     """The stationary distribution of M/M/1/K."""
     weights = [(rate / service) ** number for number in range(capacity + 1)]
     return [weight / sum(weights) for weight in weights]
 
 
-def erlang_b(lines, load):
-    """Erlang's formula B, by its recursion."""
-    blocked = 1.0
-    for number in range(1, lines + 1):
-        blocked = load * blocked / (number + load * blocked)
-    return blocked
-
-
-def bands(steps):
+def bands(steps: int) -> dict[tuple[int, int], F]:
     """How likely the least and the greatest state of first.toml are two numbers, after some steps from all states."""
-    shares = collections.Counter({(0, 2): F(1)})
+    shares = {(0, 2): F(1)}
     for _ in range(steps):
-        following = collections.Counter()
+        following: dict[tuple[int, int], F] = collections.defaultdict(F)
         for (low, high), share in shares.items():
             following[min(2, low + 1), min(2, high + 1)] += share / 4
             following[max(0, low - 1), max(0, high - 1)] += share / 2
@@ -67,7 +51,7 @@ def bands(steps):
     return shares
 
 
-def test_each_exercise_has_a_solution(course):
+def test_each_exercise_has_a_solution(course: Course) -> None:
     """Twelve exercises, each with a solution under the same heading, and each once in the table of subjects."""
     headings = [{number: title for number, (title, _) in each.items()} for each in (course.exercises, course.solutions)]
     assert headings[0] == headings[1] and [*headings[0]] == [*range(13)]
@@ -77,14 +61,14 @@ def test_each_exercise_has_a_solution(course):
     assert sorted(map(int, listed)) == [*range(1, 13)]
 
 
-def test_the_sheet_has_two_pages(course):
+def test_the_sheet_has_two_pages(course: Course) -> None:
     """The sheet fits on two pages of 50 lines, with at most 120 letters in a line that is not of a table."""
     lines = course.pages["sheet.md"].splitlines()
     assert lines[0].endswith(" on two pages") and len(lines) <= 100
     assert max(len(line) for line in lines if line[:1] != "|") <= 120
 
 
-def test_links_lead_somewhere(course):
+def test_links_lead_somewhere(course: Course) -> None:
     """Each link of the course leads to a page and a heading; where it shows a number, the heading has it."""
     for name, page in course.pages.items():
         for shown, target in re.findall(r"\[([^\]]*)\]\(([^)\s]+)\)", page):
@@ -100,7 +84,7 @@ def test_links_lead_somewhere(course):
             assert not shown.isdigit() or anchor.startswith(f"{shown}-"), target
 
 
-def test_1_where_the_runs_coalesce(course):
+def test_1_where_the_runs_coalesce(course: Course) -> None:
     net, words = net_of(GALLERY / "first.toml"), (2, 7, 4, 8)
     shown = "{}, {}, {} and {}"
     remainders = [word % net.modulus for word in words]
@@ -114,10 +98,10 @@ def test_1_where_the_runs_coalesce(course):
     )
     ends, middle = {}, None
     for steps in (1, 2, 4):
-        states = [(number,) for number in range(net.caps[0] + 1)]
+        states: list[tuple[int, ...]] = [(number,) for number in range(net.caps[0] + 1)]
         for word in reversed(words[:steps]):
             event = net.event_of(word)
-            states = [tuple(event.after(state)) if event else state for state in states]
+            states = [event.after(state) if event else state for state in states]
             if steps == 4 and word == words[2]:
                 ((middle,),) = {*states}
         ends[steps] = [number for number, in states]
@@ -132,7 +116,7 @@ def test_1_where_the_runs_coalesce(course):
     )
 
 
-def test_2_forward_runs(course):
+def test_2_forward_runs(course: Course) -> None:
     arrival, p, q = F(1, 3), F(3, 7), F(1, 7)
     assert p == arrival + (1 - arrival) * q and q == arrival * p
     full = arrival * p + (1 - arrival) * q
@@ -155,7 +139,7 @@ def test_2_forward_runs(course):
     )
 
 
-def test_3_doubling(course, answer):
+def test_3_doubling(course: Course, answer: Answer) -> None:
     least = number_after("coupled", answer("couple", "examples/single-server.toml", 0, 0))
     power = number_after("met", answer("sample", "examples/single-server.toml", 0, 0))
     course.solves(
@@ -171,9 +155,9 @@ def test_3_doubling(course, answer):
         assert last < 2 * each and 2 * last - 1 < 4 * each
 
 
-def test_4_kept_words(course):
+def test_4_kept_words(course: Course) -> None:
     assert all(low < high for low, high in bands(1))
-    two, left, found = bands(2), F(1), collections.Counter()
+    two, left, found = bands(2), F(1), collections.defaultdict[int, F](F)
     empty, full = (float(100 * two[each] / (two[0, 0] + two[2, 2])) for each in ((0, 0), (2, 2)))
     assert [each for each in two if each[0] == each[1]] == [(2, 2), (0, 0)] and two[2, 2] == F(1, 4) ** 2
     course.solves(
@@ -196,7 +180,7 @@ def test_4_kept_words(course):
     )
 
 
-def test_5_monotone(course, answer):
+def test_5_monotone(course: Course, answer: Answer) -> None:
     net = net_of(GALLERY / "longest-queue.toml")
     low, high = (0, 1, 3), (1, 1, 3)
     first, second, lower, upper = (
@@ -214,7 +198,7 @@ def test_5_monotone(course, answer):
     assert re.search(rf"^event come \d+ \d+ upset {first} {second}$", printed, re.M)
 
 
-def test_6_splitting(course, answer):
+def test_6_splitting(course: Course, answer: Answer) -> None:
     text = answer("exact", "examples/longest-queue.toml", 0, 0, 11)
     states, box = number_after("constant", text), number_after("region", text)
     split = tomllib.loads((GALLERY / "longest-queue-split.toml").read_text())["split"]
@@ -229,7 +213,7 @@ def test_6_splitting(course, answer):
     )
 
 
-def test_7_streams_left_out(course, answer):
+def test_7_streams_left_out(course: Course, answer: Answer) -> None:
     report = report_of(answer("report", "examples/short-past.toml", 0, 0, 1000))
     exact = sum(number * share for number, share in enumerate(desk(4, 5, 10)))
     met = report["met", "-"]
@@ -240,12 +224,12 @@ def test_7_streams_left_out(course, answer):
     )
 
 
-def test_8_common_random_numbers(course, answer):
+def test_8_common_random_numbers(course: Course, answer: Answer) -> None:
     files = "examples/single-server.toml", "docs/course/faster-desk.toml"
     slow, fast = ([int(answer("sample", file, 0, stream).split()[-1]) for stream in range(50)] for file in files)
     assert all(one >= two for one, two in zip(slow, fast))
 
-    def variance(values):
+    def variance(values: list[int]) -> float:
         mean = sum(values) / len(values)
         return sum((value - mean) ** 2 for value in values) / (len(values) - 1)
 
@@ -259,7 +243,7 @@ def test_8_common_random_numbers(course, answer):
     )
 
 
-def test_9_little_and_pasta(course):
+def test_9_little_and_pasta(course: Course) -> None:
     shares = desk(4, 5, 10)
     mean, through = sum(number * share for number, share in enumerate(shares)), 4 * (1 - shares[-1])
     course.solves(
@@ -270,7 +254,7 @@ def test_9_little_and_pasta(course):
     )
 
 
-def test_10_a_closed_network(course, answer):
+def test_10_a_closed_network(course: Course, answer: Answer) -> None:
     events = tomllib.loads((GALLERY / "central-server.toml").read_text())["event"]
     assert {event["name"]: event["rate"] for event in events} == {
         "read-disk": 2,
@@ -298,7 +282,7 @@ def test_10_a_closed_network(course, answer):
     assert tuple(map(int, printed.split()[-1].split(","))) in states
 
 
-def test_11_a_forged_certificate(course, answer, tmp_path):
+def test_11_a_forged_certificate(course: Course, answer: Answer, tmp_path: pathlib.Path) -> None:
     net, log = "examples/tandem-blocking.toml", answer("sample", "examples/tandem-blocking.toml", 0, 0, "log")
     *head, last, end = log.splitlines()
     assert (head[2], head[4], last.split()[1], end) == ("seed 0", "horizon 64", "1", "end 3,2,1")
@@ -309,18 +293,18 @@ def test_11_a_forged_certificate(course, answer, tmp_path):
         [*head[:2], "seed 1", *head[3:], last, end],
         [*head[:4], "horizon 63", head[5], *lowered, end],
     ]
-    said = []
+    stated = []
     for number, each in enumerate(forged):
         (tmp_path / f"line-{number}.log").write_text("\n".join(each) + "\n")
-        said.append(answer("replay", net, tmp_path / f"line-{number}.log"))
-    shown = re.search(r"^```\n(.*?)^```\n", course.pages["solutions.md"], re.M | re.S)[1]
-    assert shown == said[0] + said[1] and said[2] == said[1]
+        stated.append(answer("replay", net, tmp_path / f"line-{number}.log"))
+    shown = match_in(r"^```\n(.*?)^```\n", course.pages["solutions.md"], re.M | re.S)[1]
+    assert shown == stated[0] + stated[1] and stated[2] == stated[1]
     course.solves(
         11, "are the lines for the first two.", "the one that seed 1 picks. The third one is rejected like the second:"
     )
 
 
-def test_12_how_many_lines(course, answer):
+def test_12_how_many_lines(course: Course, answer: Answer) -> None:
     net = tomllib.loads((FOLDER / "lines.toml").read_text())
     (queue,), (ring, hang_up), (busy,) = net["queue"], net["event"], net["reward"]
     load = ring["rate"] / hang_up["rate"]

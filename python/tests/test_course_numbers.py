@@ -1,12 +1,14 @@
 """docs/course: each number on each page is compared. A change of it makes some test of the course fail."""
 
 import inspect
+import pathlib
 import types
+from collections.abc import Callable
 
 import pytest
 import test_course
 import test_course_questions
-from course import Course, answers_of, changes_of
+from course import Answer, Course, changes_of
 
 PAGES = [*Course.read().pages]
 CHECKS = [
@@ -17,12 +19,7 @@ CHECKS = [
 ]
 
 
-@pytest.fixture(scope="module")
-def answer(program):
-    return answers_of(program)
-
-
-def fails(check, given):
+def fails(check: Callable[..., None], given: dict[str, object]) -> bool:
     """Whether a test of the course fails."""
     try:
         check(**{name: given[name] for name in inspect.signature(check).parameters})
@@ -31,8 +28,9 @@ def fails(check, given):
     return False
 
 
+@pytest.mark.slow
 @pytest.mark.parametrize("name", PAGES)
-def test_each_number_is_compared(answer, tmp_path, name):
+def test_each_number_is_compared(answer: Answer, tmp_path: pathlib.Path, name: str) -> None:
     """No number of a page can be another one unnoticed, while the page as it is passes all tests."""
     course = Course.read()
     given = {"course": course, "answer": answer, "tmp_path": tmp_path}

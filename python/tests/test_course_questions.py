@@ -5,32 +5,23 @@ import re
 import statistics
 import tomllib
 from math import factorial
+from typing import Any
 
 import pytest
-from conftest import TOP
-from course import FOLDER, NOTEBOOK, WORDS, Course, answers_of, cells_of_notebook
+from conftest import TOP, match_in
+from course import FOLDER, NOTEBOOK, WORDS, Answer, Course, cells_of_notebook
 from oracle.plain_network import Network
 
 
-@pytest.fixture(scope="module")
-def course() -> Course:
-    return Course.read()
-
-
-@pytest.fixture(scope="module")
-def answer(program: str):
-    return answers_of(program)
-
-
-def table(name: str) -> dict:
+def table(name: str) -> dict[str, Any]:
     return tomllib.loads((TOP / name).read_text())
 
 
-def rates(file: dict) -> dict:
+def rates(file: dict[str, Any]) -> dict[str, int]:
     return {event["name"]: event["rate"] for event in file["event"]}
 
 
-def test_the_modulus_is_a_power_of_two(course: Course):
+def test_the_modulus_is_a_power_of_two(course: Course) -> None:
     """The remainders of an event are as many as its rate, in every file that the exercises name."""
     course.asks(0, "What counts is its remainder modulo a power of two, the **modulus**,")
     names = {*re.findall(r"[\w/-]+\.toml", course.pages["exercises.md"])}
@@ -40,7 +31,7 @@ def test_the_modulus_is_a_power_of_two(course: Course):
         assert net.modulus.bit_count() == 1
 
 
-def test_1_and_2_the_first_queue(course: Course):
+def test_1_and_2_the_first_queue(course: Course) -> None:
     file = table("examples/first.toml")
     (queue,), net = file["queue"], Network(file)
     arrival, service = rates(file).values()
@@ -64,7 +55,7 @@ def test_1_and_2_the_first_queue(course: Course):
     )
 
 
-def test_3_and_4_the_tries(course: Course, answer):
+def test_3_and_4_the_tries(course: Course, answer: Answer) -> None:
     """The commands of exercise 3 print what it says that they print."""
     course.asks(
         3,
@@ -79,7 +70,7 @@ def test_3_and_4_the_tries(course: Course, answer):
     course.asks(4, "each try of exercise 1 draws", "only the tries from 1 and from 2 steps are made.")
 
 
-def test_5_and_6_the_longest_queue(course: Course):
+def test_5_and_6_the_longest_queue(course: Course) -> None:
     file, split = table("examples/longest-queue.toml"), table("examples/longest-queue-split.toml")
     caps = [queue["capacity"] for queue in file["queue"]]
     assert caps == [3, 3, 3] == [queue["capacity"] for queue in split["queue"]]
@@ -101,7 +92,7 @@ def test_5_and_6_the_longest_queue(course: Course):
     )
 
 
-def test_7_and_8_the_desks(course: Course):
+def test_7_and_8_the_desks(course: Course) -> None:
     short, desk, fast = (
         table(name)
         for name in ("examples/short-past.toml", "examples/single-server.toml", "docs/course/faster-desk.toml")
@@ -120,13 +111,13 @@ def test_7_and_8_the_desks(course: Course):
     assert fast == desk
 
 
-def test_9_the_formula(course: Course):
+def test_9_the_formula(course: Course) -> None:
     (queue,) = table("examples/single-server.toml")["queue"]
     assert queue.get("servers", 1) == 1
     course.asks(9, "by the formula for M/M/1/K, the probability")
 
 
-def test_10_the_closed_network(course: Course):
+def test_10_the_closed_network(course: Course) -> None:
     file = table("examples/central-server.toml")
     course.asks(
         10,
@@ -136,7 +127,7 @@ def test_10_the_closed_network(course: Course):
     )
 
 
-def test_11_the_forged_log(course: Course, answer):
+def test_11_the_forged_log(course: Course, answer: Answer) -> None:
     """The lines that are to be changed are those of the log."""
     lines = answer("sample", "examples/tandem-blocking.toml", 0, 0, "log").splitlines()
     steps = int(lines[4].split()[1])
@@ -151,7 +142,7 @@ def test_11_the_forged_log(course: Course, answer):
     )
 
 
-def test_12_the_switchboard(course: Course):
+def test_12_the_switchboard(course: Course) -> None:
     file, text = table("docs/course/lines.toml"), (FOLDER / "lines.toml").read_text()
     (queue,), (ring, hang_up), (busy,) = file["queue"], file["event"], file["reward"]
     calls = ring["rate"] // hang_up["rate"]
@@ -166,7 +157,7 @@ def test_12_the_switchboard(course: Course):
     )
 
 
-def test_the_sheet(course: Course):
+def test_the_sheet(course: Course) -> None:
     """The numbers of the sheet for students are those of its formulas."""
     z = statistics.NormalDist().inv_cdf(0.975)
     share, error = 0.01, 0.1
@@ -198,11 +189,11 @@ def test_the_sheet(course: Course):
     assert re.findall(r"^(\d)\. ", course.pages["sheet.md"], re.M) == ["1", "2", "3", "4"]
 
 
-def test_the_notebook(course: Course):
+def test_the_notebook(course: Course) -> None:
     """The numbers in the prose of the notebook are those of its code, and of the files that it reads."""
     code = cells_of_notebook("code")
     places, arrival, service, limit, total = (
-        int(re.search(pattern, code)[1])
+        int(match_in(pattern, code)[1])
         for pattern in (
             r'queue\("desk", capacity=(\d+)\)',
             r'"arrival", rate=(\d+)',
@@ -228,7 +219,7 @@ def test_the_notebook(course: Course):
     )
 
 
-def test_files_are_there(course: Course):
+def test_files_are_there(course: Course) -> None:
     """Each file that an exercise names is there."""
     names = re.findall(r"[\w/-]+\.toml", course.pages["exercises.md"])
     assert len(names) > 12

@@ -1,7 +1,9 @@
 """docs/TOOLS.md and docs/MANY.md: what they show is what the tools print."""
 
+import pathlib
 import re
 import subprocess
+from collections.abc import Iterator
 
 import pytest
 from conftest import SECONDS, TOP
@@ -11,7 +13,7 @@ from psi_tools.draw.program import companion_of
 BLOCK = re.compile(r"^```(\w*)\n(.*?)^```\n", re.M | re.S)
 
 
-def shown(name):
+def shown(name: str) -> Iterator[tuple[dict[str, str], str, str | None]]:
     """The runs that a document shows: the files before it, the commands, and the text, or none
     where it shows none."""
     text = (TOP / "docs" / name).read_text()
@@ -22,19 +24,26 @@ def shown(name):
         elif block[2].startswith("tools/psi-") and name == "TOOLS.md":
             between = text[block.end() : following.start()] if following else ""
             prints = re.match(r"\s*prints\b[^.]*$", between)
-            yield dict(files), block[2], following[2] if prints else None
+            yield dict(files), block[2], following[2] if following and prints else None
 
 
 RUNS = [*shown("TOOLS.md")]
 
 
-def test_there_are_runs():
+def test_there_are_runs() -> None:
     assert len([text for *_, text in RUNS if text is not None]) == 9
     assert all(text != "" for *_, text in RUNS)
 
 
 @pytest.mark.parametrize("files, commands, text", RUNS, ids=[run[1].split()[0] for run in RUNS])
-def test_a_run_of_the_document(program, environment, tmp_path, files, commands, text):
+def test_a_run_of_the_document(
+    program: str,
+    environment: dict[str, str],
+    tmp_path: pathlib.Path,
+    files: dict[str, str],
+    commands: str,
+    text: str | None,
+) -> None:
     if "--paths" in commands and companion_of(program, "psi_paths") is None:
         pytest.skip("psi_paths isn't built")
     for name in ("tools", "examples"):
@@ -50,7 +59,7 @@ def test_a_run_of_the_document(program, environment, tmp_path, files, commands, 
         assert done.stdout == text
 
 
-def test_the_options_of_psi_many_are_those_that_it_has():
+def test_the_options_of_psi_many_are_those_that_it_has() -> None:
     from psi_tools.cli.completion import options_of
     from psi_tools.cli.many import parser
 

@@ -3,13 +3,15 @@ the streams that somebody could choose give what is said."""
 
 import csv
 import math
+import pathlib
 import re
 import subprocess
+from collections.abc import Callable
 
 import numpy
 import pytest
 import scipy.stats
-from conftest import TOP
+from conftest import TOP, match_in
 
 GUIDE = (TOP / "docs/FORMATS.md").read_text()
 PART = GUIDE.partition("\n## Performance figures\n")[2].partition("\n## ")[0]
@@ -17,8 +19,8 @@ FILE, CALL = TOP / "examples/service-level.toml", "report examples/service-level
 SERVERS, PLACES, COME, SERVED, WITHIN = 3, 10, 5, 2, 0.5
 
 
-def in_time(found):
-    """The chance that who finds so many is answered in time."""
+def in_time(found: int) -> float:
+    """The chance that who finds that many is answered in time."""
     if not SERVERS <= found < PLACES:
         return float(found < SERVERS)
     mean = SERVERS * SERVED * WITHIN
@@ -26,7 +28,7 @@ def in_time(found):
     return 1 - sum(math.exp(-mean) * mean**i / math.factorial(i) for i in range(many + 1))
 
 
-def law():
+def law() -> list[float]:
     """The probability of each number of callers."""
     weights = [1.0]
     for number in range(PLACES):
@@ -34,9 +36,9 @@ def law():
     return [weight / sum(weights) for weight in weights]
 
 
-def means_of_law():
+def means_of_law() -> dict[str, float]:
     """The mean of each row of the report, by the law."""
-    rewards = {
+    rewards: dict[str, Callable[[int], float]] = {
         "calls": lambda n: n,
         "busy": lambda n: min(n, SERVERS),
         "waiting": lambda n: max(0, n - SERVERS),
@@ -47,7 +49,7 @@ def means_of_law():
     return {name: sum(share * reward(n) for n, share in enumerate(law())) for name, reward in rewards.items()}
 
 
-def means_of_report(program):
+def means_of_report(program: str) -> dict[str, float]:
     """The mean of each row of the report, over its samples."""
     text = subprocess.check_output([program, *CALL.split()], cwd=TOP, text=True)
     assert f"./psi {CALL}\n" in PART and text in PART
@@ -55,7 +57,7 @@ def means_of_report(program):
     return {row["name"]: int(row["value"]) / 10_000 for row in rows if "sum" in row["item"]}
 
 
-def figures(mean):
+def figures(mean: dict[str, float]) -> list[float]:
     """The figures of the table, in its order."""
     entering = COME * (1 - mean["lost"])
     soon = mean["soon"] / 10**6
@@ -72,7 +74,7 @@ def figures(mean):
     ]
 
 
-def test_the_table_is_that_of_the_report_and_of_the_law(program):
+def test_the_table_is_that_of_the_report_and_of_the_law(program: str) -> None:
     rows = [
         [cell.strip() for cell in line.split("|")[3:5]]
         for line in PART.splitlines()
@@ -86,7 +88,7 @@ def test_the_table_is_that_of_the_report_and_of_the_law(program):
         assert value == pytest.approx(wanted, rel=0.07)
 
 
-def test_the_interval_of_a_quotient_holds_it():
+def test_the_interval_of_a_quotient_holds_it() -> None:
     """The minutes of waiting, of 20 reports of 500 samples each that are drawn from the law."""
     repetitions, reports, samples = 400, 20, 500
     found = numpy.random.default_rng(1).choice(PLACES + 1, (repetitions, reports, samples), p=law())
@@ -94,7 +96,7 @@ def test_the_interval_of_a_quotient_holds_it():
     b = COME * (found < PLACES).mean(axis=2)
     r = a.mean(axis=1) / b.mean(axis=1)
     d = a - r[:, None] * b
-    quantile = float(re.search(r"interval is r ± ([\d.]+) √\(v / 20\) / B", " ".join(GUIDE.split()))[1])
+    quantile = float(match_in(r"interval is r ± ([\d.]+) √\(v / 20\) / B", " ".join(GUIDE.split()))[1])
     assert quantile == round(scipy.stats.t.ppf(0.975, reports - 1), 3)
     half = quantile * numpy.sqrt((d**2).sum(axis=1) / 19 / 20) / b.mean(axis=1)
     truth = figures(means_of_law())[5]
@@ -102,7 +104,7 @@ def test_the_interval_of_a_quotient_holds_it():
     assert 0.92 <= held <= 0.98, held
 
 
-def test_the_rates_and_rewards_are_those_of_the_file():
+def test_the_rates_and_rewards_are_those_of_the_file() -> None:
     import tomllib
 
     net = tomllib.loads(FILE.read_text())
@@ -113,18 +115,18 @@ def test_the_rates_and_rewards_are_those_of_the_file():
     assert tables["soon"] == [wanted]
 
 
-def test_streams_that_could_be_chosen(program):
-    said = re.search(r"streams ([\d, and]+) of\s+`(\S+)` give ([\d, and]+) callers", GUIDE)
-    streams, states = (re.findall(r"\d+", said[place]) for place in (1, 3))
+def test_streams_that_could_be_chosen(program: str) -> None:
+    stated = match_in(r"streams ([\d, and]+) of\s+`(\S+)` give ([\d, and]+) callers", GUIDE)
+    streams, states = (re.findall(r"\d+", stated[place]) for place in (1, 3))
     assert len(streams) == len(states) == 3
     for stream, state in zip(streams, states):
-        out = subprocess.check_output([program, "sample", said[2], "0", stream], cwd=TOP, text=True)
+        out = subprocess.check_output([program, "sample", stated[2], "0", stream], cwd=TOP, text=True)
         assert out.splitlines()[1] == f"state {state}"
 
 
-def test_the_commitment_is_one(tmp_path):
-    said = GUIDE.partition("**A commitment**")[2]
-    block = re.search(r"^  ```\n((?:  [^\n]*\n)*?)  ```", said, re.M)
+def test_the_commitment_is_one(tmp_path: pathlib.Path) -> None:
+    stated = GUIDE.partition("**A commitment**")[2]
+    block = match_in(r"^  ```\n((?:  [^\n]*\n)*?)  ```", stated, re.M)
     lines = "".join(line[2:] for line in block[1].splitlines(True))
     done = subprocess.run(["sh", "-ec", lines], cwd=tmp_path, capture_output=True, text=True)
     kept = (tmp_path / "kept").read_text()

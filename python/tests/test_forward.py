@@ -1,47 +1,41 @@
 """psi-plot forward: where forward runs end, beside plain events and a solved chain."""
 
+import pathlib
+from typing import Any
+
 import numpy
 import pytest
-from conftest import TOP
+from conftest import TOP, Tool
+from oracle.plain_network import Event
 from oracle.plain_network import Network as Plain
 from solving import law_of
 
 from psi_tools.plot.forward import forward_of
 from psi_tools.model.networks import Network
 
-GUARDED = """version = 2
-[[queue]]
-name = "desk"
-capacity = 6
-servers = 3
-[[event]]
-name = "come"
-kind = "arrival"
-rate = 5
-to = ["desk"]
-[[event]]
-name = "serve"
-kind = "service"
-rate = 2
-from = "desk"
-[[event]]
-name = "leave"
-kind = "guarded"
-rate = 3
-part = [{ queue = "desk", least = 2, shift = -2, floor = 1 }]
-"""
+# The events with the share of the words of each, and a distribution over the states.
+Shares = list[tuple[float, Event]]
+Law = numpy.ndarray[Any, Any]
+GUARDED = (
+    Network()
+    .queue("desk", 6, 3)
+    .event("come", "arrival", 5, to=["desk"])
+    .event("serve", "service", 2, source="desk")
+    .event("leave", "guarded", 3, part=[{"queue": "desk", "least": 2, "shift": -2, "floor": 1}])
+    .toml()
+)
 
 
-def plain_of(text_or_path):
+def plain_of(path: str | pathlib.Path) -> tuple[Network, Shares, float, range]:
     """The network, the plain events with the share of the words of each, that of idle, and
     the states."""
-    net = Network.read(text_or_path)
+    net = Network.read(path)
     plain = Plain({**net.heads, **net.table})
     shares = [(event.rate / plain.modulus, event) for event in plain.events]
     return net, shares, plain.idle / plain.modulus, range(plain.caps[0] + 1)
 
 
-def after(shares, idle, law):
+def after(shares: Shares, idle: float, law: Law) -> Law:
     """The law after one step, from that before."""
     found = idle * law
     for number, probability in enumerate(law):
@@ -50,11 +44,11 @@ def after(shares, idle, law):
     return found
 
 
-def met(shares, idle, states):
+def met(shares: Shares, idle: float, states: range) -> Law:
     """The law of the first single state, followed by the sets of all runs, 5,000 steps long."""
     laws, found = {frozenset(states): 1.0}, numpy.zeros(len(states))
     for _ in range(5_000):
-        following = {}
+        following: dict[frozenset[int], float] = {}
         for runs, probability in laws.items():
             following[runs] = following.get(runs, 0) + idle * probability
             for share, event in shares:
@@ -68,13 +62,13 @@ def met(shares, idle, states):
 
 
 @pytest.mark.parametrize("name", ["single-server", "first", "call-centre", "guarded"])
-def test_forward_runs_end_as_the_plain_events_say(program, tmp_path, name):
+def test_forward_runs_end_as_the_plain_events_say(program: str, tmp_path: pathlib.Path, name: str) -> None:
     path = TOP / f"examples/{name}.toml"
     if name == "guarded":
         path = tmp_path / "guarded.toml"
         path.write_text(GUARDED)
     net, shares, idle, states = plain_of(path)
-    found = forward_of(program, path, ("1", "9"))
+    found = forward_of(program, str(path), ("1", "9"))
     assert [*found.after] == [1, 9]
     for begin in states:
         law = numpy.eye(len(states))[begin]
@@ -86,15 +80,15 @@ def test_forward_runs_end_as_the_plain_events_say(program, tmp_path, name):
     assert found.met == pytest.approx(met(shares, idle, states), abs=1e-9)
 
 
-def test_a_distance_is_the_greatest_error_of_an_event(program):
-    found = forward_of(program, TOP / "examples/single-server.toml", ())
+def test_a_distance_is_the_greatest_error_of_an_event(program: str) -> None:
+    found = forward_of(program, str(TOP / "examples/single-server.toml"), ())
     gaps = found.after[32] - found.law
     worst = max(numpy.maximum(gap, 0).sum() for gap in gaps)
     assert found.distance(32) == pytest.approx(worst)
 
 
 @pytest.mark.parametrize(
-    "words, said",
+    "words, printed",
     [
         ([TOP / "examples/tandem-blocking.toml"], "a network of one queue"),
         ([TOP / "examples/batch-arrivals.toml"], "no event such as"),
@@ -105,10 +99,10 @@ def test_a_distance_is_the_greatest_error_of_an_event(program):
         (["refused.toml"], "network refused"),
         (["apart.toml"], "several laws"),
         (["swapped.toml"], "all monotone"),
-        ([], "is told no file"),
+        ([], "needs a file"),
     ],
 )
-def test_what_cannot_be_drawn_is_refused(tool, tmp_path, words, said):
+def test_what_cannot_be_drawn_is_refused(tool: Tool, tmp_path: pathlib.Path, words: list[object], printed: str) -> None:
     (tmp_path / "refused.toml").write_text("version = 1\n")
     head, part = GUARDED.split('[[event]]\nname = "come"')[0], 'kind = "guarded"\nrate = 1\n'
     event = f'[[event]]\nname = "swap"\n{part}'
@@ -118,5 +112,5 @@ def test_what_cannot_be_drawn_is_refused(tool, tmp_path, words, said):
     (tmp_path / "apart.toml").write_text(head + event + apart)
     (tmp_path / "swapped.toml").write_text(head + event + swapped + down)
     status, out, error = tool("psi-plot", "forward", *words, "-o", "drawn.svg")
-    assert (status, out) == (2, "") and said in error and error.count("\n") == 1, error
+    assert (status, out) == (2, "") and printed in error and error.count("\n") == 1, error
     assert not (tmp_path / "drawn.svg").exists()

@@ -4,12 +4,16 @@ import copy
 import fractions
 import json
 import math
+import pathlib
 import random
 import subprocess
 import sys
+import types
+from collections.abc import Callable, Iterator, Sequence
+from typing import Any
 
 import pytest
-from conftest import TOP
+from conftest import TOP, Tool
 
 from psi_tools import check_interval
 from psi_tools.stats.guaranteed import (
@@ -30,27 +34,35 @@ from psi_tools.stats.guaranteed import (
 from psi_tools.stats.intervals import Span, probability
 
 # The lengths of the trials in this test; the study has more of them.
+# A row, a claim or a file of certificates; the path of a number in one; and both ends of a claim.
+Record = dict[str, Any]
+Place = tuple[Any, ...]
+Ends = tuple[fractions.Fraction | int | None, ...]
+# Values with how many samples have each.
+Scores = Sequence[tuple[fractions.Fraction | int, int]]
+# Files of certificates by name, each with what its tool printed.
+Files = dict[str, tuple[pathlib.Path, str]]
 REPEATED, CHANGED = 10, 400
-CHECKER = [sys.executable, "-IS", TOP / "tools/check_interval.py"]
+CHECKER = [sys.executable, "-IS", str(TOP / "tools/check_interval.py")]
 
 
-def tail(u, v, k, i):
+def tail(u: int, v: int, k: int, i: int) -> int:
     """Of k draws that are ones in u of u + v cases: the cases with i ones or more."""
     return sum(math.comb(k, n) * u**n * v ** (k - n) for n in range(i, k + 1))
 
 
-def holds_binomial(k, i, r, q, d):
+def holds_binomial(k: int, i: int, r: int, q: int, d: int) -> bool:
     return 0 <= i and 0 <= r <= q and d * tail(r, q - r, k, i) <= q**k
 
 
-def holds_chernoff(k, z, i, r, q, d, a, b):
+def holds_chernoff(k: int, z: int, i: int, r: int, q: int, d: int, a: int, b: int) -> bool:
     if not 0 <= i <= k * z or not 1 <= a or not b <= a or not r <= q * z:
         return False
     left = d * (r * a**z + (q * z - r) * b**z) ** k
-    return left <= a**i * b ** (k * z - i) * (q * z) ** k
+    return bool(left <= a**i * b ** (k * z - i) * (q * z) ** k)
 
 
-def holds_bets(scores, r, q, d, t, stakes):
+def holds_bets(scores: Scores, r: int, q: int, d: int, t: int, stakes: list[int]) -> bool:
     won = sum(math.prod((t * q - s * r + s * q * v) ** c for v, c in scores) for s in stakes)
     begun = d * len(stakes) * (t * q) ** sum(c for _, c in scores)
     return bool(stakes) and t * q >= 1 and all(s * r <= t * q for s in stakes) and begun <= won
@@ -64,7 +76,7 @@ DECIDE = {
 
 
 @BOTH
-def test_certificates_that_are_worked_by_hand(way):
+def test_certificates_that_are_worked_by_hand(way: str) -> None:
     """The numbers are those of the proof, which its checker computes."""
     binomial, chernoff, won = DECIDE[way]
     assert [r for r in range(100) if binomial(10, 8, r, 100, 40)][-1] == 44
@@ -75,7 +87,7 @@ def test_certificates_that_are_worked_by_hand(way):
 
 
 @BOTH
-def test_the_inequalities_are_those_in_whole_numbers(way):
+def test_the_inequalities_are_those_in_whole_numbers(way: str) -> None:
     """Neither rounding nor a bound of the rest accepts more than the plain inequality, nor less."""
     binomial, chernoff, won = DECIDE[way]
     draw, accepted = random.Random(54), [0, 0, 0]
@@ -98,7 +110,7 @@ def test_the_inequalities_are_those_in_whole_numbers(way):
     assert all(40 < count < 360 for count in accepted), accepted
 
 
-def ends_in_whole_numbers(row, claim, d):
+def ends_in_whole_numbers(row: Record, claim: Record, d: int) -> Ends:
     """The ends of a claim by the plain inequalities; none for one that isn't proved."""
     k, lost, least, greatest = (row[key] for key in ("samples", "uncoupled", "least", "greatest"))
     values = [v for v, c in row.get("counts", []) for _ in range(c)]
@@ -113,28 +125,28 @@ def ends_in_whole_numbers(row, claim, d):
     if claim["of"] == "share":
         values = [int(claim["from"] <= v <= claim["to"]) for v in values]
         least, greatest, unit = 0, 1, 1
-    ends, z = [], fractions.Fraction(greatest - least, unit)
+    ends: list[fractions.Fraction | None] = []
+    z = fractions.Fraction(greatest - least, unit)
     assert z == int(z)
     for side, sign, base in (("low", 1, least), ("high", -1, greatest)):
-        scores = [(0, lost), *((fractions.Fraction(sign * (v - base), unit), 1) for v in values)]
-        total = sum(v * c for v, c in scores)
+        counted = [(fractions.Fraction(sign * (v - base), unit), 1) for v in values]
+        scores: Scores = [(0, lost), *counted]
+        total = fractions.Fraction(sum(v * c for v, c in scores))
         if "counts" not in row:
             total = fractions.Fraction(sign * (row["sum"] - base * (k - lost)), unit)
         proof = claim[side]
-        proves = (
-            proof is None
-            or {
-                "binomial": lambda: z == 1 and holds_binomial(k, int(total), proof["r"], q, d),
-                "chernoff": lambda: holds_chernoff(k, int(z), int(total), proof["r"], q, d, proof["a"], proof["b"]),
-                "bets": lambda: holds_bets(scores, proof["r"], q, d, proof["t"], proof["stakes"]),
-            }[proof["by"]]()
-        )
+        ways: dict[str, Callable[[], bool]] = {
+            "binomial": lambda: z == 1 and holds_binomial(k, int(total), proof["r"], q, d),
+            "chernoff": lambda: holds_chernoff(k, int(z), int(total), proof["r"], q, d, proof["a"], proof["b"]),
+            "bets": lambda: holds_bets(scores, proof["r"], q, d, proof["t"], proof["stakes"]),
+        }
+        proves = proof is None or ways[proof["by"]]()
         r = 0 if proof is None else proof["r"]
         ends.append(base + sign * unit * fractions.Fraction(r, q) if proves else None)
     return tuple(ends)
 
 
-def small_file():
+def small_file() -> Record:
     """A file of certificates whose numbers are small enough for the plain inequalities."""
     counts = [(-1, 9), (0, 14), (1, 8), (2, 4)]
     span, pilot = Span(-1, 3, -1, 3), Pilot([(-1, 3), (0, 5), (1, 4), (2, 1)], 1, 100, 14)
@@ -149,10 +161,11 @@ def small_file():
         row.mean()
     by_bets.share(-1, 0)
     by_bets.quantile(0.5)
-    return json.loads(json.dumps(file_of(rows, {})))
+    file: Record = json.loads(json.dumps(file_of(rows, {})))
+    return file
 
 
-def places_of(value, path=()):
+def places_of(value: object, path: Place = ()) -> Iterator[Place]:
     """The paths of all whole numbers in a file."""
     if type(value) is int:
         yield path
@@ -161,7 +174,7 @@ def places_of(value, path=()):
             yield from places_of(item, (*path, key))
 
 
-def proved(file):
+def proved(file: Record) -> list[tuple[Record, Record, Any]]:
     """The ends that the checker says of each claim."""
     return [
         (row, claim, check_interval.interval(row, claim, *check_interval.whole([file["d"]], 1)))
@@ -170,7 +183,8 @@ def proved(file):
     ]
 
 
-def test_changed_certificates_do_not_prove_more():
+@pytest.mark.slow
+def test_changed_certificates_do_not_prove_more() -> None:
     file = small_file()
     assert all(None not in ends for *_, ends in proved(file))
     assert {
@@ -180,7 +194,8 @@ def test_changed_certificates_do_not_prove_more():
         for side in ("low", "high")
         if isinstance(claim[side], dict)
     } == {"bets", "binomial", "chernoff"}
-    draw, places, outcomes = random.Random(7), [*places_of(file)], {}
+    draw, places = random.Random(7), [*places_of(file)]
+    outcomes: dict[str, int] = {}
     for _ in range(CHANGED):
         changed, path = copy.deepcopy(file), draw.choice(places)
         inner = changed
@@ -203,7 +218,7 @@ def test_changed_certificates_do_not_prove_more():
     assert min(outcomes[kind] for kind in ("refused", "proved", "not proved")) > 20, outcomes
 
 
-def test_a_greater_claim_is_not_proved():
+def test_a_greater_claim_is_not_proved() -> None:
     """Each end is the greatest that its certificate proves, to some parts."""
     file = small_file()
     for row, claim, _ in proved(file):
@@ -232,7 +247,9 @@ def test_a_greater_claim_is_not_proved():
         ),
     ],
 )
-def test_files_of_certificates_that_are_worked_by_hand(tmp_path, seen, greatest, q, proof, wrong, ends):
+def test_files_of_certificates_that_are_worked_by_hand(
+    tmp_path: pathlib.Path, seen: Record, greatest: int, q: int, proof: Record, wrong: int, ends: str
+) -> None:
     """The certificates are those that the proof computes; a greater claim is not proved."""
     claim = {"of": "mean", "q": q, "unit": 1, "low": proof, "high": None}
     row = {"name": "row", "samples": 10, "uncoupled": 0, "least": 0, "greatest": greatest, **seen}
@@ -246,9 +263,9 @@ def test_files_of_certificates_that_are_worked_by_hand(tmp_path, seen, greatest,
         assert done.stdout.splitlines()[0] == f"row: mean: {shown}"
 
 
-BETS = {"by": "bets", "r": 11, "t": 10, "stakes": [7]}
-SHARE = {"of": "share", "q": 10, "unit": 1, "from": 2, "to": 2, "low": None, "high": None}
-QUANTILE = {"of": "quantile", "r": 1, "q": 2, "low": 9, "high": 9}
+BETS: Record = {"by": "bets", "r": 11, "t": 10, "stakes": [7]}
+SHARE: Record = {"of": "share", "q": 10, "unit": 1, "from": 2, "to": 2, "low": None, "high": None}
+QUANTILE: Record = {"of": "quantile", "r": 1, "q": 2, "low": 9, "high": 9}
 
 
 @pytest.mark.parametrize(
@@ -292,7 +309,7 @@ QUANTILE = {"of": "quantile", "r": 1, "q": 2, "low": 9, "high": 9}
         ({"least": 0, "counts": [[1, 2], [2, 6]], "uncoupled": 2}, QUANTILE, 0),
     ],
 )
-def test_what_numbers_of_a_file_prove(row, claim, low):
+def test_what_numbers_of_a_file_prove(row: Record, claim: Record, low: object) -> None:
     """Eight values of 2 and two of 1; bets prove 11 of 10, as the proof computes."""
     row = {"samples": 10, "uncoupled": 0, "least": 0, "greatest": 2, "counts": [[1, 2], [2, 8]], **row}
     claim = {"of": "mean", "q": 10, "unit": 1, "low": BETS, "high": None, **claim}
@@ -304,7 +321,7 @@ def test_what_numbers_of_a_file_prove(row, claim, low):
 
 
 @pytest.mark.parametrize("wrong", [{"d": 0}, {"d": 40.0}, {"d": True}, {"d": "40"}, {}, {"d": 40, "rows": [{}]}, [], 7])
-def test_what_is_no_file_of_certificates(tmp_path, wrong):
+def test_what_is_no_file_of_certificates(tmp_path: pathlib.Path, wrong: object) -> None:
     path = tmp_path / "file.json"
     path.write_text(json.dumps(wrong))
     done = subprocess.run([*CHECKER, path], capture_output=True, text=True)
@@ -312,7 +329,7 @@ def test_what_is_no_file_of_certificates(tmp_path, wrong):
     assert done.stderr.startswith(f"check_interval: {path} is no file of certificates: ")
 
 
-def test_a_share_holds_for_each_probability():
+def test_a_share_holds_for_each_probability() -> None:
     """Computed, and not drawn: the chance that the interval misses, over all counts."""
     k, d = 30, 20
     q = parts_of(k)
@@ -332,7 +349,7 @@ def test_a_share_holds_for_each_probability():
         assert high <= 1 - claims[k - i] / q <= high + 2 / q
 
 
-def test_bets_hold_for_a_list_of_values():
+def test_bets_hold_for_a_list_of_values() -> None:
     """Computed, and not drawn: over all counts of three values of a distribution."""
     k, d, chances = 12, 4, (6, 3, 1)
     mean, missed = fractions.Fraction(3 * 1 + 1 * 2, 10), 0
@@ -347,7 +364,7 @@ def test_bets_hold_for_a_list_of_values():
     assert 0 < d * missed <= 2 * 10**k
 
 
-def test_what_is_not_coupled_widens_each_end():
+def test_what_is_not_coupled_widens_each_end() -> None:
     counts = [(0, 40), (1, 30), (2, 30)]
     whole, cut = (Guarantee("row", 100 + lost, lost, Span(0, 4, 0, 4), 40, counts) for lost in (0, 25))
     for low, high, other_low, other_high in ((*whole.mean(), *cut.mean()), (*whole.share(1, 2), *cut.share(1, 2))):
@@ -356,7 +373,7 @@ def test_what_is_not_coupled_widens_each_end():
     assert cut.mean()[0] < fractions.Fraction(90, 125)
 
 
-def test_levels_and_parts():
+def test_levels_and_parts() -> None:
     assert [one_in(level) for level in (0.9, 0.95, 0.99, 0.97, 0.5)] == [20, 40, 200, 67, 4]
     assert [pilots_of(count) for count in (1, 100, 10_000, 10**6)] == [1, 5, 500, 1_000]
     t, stakes = stakes_of_range(20_000, 10, 40)
@@ -369,11 +386,11 @@ def test_levels_and_parts():
     assert [written_out(-0.12345, 3, is_high) for is_high in (False, True)] == ["-0.124", "-0.123"]
 
 
-def test_a_mean_alike_in_all_states_is_known():
-    assert Guarantee("row", 10, 3, Span(4, 4, 4, 4), 40, [(4, 7)]).mean() == (4, 4)
+def test_a_mean_alike_in_all_states_is_known() -> None:
+    assert [*Guarantee("row", 10, 3, Span(4, 4, 4, 4), 40, [(4, 7)]).mean()] == [4, 4]
 
 
-def test_twenty_thousand_streams_are_fast():
+def test_twenty_thousand_streams_are_fast() -> None:
     """Counted by processor time, with ten times what an idle machine takes."""
     import time
 
@@ -388,20 +405,18 @@ def test_twenty_thousand_streams_are_fast():
 
 
 @pytest.fixture
-def files(tool, tmp_path):
+def files(tool: Tool, tmp_path: pathlib.Path) -> Files:
     """A file of certificates of each tool, with what the tool has printed."""
     net = TOP / "examples/short-past.toml"
-    told = {}
-    call = ("psi-law", net, "desk", "--count", 300, "--guaranteed", "--certificate", "law.json")
-    told["law.json"] = tool(*call)
+    reported = {}
+    reported["law.json"] = tool("psi-law", net, "desk", "--count", 300, "--guaranteed", "--certificate", "law.json")
     tool("psi-many", net, 0, 0, 300, "--block", 15, "--folder", "short")
-    call = ("psi-means", "short", "--guaranteed", "--certificate", "means.json")
-    told["means.json"] = tool(*call)
-    assert [status for status, *_ in told.values()] == [0, 0], told
-    return {name: (tmp_path / name, out) for name, (_, out, _) in told.items()}
+    reported["means.json"] = tool("psi-means", "short", "--guaranteed", "--certificate", "means.json")
+    assert [status for status, *_ in reported.values()] == [0, 0], reported
+    return {name: (tmp_path / name, out) for name, (_, out, _) in reported.items()}
 
 
-def test_the_tools_write_what_the_checker_proves(files):
+def test_the_tools_write_what_the_checker_proves(files: Files) -> None:
     for path, out in files.values():
         assert out.startswith("NOT COUPLED: ")
         assert out.endswith("were drawn evenly and independently\n")
@@ -418,7 +433,7 @@ def test_the_tools_write_what_the_checker_proves(files):
         assert float(low) <= exact[0] <= exact[1] <= float(high)
 
 
-def test_the_means_that_the_guide_has(tool):
+def test_the_means_that_the_guide_has(tool: Tool) -> None:
     call = ("psi-law", TOP / "examples/call-centre.toml", "calls", "--count", 20_000)
     guide = (TOP / "docs/TOOLS.md").read_text()
     for more in ((), ("--guaranteed",), ("--guaranteed", "--pilot", 0)):
@@ -426,12 +441,12 @@ def test_the_means_that_the_guide_has(tool):
         assert f"`{next(line for line in out if line.startswith('mean '))}`" in guide
 
 
-def test_forms_and_levels(tool, tmp_path, files):
-    told = json.loads(tool("psi-means", "short", "--guaranteed", "--format", "json")[1])
-    assert [row["item"] for row in told["rows"]] == ["mean", "reward-mean"]
-    assert any(note.startswith("assumed: ") for note in told["notes"])
+def test_forms_and_levels(tool: Tool, tmp_path: pathlib.Path, files: Files) -> None:
+    reported = json.loads(tool("psi-means", "short", "--guaranteed", "--format", "json")[1])
+    assert [row["item"] for row in reported["rows"]] == ["mean", "reward-mean"]
+    assert any(note.startswith("assumed: ") for note in reported["notes"])
     wide = tool("psi-means", "short", "--guaranteed", "--format", "json", "--level", 99)[1]
-    for one, other in zip(told["rows"], json.loads(wide)["rows"]):
+    for one, other in zip(reported["rows"], json.loads(wide)["rows"]):
         assert other["low"] < one["low"] < one["high"] < other["high"]
     status, out, error = tool("psi-means", "short", "--guaranteed", "--format", "csv")
     assert status == 0 and "assumed: " in error
@@ -441,7 +456,7 @@ def test_forms_and_levels(tool, tmp_path, files):
     assert "stakes from the number of streams and the range" in tool(*call)[1]
 
 
-def test_what_is_refused(tool, tmp_path):
+def test_what_is_refused(tool: Tool, tmp_path: pathlib.Path) -> None:
     net = TOP / "examples/first.toml"
     status, out, error = tool("psi-law", net, "a", "--certificate", "file")
     assert (status, out, error) == (2, "", "psi-law: --certificate goes with --guaranteed\n")
@@ -461,7 +476,7 @@ def test_what_is_refused(tool, tmp_path):
     assert (status, out) == (2, "") and "fixed beforehand" in error
 
 
-def test_in_python(psi, tmp_path):
+def test_in_python(psi: types.SimpleNamespace, tmp_path: pathlib.Path) -> None:
     net = TOP / "examples/call-classes.toml"
     means = psi.means(net, seed=3, count=200, guaranteed=True)
     law = psi.law(net, "near", seed=3, count=200, guaranteed=True)
@@ -476,7 +491,7 @@ def test_in_python(psi, tmp_path):
         assert done.returncode == 0, done.stdout + done.stderr
 
 
-def test_a_reward_of_several_queues_goes_by_states(psi, tmp_path):
+def test_a_reward_of_several_queues_goes_by_states(psi: types.SimpleNamespace, tmp_path: pathlib.Path) -> None:
     """Its value counts where the states have met, also where psi reward knows it before."""
     net = psi.Network.read(TOP / "examples/tandem-blocking.toml")
     net.heads["limit"] = 5
@@ -488,7 +503,8 @@ def test_a_reward_of_several_queues_goes_by_states(psi, tmp_path):
     assert dict(found["count"]) == {value: known.count(value) for value in sorted({*known})}
 
 
-def test_guaranteed_intervals_hold(program):
+@pytest.mark.slow
+def test_guaranteed_intervals_hold(program: str) -> None:
     """A few repetitions of the study, which report a fault that is great; 400 are made by hand."""
     call = ["/usr/bin/python3", "-m", "tests.study_guaranteed", program, "--repetitions", REPEATED, "--count", 60]
     done = subprocess.run([*map(str, call)], cwd=TOP, capture_output=True, text=True)

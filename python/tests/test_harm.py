@@ -10,20 +10,22 @@ import signal
 import subprocess
 import sys
 import time
+from collections.abc import Callable, Sequence
+from typing import Any
 
 import pytest
-from conftest import SECONDS, TOP
+from conftest import SECONDS, TOP, match_in
 
 NET = TOP / "examples/single-server.toml"
-LAW = ["psi-law", NET, "desk", "--count", "40"]
-MANY = ["psi-many", NET, "0", "0", "400", "--block", "10", "--folder", "kept"]
+LAW: list[object] = ["psi-law", NET, "desk", "--count", "40"]
+MANY: list[object] = ["psi-many", NET, "0", "0", "400", "--block", "10", "--folder", "kept"]
 
 
-def call_of(words):
-    return [str(TOP / "tools" / words[0]), *map(str, words[1:])]
+def call_of(words: Sequence[object]) -> list[str]:
+    return [str(TOP / "tools" / str(words[0])), *map(str, words[1:])]
 
 
-def run(environment, room, words, **more):
+def run(environment: dict[str, str], room: pathlib.Path, words: Sequence[object], **more: Any) -> tuple[int, str, str]:
     """A call of a tool: its status and both its texts."""
     more = {"stdout": subprocess.PIPE, "stderr": subprocess.PIPE, **more}
     done = subprocess.run(call_of(words), cwd=room, env=environment, text=True, timeout=SECONDS, **more)
@@ -34,7 +36,9 @@ def run(environment, room, words, **more):
 
 
 @pytest.mark.parametrize("name", ["/dev/stdout", "/dev/fd/1", "/proc/self/fd/1", "link"])
-def test_standard_output_as_a_file_is_written_behind(environment, tmp_path, name):
+def test_standard_output_as_a_file_is_written_behind(
+    environment: dict[str, str], tmp_path: pathlib.Path, name: str
+) -> None:
     (tmp_path / "link").symlink_to("/dev/stdout")
     (tmp_path / "log").write_text("before\n")
     wanted = run(environment, tmp_path, LAW)[1]
@@ -46,7 +50,7 @@ def test_standard_output_as_a_file_is_written_behind(environment, tmp_path, name
     assert sorted(os.listdir(tmp_path)) == ["link", "log"]
 
 
-def test_a_pipe_of_another_name_is_written(environment, tmp_path):
+def test_a_pipe_of_another_name_is_written(environment: dict[str, str], tmp_path: pathlib.Path) -> None:
     os.mkfifo(tmp_path / "pipe")
     with subprocess.Popen(["cat", "pipe"], cwd=tmp_path, stdout=subprocess.PIPE, text=True) as cat:
         status, _, error = run(environment, tmp_path, [*LAW, "-o", "pipe"])
@@ -57,7 +61,7 @@ def test_a_pipe_of_another_name_is_written(environment, tmp_path):
 # Temporary files.
 
 
-def test_a_planted_link_is_not_written_through(environment, tmp_path):
+def test_a_planted_link_is_not_written_through(environment: dict[str, str], tmp_path: pathlib.Path) -> None:
     (tmp_path / "precious").write_text("mine\n")
     # What a tool with one of the next numbers would call its temporary file.
     for number in range(os.getpid(), os.getpid() + 400):
@@ -69,7 +73,7 @@ def test_a_planted_link_is_not_written_through(environment, tmp_path):
 
 
 @pytest.mark.parametrize("mode", [0o600, 0o664, 0o640])
-def test_a_file_keeps_its_mode(environment, tmp_path, mode):
+def test_a_file_keeps_its_mode(environment: dict[str, str], tmp_path: pathlib.Path, mode: int) -> None:
     path = tmp_path / "law.txt"
     path.write_text("old")
     path.chmod(mode)
@@ -83,11 +87,11 @@ def test_a_file_keeps_its_mode(environment, tmp_path, mode):
     assert (tmp_path / "new.txt").stat().st_mode & 0o777 == 0o640
 
 
-def test_no_temporary_file_can_be_read_by_others(tmp_path, monkeypatch):
+def test_no_temporary_file_can_be_read_by_others(tmp_path: pathlib.Path, monkeypatch: pytest.MonkeyPatch) -> None:
     from psi_tools.io import files
 
     seen = []
-    monkeypatch.setattr(files.os, "fsync", lambda number: seen.append(os.fstat(number).st_mode))
+    monkeypatch.setattr("psi_tools.io.files.os.fsync", lambda number: seen.append(os.fstat(number).st_mode))
     (tmp_path / "secret").write_text("old")
     (tmp_path / "secret").chmod(0o600)
     files.write_file(str(tmp_path / "secret"), [b"new"])
@@ -98,7 +102,7 @@ def test_no_temporary_file_can_be_read_by_others(tmp_path, monkeypatch):
 # Folders.
 
 
-def kept_files(room):
+def kept_files(room: pathlib.Path) -> dict[pathlib.Path, bytes]:
     return {path: path.read_bytes() for path in room.rglob("*") if path.is_file()}
 
 
@@ -114,7 +118,9 @@ def kept_files(room):
         {"thesis": "mine"},
     ],
 )
-def test_a_folder_of_somebody_else_is_left_as_it_is(environment, tmp_path, files):
+def test_a_folder_of_somebody_else_is_left_as_it_is(
+    environment: dict[str, str], tmp_path: pathlib.Path, files: dict[str, str]
+) -> None:
     for name, text in files.items():
         path = tmp_path / "kept" / name
         path.parent.mkdir(parents=True, exist_ok=True)
@@ -127,7 +133,7 @@ def test_a_folder_of_somebody_else_is_left_as_it_is(environment, tmp_path, files
 
 
 @pytest.mark.parametrize("name", ["lock", "net.toml", "blocks", "bound"])
-def test_a_link_in_a_folder_is_refused(environment, tmp_path, name):
+def test_a_link_in_a_folder_is_refused(environment: dict[str, str], tmp_path: pathlib.Path, name: str) -> None:
     (tmp_path / "kept").mkdir()
     target = tmp_path / "target"
     target.mkdir() if name == "blocks" else target.write_text("mine\n")
@@ -137,7 +143,7 @@ def test_a_link_in_a_folder_is_refused(environment, tmp_path, name):
     assert [*target.iterdir()] == [] if name == "blocks" else target.read_text() == "mine\n"
 
 
-def test_a_link_that_is_planted_later_is_refused(environment, tmp_path):
+def test_a_link_that_is_planted_later_is_refused(environment: dict[str, str], tmp_path: pathlib.Path) -> None:
     assert run(environment, tmp_path, MANY)[0] == 0
     (tmp_path / "mine").write_text("mine\n")
     (tmp_path / "kept/lock").unlink()
@@ -148,8 +154,10 @@ def test_a_link_that_is_planted_later_is_refused(environment, tmp_path):
 
 
 @pytest.mark.parametrize("room", [0, 5, 30, 150, 250])
-def test_what_a_full_disk_has_left_does_not_matter(environment, tmp_path, room):
-    def limit():
+def test_what_a_full_disk_has_left_does_not_matter(
+    environment: dict[str, str], tmp_path: pathlib.Path, room: int
+) -> None:
+    def limit() -> None:
         resource.setrlimit(resource.RLIMIT_FSIZE, (room, room))
 
     status, out, error = run(environment, tmp_path, MANY, preexec_fn=limit)
@@ -162,7 +170,7 @@ def test_what_a_full_disk_has_left_does_not_matter(environment, tmp_path, room):
     assert not [*(tmp_path / "kept").rglob("part.*")]
 
 
-def test_a_disk_that_is_full(environment, program, tmp_path):
+def test_a_disk_that_is_full(environment: dict[str, str], program: str, tmp_path: pathlib.Path) -> None:
     """A disk of its own, which wants root; the call goes on once there is room."""
     if os.geteuid() != 0 or not shutil.which("mount"):
         pytest.skip("a disk of its own wants root and mount")
@@ -188,13 +196,15 @@ def test_a_disk_that_is_full(environment, program, tmp_path):
 
 @pytest.mark.parametrize("line", ["network", "seed", "first", "count", "block", "digest"])
 @pytest.mark.parametrize("damage", ["cut", "changed", "removed"])
-def test_a_damaged_line_of_bound_costs_no_more_than_its_own_block(environment, tmp_path, line, damage):
+def test_a_damaged_line_of_bound_costs_no_more_than_its_own_block(
+    environment: dict[str, str], tmp_path: pathlib.Path, line: str, damage: str
+) -> None:
     wanted = run(environment, tmp_path, MANY)[1]
     blocks = {path: path.stat().st_mtime_ns for path in (tmp_path / "kept/blocks").iterdir()}
     assert len(blocks) == 40
     bound = tmp_path / "kept/bound"
     text = bound.read_text()
-    own = re.search(rf"^{line} (.*)\n", text, re.M)
+    own = match_in(rf"^{line} (.*)\n", text, re.M)
     new = {
         "cut": text[: own.start(1) + 1],
         "removed": text.replace(own[0], ""),
@@ -208,19 +218,20 @@ def test_a_damaged_line_of_bound_costs_no_more_than_its_own_block(environment, t
     assert bound.read_text() == text and "bound was damaged" in error
 
 
-def test_a_bound_that_is_no_text(environment, tmp_path):
+def test_a_bound_that_is_no_text(environment: dict[str, str], tmp_path: pathlib.Path) -> None:
     assert run(environment, tmp_path, MANY)[0] == 0
     for name in ("bound", "bound.copy"):
         (tmp_path / "kept" / name).write_bytes(b"\xff\xfe\n")
-    for words in (MANY, ["psi-means", "kept"]):
+    calls: list[list[object]] = [MANY, ["psi-means", "kept"]]
+    for words in calls:
         status, out, error = run(environment, tmp_path, words)
         assert status == 2 and out == "" and re.fullmatch(r"psi-\w+: [^\n]*\n", error), error
 
 
-def test_no_loop_of_links_is_a_fault_of_the_tool(environment, tmp_path):
+def test_no_loop_of_links_is_a_fault_of_the_tool(environment: dict[str, str], tmp_path: pathlib.Path) -> None:
     (tmp_path / "loop").symlink_to("loop")
     (tmp_path / "kept").symlink_to("loop/kept")
-    calls = [
+    calls: list[list[object]] = [
         MANY,
         [*LAW, "-o", "loop"],
         [*LAW, "-o", "loop/law.txt"],
@@ -234,7 +245,9 @@ def test_no_loop_of_links_is_a_fault_of_the_tool(environment, tmp_path):
         assert re.fullmatch(r"psi-\w+: [^\n]*\n", error) and "fault of the tool" not in error, error
 
 
-def test_another_user_can_not_be_made_to_lose_a_file(environment, program, tmp_path):
+def test_another_user_can_not_be_made_to_lose_a_file(
+    environment: dict[str, str], program: str, tmp_path: pathlib.Path
+) -> None:
     """As somebody else, in a folder with the sticky bit, as /tmp is."""
     if os.geteuid() != 0:
         pytest.skip("to be somebody else wants root")
@@ -249,7 +262,7 @@ def test_another_user_can_not_be_made_to_lose_a_file(environment, program, tmp_p
             break
     (tmp_path / "mine").write_text("mine\n")
 
-    def plant():
+    def plant() -> None:
         os.setgroups([])
         os.setgid(nobody.pw_gid)
         os.setuid(nobody.pw_uid)
@@ -263,7 +276,9 @@ def test_another_user_can_not_be_made_to_lose_a_file(environment, program, tmp_p
 # Programs.
 
 
-def test_psi_merge_is_looked_for_beside_psi_alone(environment, program, tmp_path):
+def test_psi_merge_is_looked_for_beside_psi_alone(
+    environment: dict[str, str], program: str, tmp_path: pathlib.Path
+) -> None:
     (tmp_path / "out").mkdir()
     (tmp_path / "psi_merge/out").mkdir(parents=True)
     (tmp_path / "psi/out").mkdir(parents=True)
@@ -283,7 +298,7 @@ def test_psi_merge_is_looked_for_beside_psi_alone(environment, program, tmp_path
 # Processes.
 
 
-def slow_psi(room, program):
+def slow_psi(room: pathlib.Path, program: str) -> pathlib.Path:
     """A program in place of psi that takes a long time to report, and one beside it in place of psi_states that
     takes as long; each says which process it is."""
     slow = f"echo $$ >>{room}/pids\nexec sleep 100\n"
@@ -294,7 +309,7 @@ def slow_psi(room, program):
     return room / "slow"
 
 
-def is_running(number):
+def is_running(number: int | str) -> bool:
     try:
         stat = pathlib.Path(f"/proc/{number}/stat").read_text()
     except OSError:
@@ -302,7 +317,7 @@ def is_running(number):
     return stat.rpartition(")")[2].split()[0] != "Z"
 
 
-def wait_for(condition, seconds=30):
+def wait_for(condition: Callable[[], bool], seconds: float = 30) -> bool:
     until = time.monotonic() + seconds
     while not condition() and time.monotonic() < until:
         time.sleep(0.05)
@@ -311,7 +326,9 @@ def wait_for(condition, seconds=30):
 
 @pytest.mark.parametrize("number", [signal.SIGINT, signal.SIGTERM, signal.SIGHUP, signal.SIGKILL])
 @pytest.mark.parametrize("name", ["psi-law", "psi-sweep", "psi-why"])
-def test_what_a_tool_has_started_ends_with_it(environment, program, tmp_path, number, name):
+def test_what_a_tool_has_started_ends_with_it(
+    environment: dict[str, str], program: str, tmp_path: pathlib.Path, number: signal.Signals, name: str
+) -> None:
     more = {
         "psi-law": [NET, "desk"],
         "psi-sweep": [NET, "desk.capacity=2,3", "--anyway"],
@@ -334,15 +351,17 @@ def test_what_a_tool_has_started_ends_with_it(environment, program, tmp_path, nu
 
 
 @pytest.mark.parametrize("name", ["many", "plot", "means", "law", "sweep", "where", "why", "new"])
-def test_no_traceback_while_a_tool_is_read(environment, tmp_path, name):
+def test_no_traceback_while_a_tool_is_read(environment: dict[str, str], tmp_path: pathlib.Path, name: str) -> None:
     """The signal comes while a module of the package is read: one that waits stands for it."""
     package = tmp_path / "python"
     shutil.copytree(TOP / "python/psi_tools", package / "psi_tools", ignore=shutil.ignore_patterns("__pycache__"))
     for file in (f"psi-{name}", "packaged.py"):
         (tmp_path / "tools").mkdir(exist_ok=True)
         shutil.copy(TOP / "tools" / file, tmp_path / "tools" / file)
-    told = package / "psi_tools/errors.py"
-    told.write_text(f"open({str(tmp_path / 'begun')!r}, 'w').close()\nimport time\ntime.sleep(60)\n" + told.read_text())
+    module = package / "psi_tools/errors.py"
+    module.write_text(
+        f"open({str(tmp_path / 'begun')!r}, 'w').close()\nimport time\ntime.sleep(60)\n" + module.read_text()
+    )
     tool = subprocess.Popen(
         [tmp_path / f"tools/psi-{name}", "--help"],
         cwd=tmp_path,
@@ -357,8 +376,8 @@ def test_no_traceback_while_a_tool_is_read(environment, tmp_path, name):
     assert (tool.returncode, out, error) == (130, "", f"psi-{name}: stopped\n")
 
 
-def test_few_files_may_be_open(environment, tmp_path):
-    def limit():
+def test_few_files_may_be_open(environment: dict[str, str], tmp_path: pathlib.Path) -> None:
+    def limit() -> None:
         resource.setrlimit(resource.RLIMIT_NOFILE, (20, 20))
 
     for words in (
@@ -388,9 +407,10 @@ HOSTS = {
 
 
 @pytest.mark.parametrize("name", HOSTS)
-def test_hosts_that_are_no_hosts(environment, tmp_path, name):
+def test_hosts_that_are_no_hosts(environment: dict[str, str], tmp_path: pathlib.Path, name: str) -> None:
     hosts = tmp_path / "hosts"
-    hosts.mkdir() if HOSTS[name] is None else hosts.write_bytes(HOSTS[name])
+    text = HOSTS[name]
+    hosts.mkdir() if text is None else hosts.write_bytes(text)
     status, out, error = run(environment, tmp_path, [*MANY, "--hosts", "hosts"])
     assert (status, out) == (2, ""), error
     assert re.fullmatch(r"psi-many: [^\n]*hosts[^\n]*\n", error), error

@@ -2,74 +2,57 @@
 
 import collections
 import json
+import pathlib
 import shutil
+import types
+from collections.abc import Callable, Iterable
 
 import numpy
 import pandas
 import pytest
+from conftest import Tool
 from scipy.stats import binom
 from solving import law_of
 
 import psi as module
 from psi_tools.model.conditions import FORM
+from psi_tools.model.networks import Network
 
-NET = """version = 2
-[[queue]]
-name = "near"
-capacity = 3
-servers = 2
-[[queue]]
-name = "far"
-capacity = 70
-[[event]]
-name = "come"
-kind = "arrival"
-rate = 9
-to = ["near", "far"]
-[[event]]
-name = "near-done"
-kind = "service"
-rate = 2
-from = "near"
-[[event]]
-name = "far-done"
-kind = "service"
-rate = 8
-from = "far"
-[[reward]]
-name = "cost"
-kind = "table"
-queues = ["near"]
-table = [[5, 0, 0, 7]]
-[[reward]]
-name = "longest"
-kind = "greatest"
-queues = ["near", "far"]
-"""
+NET = (
+    Network(version=2)
+    .queue("near", 3, 2)
+    .queue("far", 70)
+    .event("come", "arrival", 9, to=["near", "far"])
+    .event("near-done", "service", 2, source="near")
+    .event("far-done", "service", 8, source="far")
+    .reward("cost", "table", ["near"], table=[[5, 0, 0, 7]])
+    .reward("longest", "greatest", ["near", "far"])
+    .toml()
+)
 
 
 @pytest.fixture
-def net(tmp_path):
+def net(tmp_path: pathlib.Path) -> str:
     (tmp_path / "net.toml").write_text(NET)
     return "net.toml"
 
 
-def test_the_law_is_that_of_the_states(psi, tmp_path, net):
-    net = psi.Network.read(tmp_path / net)
-    states = psi.samples(net, seed=3, first=10, count=300)
-    for place, name in enumerate(net.queues):
+def test_the_law_is_that_of_the_states(psi: types.SimpleNamespace, tmp_path: pathlib.Path, net: str) -> None:
+    network = psi.Network.read(tmp_path / net)
+    states = psi.samples(network, seed=3, first=10, count=300)
+    for place, name in enumerate(network.queues):
         counts = collections.Counter(states[:, place].tolist())
-        assert dict(psi.law(net, name, 3, 10, 300)["count"]) == dict(sorted(counts.items()))
+        assert dict(psi.law(network, name, 3, 10, 300)["count"]) == dict(sorted(counts.items()))
     longest = collections.Counter(states.max(axis=1).tolist())
-    assert dict(psi.law(net, "longest", 3, 10, 300)["count"]) == dict(sorted(longest.items()))
+    assert dict(psi.law(network, "longest", 3, 10, 300)["count"]) == dict(sorted(longest.items()))
     cost = collections.Counter([5, 0, 0, 7][near] for near in states[:, 0].tolist())
-    assert dict(psi.law(net, "cost", 3, 10, 300)["count"]) == dict(sorted(cost.items()))
+    assert dict(psi.law(network, "cost", 3, 10, 300)["count"]) == dict(sorted(cost.items()))
 
 
-def test_the_solved_law_is_in_most_intervals(psi, tmp_path, net):
-    net = psi.Network.read(tmp_path / net)
-    states, law = law_of(net)
-    found = psi.law(net, "near", count=20_000)
+def test_the_solved_law_is_in_most_intervals(psi: types.SimpleNamespace, tmp_path: pathlib.Path, net: str) -> None:
+    network = psi.Network.read(tmp_path / net)
+    states, law = law_of(network)
+    found = psi.law(network, "near", count=20_000)
     for number in range(4):
         wanted = sum(p for x, p in zip(states, law) if x[0] == number)
         # Wider than 95 %, so that the test says no by a fault alone.
@@ -78,7 +61,7 @@ def test_the_solved_law_is_in_most_intervals(psi, tmp_path, net):
         assert row["low"] - width < wanted < row["high"] + width
 
 
-def test_forms_and_pictures(tool, tmp_path, net):
+def test_forms_and_pictures(tool: Tool, tmp_path: pathlib.Path, net: str) -> None:
     words = (net, "far", "--count", "500")
     status, out, error = tool("psi-law", *words, "--picture", "law.svg")
     assert (status, error) == (0, "")
@@ -88,46 +71,32 @@ def test_forms_and_pictures(tool, tmp_path, net):
     assert (status, out) == (0, "")
     lines = (tmp_path / "law.csv").read_text().splitlines()
     assert sum(int(line.split(",")[1]) for line in lines[1:]) == 500
-    told = json.loads(tool("psi-law", *words, "--format", "json")[1])
-    assert sum(each["count"] for each in told["values"]) == told["samples"] == 500
+    reported = json.loads(tool("psi-law", *words, "--format", "json")[1])
+    assert sum(each["count"] for each in reported["values"]) == reported["samples"] == 500
 
 
-def test_streams_that_are_not_coupled_are_told_first(tool, tmp_path, net):
+def test_streams_that_are_not_coupled_are_told_first(tool: Tool, tmp_path: pathlib.Path, net: str) -> None:
     (tmp_path / net).write_text("limit = 10\n" + NET)
     status, out, _ = tool("psi-law", net, "near", "--count", "200")
     assert status == 0
     assert out.startswith("NOT COUPLED: ")
 
 
-RARE = """version = 1
-[[queue]]
-name = "desk"
-capacity = 4
-[[event]]
-name = "come"
-kind = "arrival"
-rate = 2
-to = ["desk"]
-[[event]]
-name = "serve"
-kind = "service"
-rate = 11
-from = "desk"
-[[reward]]
-name = "full"
-kind = "above"
-queues = ["desk"]
-level = 3
-[[reward]]
-name = "fine"
-kind = "table"
-queues = ["desk"]
-table = [[0, 0, 0, 0, 1000]]
-"""
+RARE = (
+    Network()
+    .queue("desk", 4)
+    .event("come", "arrival", 2, to=["desk"])
+    .event("serve", "service", 11, source="desk")
+    .reward("full", "above", ["desk"], level=3)
+    .reward("fine", "table", ["desk"], table=[[0, 0, 0, 0, 1000]])
+    .toml()
+)
 
 
 @pytest.mark.parametrize("name, unit", [("full", 1), ("fine", 1_000)])
-def test_the_mean_of_a_rare_reward_has_an_interval_though_none_came(tool, tmp_path, name, unit):
+def test_the_mean_of_a_rare_reward_has_an_interval_though_none_came(
+    tool: Tool, tmp_path: pathlib.Path, name: str, unit: int
+) -> None:
     (tmp_path / "rare.toml").write_text(RARE)
     law = [(2 / 11) ** n for n in range(5)]
     wanted = unit * law[4] / sum(law)
@@ -139,7 +108,7 @@ def test_the_mean_of_a_rare_reward_has_an_interval_though_none_came(tool, tmp_pa
     assert "±" not in line and line.endswith(f" to {mean['high']:.{4 if unit == 1 else 1}f}")
 
 
-def test_streams_that_are_not_coupled_widen_the_mean(tool, tmp_path, net):
+def test_streams_that_are_not_coupled_widen_the_mean(tool: Tool, tmp_path: pathlib.Path, net: str) -> None:
     (tmp_path / net).write_text("limit = 10\n" + NET)
     for name, least, greatest in (("near", 0, 3), ("cost", 0, 7), ("longest", 0, 70)):
         call = ("psi-law", net, name, "--count", "200", "--format", "json")
@@ -151,12 +120,12 @@ def test_streams_that_are_not_coupled_widen_the_mean(tool, tmp_path, net):
         assert found["mean"]["high"] >= (total + lost * greatest) / 200
 
 
-def joined(rows):
+def joined(rows: Iterable[Iterable[int]]) -> dict[tuple[int, ...], int]:
     """How many rows have which values, ascending."""
-    return dict(sorted(collections.Counter(map(tuple, rows)).items()))
+    return dict(sorted(collections.Counter(tuple(row) for row in rows).items()))
 
 
-def test_a_joint_law_is_that_of_the_states(psi, tmp_path, net):
+def test_a_joint_law_is_that_of_the_states(psi: types.SimpleNamespace, tmp_path: pathlib.Path, net: str) -> None:
     net = psi.Network.read(tmp_path / net)
     states = psi.samples(net, seed=3, first=10, count=300).astype(int)
     near, far = states.T
@@ -179,7 +148,9 @@ def test_a_joint_law_is_that_of_the_states(psi, tmp_path, net):
         assert (row["low"], row["high"]) == (alone["low"], alone["high"])
 
 
-def test_a_condition_is_counted_over_the_states(psi, tool, tmp_path, net):
+def test_a_condition_is_counted_over_the_states(
+    psi: types.SimpleNamespace, tool: Tool, tmp_path: pathlib.Path, net: str
+) -> None:
     network = psi.Network.read(tmp_path / net)
     states = psi.samples(network, seed=3, first=10, count=300).astype(int)
     near, far = states.T
@@ -201,8 +172,8 @@ def test_a_condition_is_counted_over_the_states(psi, tool, tmp_path, net):
             assert binom.cdf(count, 300, found.high) == pytest.approx(0.025)
         assert (found.low > 0, found.high < 1) == (count > 0, count < 300)
         streams = ("--seed", 3, "--first", 10, "--count", 300)
-        told = json.loads(tool("psi-law", net, "--where", where, *streams, "--format", "json")[1])
-        assert told == {
+        reported = json.loads(tool("psi-law", net, "--where", where, *streams, "--format", "json")[1])
+        assert reported == {
             **{"where": where, "samples": 300, "unknown": 0, "notes": []},
             **{"count": count, "probability": count / 300, "low": found.low, "high": found.high},
         }
@@ -210,7 +181,9 @@ def test_a_condition_is_counted_over_the_states(psi, tool, tmp_path, net):
     assert wide.low < found.low
 
 
-def test_several_names_and_conditions_as_texts(psi, tool, tmp_path, net):
+def test_several_names_and_conditions_as_texts(
+    psi: types.SimpleNamespace, tool: Tool, tmp_path: pathlib.Path, net: str
+) -> None:
     status, out, error = tool("psi-law", net, "near", "cost", "--count", 200)
     assert (status, error) == (0, "")
     head, columns, *rows = out.splitlines()
@@ -224,9 +197,9 @@ def test_several_names_and_conditions_as_texts(psi, tool, tmp_path, net):
     lines = [line.split(",") for line in out.splitlines()]
     assert lines[0] == ["queue.near", "reward.cost", "count", "probability", "low", "high"]
     assert {(int(line[0]), int(line[1])): int(line[2]) for line in lines[1:]} == wanted
-    told = json.loads(tool("psi-law", net, "near", "cost", "--count", 200, "--format", "json")[1])
-    assert (told["names"], told["samples"], told["unknown"]) == (["queue.near", "reward.cost"], 200, 0)
-    assert {(each["queue.near"], each["reward.cost"]): each["count"] for each in told["values"]} == wanted
+    reported = json.loads(tool("psi-law", net, "near", "cost", "--count", 200, "--format", "json")[1])
+    assert (reported["names"], reported["samples"], reported["unknown"]) == (["queue.near", "reward.cost"], 200, 0)
+    assert {(each["queue.near"], each["reward.cost"]): each["count"] for each in reported["values"]} == wanted
     where = "near == 0"
     status, out, _ = tool("psi-law", net, "--where", where, "--count", 200)
     head, columns, row = out.splitlines()
@@ -234,7 +207,9 @@ def test_several_names_and_conditions_as_texts(psi, tool, tmp_path, net):
     assert (columns.split()[0], int(row.split()[0])) == ("samples", near.count(0))
 
 
-def test_streams_that_are_not_coupled_widen_probabilities(psi, tool, tmp_path, net):
+def test_streams_that_are_not_coupled_widen_probabilities(
+    psi: types.SimpleNamespace, tool: Tool, tmp_path: pathlib.Path, net: str
+) -> None:
     (tmp_path / net).write_text("limit = 10\n" + NET)
     network = psi.Network.read(tmp_path / net)
     states = psi.samples(network, count=200, keep=True)
@@ -256,9 +231,11 @@ def test_streams_that_are_not_coupled_widen_probabilities(psi, tool, tmp_path, n
         assert (status, error.startswith(f"psi-law: NOT COUPLED: {lost} of 200 streams; ")) == (0, True)
 
 
-def test_words_that_do_not_fit_together(psi, tool, tmp_path, net):
+def test_words_that_do_not_fit_together(
+    psi: types.SimpleNamespace, tool: Tool, tmp_path: pathlib.Path, net: str
+) -> None:
     for words, message in (
-        ((), "a queue or a reward is wanted, or --where with a condition"),
+        ((), "a queue or a reward is expected, or --where with a condition"),
         (("near", "--where", "near == 0"), "--where goes without a queue or a reward"),
         (("near", "far", "near"), "near is given twice"),
         (("near", "queue.near"), "near is given twice"),
@@ -282,12 +259,14 @@ def test_words_that_do_not_fit_together(psi, tool, tmp_path, net):
             psi.probability(network, "near == 0", count=5)
 
 
-def test_laws_without_psi_states(program, tmp_path, net, monkeypatch):
+def test_laws_without_psi_states(
+    program: str, tmp_path: pathlib.Path, net: str, monkeypatch: pytest.MonkeyPatch
+) -> None:
     """Where psi_states is not built, distributions are the same, by the states that psi prints."""
     alone = tmp_path / "psi"
     shutil.copy(program, alone)
     network = module.Network.read(tmp_path / net)
-    draws = [
+    draws: list[Callable[[module.Program], pandas.DataFrame]] = [
         lambda one: module.law(network, "longest", count=40, program=one),
         lambda one: module.law(network, ["cost", "far"], count=40, program=one),
     ]
@@ -299,7 +278,7 @@ def test_laws_without_psi_states(program, tmp_path, net, monkeypatch):
         pandas.testing.assert_frame_equal(draw(lone), one)
 
 
-def test_the_cumulative_line_reaches_its_last_point(tool, tmp_path, net):
+def test_the_cumulative_line_reaches_its_last_point(tool: Tool, tmp_path: pathlib.Path, net: str) -> None:
     from psi_tools.stats.intervals import Span
     from psi_tools.stats.law import Law
     from psi_tools.plot.draw_law import draw_law
@@ -313,7 +292,7 @@ def test_the_cumulative_line_reaches_its_last_point(tool, tmp_path, net):
         assert ys[list(xs).index(counts[-1][0])] == 1
 
 
-def test_names_that_are_not_there(tool, net):
+def test_names_that_are_not_there(tool: Tool, net: str) -> None:
     status, out, error = tool("psi-law", net, "middle")
     assert (status, out) == (2, "")
     assert error == "psi-law: the network has no queue and no reward middle\n"

@@ -1,42 +1,30 @@
 """psi-many --states: tables of samples in blocks, which are checked, kept, and drawn on from where they stopped."""
 
 import os
+import pathlib
 import resource
 import shutil
 import signal
 import subprocess
 import time
+from collections.abc import Sequence
+from typing import Any
 
 import pytest
-from conftest import SECONDS, TOP
+from conftest import SECONDS, TOP, Tool, lines_of
 
-from psi_tools.draw.program import companion_of
 from psi_tools.io.samples import is_table, uncoupled_in
 
 NET, SHORT, RING = (TOP / "examples" / f"{name}.toml" for name in ("overflow", "short-past", "central-server"))
-CALL = ["psi-many", NET, "5", "7", "400", "--block", "50", "--states"]
+CALL = ["psi-many", str(NET), "5", "7", "400", "--block", "50", "--states"]
 
 
-@pytest.fixture
-def states(program):
-    """psi_states, which stands beside psi."""
-    found = companion_of(program, "psi_states")
-    if found is None:
-        pytest.skip("psi_states isn't built")
-    return found
-
-
-def table(states, *words):
+def table(states_program: str, *words: object) -> str:
     """What one process prints."""
-    return subprocess.run([states, *map(str, words)], capture_output=True, text=True).stdout
+    return subprocess.run([states_program, *map(str, words)], capture_output=True, text=True).stdout
 
 
-def lines_of(error):
-    """What is printed beside the progress."""
-    return [line for line in error.splitlines() if "so far" not in line]
-
-
-def beside(folder, program, lines):
+def beside(folder: pathlib.Path, program: str, lines: Sequence[str]) -> pathlib.Path:
     """A folder with psi, and a script in place of psi_states."""
     (folder / "own" / "kept").mkdir(parents=True)
     shutil.copy(program, folder / "own" / "psi")
@@ -46,22 +34,22 @@ def beside(folder, program, lines):
     return folder / "own" / "psi"
 
 
-def test_a_table_is_that_of_one_process(tool, states, tmp_path):
-    wanted = table(states, NET, 5, 7, 400)
+def test_a_table_is_that_of_one_process(tool: Tool, states_program: str, tmp_path: pathlib.Path) -> None:
+    wanted = table(states_program, NET, 5, 7, 400)
     assert tool(*CALL)[:2] == (0, wanted)
     assert (tmp_path / "overflow.toml.5.7.400.states.many").is_dir()
     status, out, error = tool(*CALL, "-o", "table.csv", "--folder", "own", "--jobs", 3)
     assert (status, out, lines_of(error)) == (0, "", [])
     assert (tmp_path / "table.csv").read_text() == wanted
     last = 2**64 - 41
-    assert tool("psi-many", NET, 0, last, 41, "--states")[1] == table(states, NET, 0, last, 41)
-    wanted = table(states, RING, 2, 4, 90, "closed", 6)
+    assert tool("psi-many", NET, 0, last, 41, "--states")[1] == table(states_program, NET, 0, last, 41)
+    wanted = table(states_program, RING, 2, 4, 90, "closed", 6)
     assert tool("psi-many", RING, 2, 4, 90, "--closed", 6, "--states", "--block", 20)[:2] == (0, wanted)
     assert (tmp_path / "central-server.toml.2.4.90.6.states.many").is_dir()
 
 
-def test_streams_that_are_not_coupled_have_their_rows(tool, states):
-    wanted = table(states, SHORT, 0, 0, 100)
+def test_streams_that_are_not_coupled_have_their_rows(tool: Tool, states_program: str) -> None:
+    wanted = table(states_program, SHORT, 0, 0, 100)
     lost = sum(line.endswith(",,,") for line in wanted.splitlines())
     status, out, error = tool("psi-many", SHORT, 0, 0, 100, "--states", "--block", 30)
     assert (status, out) == (0, wanted)
@@ -70,9 +58,11 @@ def test_streams_that_are_not_coupled_have_their_rows(tool, states):
     ]
 
 
-def test_a_call_goes_on_where_it_was_ended(tool, states, program, environment, tmp_path):
+def test_a_call_goes_on_where_it_was_ended(
+    tool: Tool, states_program: str, program: str, environment: dict[str, str], tmp_path: pathlib.Path
+) -> None:
     """A call that is ended keeps the blocks that were whole; the same call draws the others alone."""
-    slow = beside(tmp_path, program, ['echo "$3" >>"$KEPT/drawn"', "sleep 0.3", f'exec {states} "$@"'])
+    slow = beside(tmp_path, program, ['echo "$3" >>"$KEPT/drawn"', "sleep 0.3", f'exec {states_program} "$@"'])
     call = [*CALL, "--folder", "kept", "--psi", slow]
     words = [str(TOP / "tools" / CALL[0]), *map(str, call[1:]), "--jobs", "1"]
     run = subprocess.Popen(words, cwd=tmp_path, env=environment, stdout=subprocess.PIPE, stderr=subprocess.PIPE)
@@ -85,7 +75,7 @@ def test_a_call_goes_on_where_it_was_ended(tool, states, program, environment, t
     kept = {file.name: file.stat().st_ino for file in (tmp_path / "kept/blocks").glob("0*.csv")}
     assert 3 <= len(kept) < 8
     (tmp_path / "own/kept/drawn").write_text("")
-    assert tool(*call)[:2] == (0, table(states, NET, 5, 7, 400))
+    assert tool(*call)[:2] == (0, table(states_program, NET, 5, 7, 400))
     assert len((tmp_path / "own/kept/drawn").read_text().split()) == 8 - len(kept)
     assert all((tmp_path / "kept/blocks" / name).stat().st_ino == number for name, number in kept.items())
 
@@ -97,17 +87,22 @@ def test_a_call_goes_on_where_it_was_ended(tool, states, program, environment, t
         *("sed '2s/,[0-9]*,/,x,/'", "sed '2s/,[0-9]*,/,,/'", "sed '2s/$/,1/'", "tac", "cat; exit 7", "true"),
     ],
 )
-def test_a_block_that_is_no_table_does_not_count(tool, states, program, tmp_path, change):
+def test_a_block_that_is_no_table_does_not_count(
+    tool: Tool, states_program: str, program: str, tmp_path: pathlib.Path, change: str
+) -> None:
     """The first text of each block is another one, so each is drawn again."""
-    lines = [f'mkdir "$KEPT/$3" 2>/dev/null && {{ {states} "$@" | {{ {change}; }}; exit; }}', f'exec {states} "$@"']
+    lines = [
+        f'mkdir "$KEPT/$3" 2>/dev/null && {{ {states_program} "$@" | {{ {change}; }}; exit; }}',
+        f'exec {states_program} "$@"',
+    ]
     other = beside(tmp_path, program, lines)
     status, out, error = tool(*CALL, "--psi", other)
-    assert (status, out) == (0, table(states, NET, 5, 7, 400))
+    assert (status, out) == (0, table(states_program, NET, 5, 7, 400))
     assert "8 blocks" in lines_of(error)[0]
 
 
-def test_a_file_that_was_changed_is_drawn_again(tool, states, tmp_path):
-    wanted = table(states, NET, 5, 7, 400)
+def test_a_file_that_was_changed_is_drawn_again(tool: Tool, states_program: str, tmp_path: pathlib.Path) -> None:
+    wanted = table(states_program, NET, 5, 7, 400)
     assert tool(*CALL, "--folder", "kept")[0] == 0
     first, second, *_ = sorted((tmp_path / "kept/blocks").iterdir())
     first.write_text(first.read_text().replace("\n7,", "\n8,"))
@@ -118,17 +113,17 @@ def test_a_file_that_was_changed_is_drawn_again(tool, states, tmp_path):
     assert lines_of(error) == [f"psi-many: {again}"]
 
 
-def test_streams_are_added(tool, states):
+def test_streams_are_added(tool: Tool, states_program: str) -> None:
     for count in (100, 110, 260):
         words = ("psi-many", NET, 0, 0, count, "--block", 50, "--folder", "kept", "--states")
-        assert tool(*words)[:2] == (0, table(states, NET, 0, 0, count))
+        assert tool(*words)[:2] == (0, table(states_program, NET, 0, 0, count))
 
 
-def test_what_does_not_fit_is_refused(tool, states, program, tmp_path):
+def test_what_does_not_fit_is_refused(tool: Tool, states_program: str, program: str, tmp_path: pathlib.Path) -> None:
     assert tool(*CALL, "--folder", "samples")[0] == 0
     assert tool(*CALL[:-1], "--folder", "report")[0] == 0
-    for folder, words, told, asked in (("samples", CALL[:-1], 1, None), ("report", CALL, None, 1)):
-        message = f"the blocks in {tmp_path}/{folder} are of another call: states {told}, not {asked}"
+    for folder, words, reported, asked in (("samples", CALL[:-1], 1, None), ("report", CALL, None, 1)):
+        message = f"the blocks in {tmp_path}/{folder} are of another call: states {reported}, not {asked}"
         assert tool(*words, "--folder", folder) == (2, "", f"psi-many: {message}\n")
     status, out, error = tool("psi-means", "samples")
     assert (status, out) == (2, "") and "is a folder of samples" in error
@@ -139,9 +134,17 @@ def test_what_does_not_fit_is_refused(tool, states, program, tmp_path):
     assert (status, out, error) == (11, "", "psi-many: not closed event 0\n")
 
 
-def test_files_and_streams_that_cannot_be_written(environment, states, tmp_path):
+def test_files_and_streams_that_cannot_be_written(
+    environment: dict[str, str], states_program: str, tmp_path: pathlib.Path
+) -> None:
     words = [str(TOP / "tools" / CALL[0]), *map(str, CALL[1:]), "--folder", "kept"]
-    pipes = {"cwd": tmp_path, "env": environment, "stderr": subprocess.PIPE, "text": True, "timeout": SECONDS}
+    pipes: dict[str, Any] = {
+        "cwd": tmp_path,
+        "env": environment,
+        "stderr": subprocess.PIPE,
+        "text": True,
+        "timeout": SECONDS,
+    }
     with open("/dev/full", "wb") as full:
         done = subprocess.run(words, stdout=full, **pipes)
     assert done.returncode == 7
@@ -149,7 +152,7 @@ def test_files_and_streams_that_cannot_be_written(environment, states, tmp_path)
     (tmp_path / "table.csv").write_text("as it was")
     most = os.stat(next((tmp_path / "kept/blocks").iterdir())).st_size + 20
 
-    def limit():
+    def limit() -> None:
         resource.setrlimit(resource.RLIMIT_FSIZE, (most, most))
 
     done = subprocess.run([*words, "-o", "table.csv"], stdout=subprocess.PIPE, preexec_fn=limit, **pipes)
@@ -159,7 +162,7 @@ def test_files_and_streams_that_cannot_be_written(environment, states, tmp_path)
     assert not [*tmp_path.glob(".table*")]
 
 
-def test_what_is_a_table():
+def test_what_is_a_table() -> None:
     header = ["stream", "horizon", "queue.a", "reward.b"]
     head = b"stream,horizon,queue.a,reward.b\n"
     assert is_table(header, head + b"7,64,2,-10\n8,,,\n", 7, 2)

@@ -1,21 +1,22 @@
 """psi-means: means and intervals of reports, and what is refused."""
 
 import json
+import pathlib
 
 import pytest
-from conftest import TOP
+from conftest import TOP, Tool
 
 NET = TOP / "examples/breakdowns.toml"
 
 
 @pytest.fixture
-def folder(tool):
+def folder(tool: Tool) -> str:
     status, _, error = tool("psi-many", NET, 5, 100, 2_000, "--jobs", 2, "--folder", "kept")
     assert status == 0, error
     return "kept"
 
 
-def test_a_folder_of_psi_many(tool, tmp_path, folder):
+def test_a_folder_of_psi_many(tool: Tool, tmp_path: pathlib.Path, folder: str) -> None:
     blocks = sorted((tmp_path / folder / "blocks").iterdir())
     assert len(blocks) >= 20
     by_folder = tool("psi-means", folder, "--format", "csv")
@@ -35,15 +36,15 @@ def test_a_folder_of_psi_many(tool, tmp_path, folder):
             assert float(low) == pytest.approx(float(mean) - float(half), abs=float(half) / 20)
 
 
-def test_text_and_json(tool, folder):
+def test_text_and_json(tool: Tool, folder: str) -> None:
     status, out, error = tool("psi-means", folder)
     assert (status, error) == (0, "")
     assert out.startswith("2,000 samples in ")
-    told = json.loads(tool("psi-means", folder, "--format", "json")[1])
-    assert [row["name"] for row in told["rows"] if row["item"] == "mean"] == ["jobs", "broken"]
+    reported = json.loads(tool("psi-means", folder, "--format", "json")[1])
+    assert [row["name"] for row in reported["rows"] if row["item"] == "mean"] == ["jobs", "broken"]
 
 
-def test_a_report_that_is_given_twice_is_refused(tool, tmp_path, folder):
+def test_a_report_that_is_given_twice_is_refused(tool: Tool, tmp_path: pathlib.Path, folder: str) -> None:
     blocks = sorted((tmp_path / folder / "blocks").iterdir())
     status, out, error = tool("psi-means", *[blocks[0]] * 20)
     assert (status, out) == (2, "") and "is the same file as" in error
@@ -58,7 +59,7 @@ def test_a_report_that_is_given_twice_is_refused(tool, tmp_path, folder):
     assert error == "psi-means: all reports are the same text: each is to be one of other streams\n"
 
 
-def test_a_network_tells_what_is_not_coupled(tool, tmp_path):
+def test_a_network_tells_what_is_not_coupled(tool: Tool, tmp_path: pathlib.Path) -> None:
     net = TOP / "examples/short-past.toml"
     tool("psi-many", net, 0, 0, 1_000, "--folder", "short")
     blocks = sorted((tmp_path / "short/blocks").iterdir())
@@ -74,7 +75,7 @@ def test_a_network_tells_what_is_not_coupled(tool, tmp_path):
     assert (status, out) == (2, "") and "aren't of this network" in error
 
 
-def test_a_wider_level_is_wider(tool, folder):
+def test_a_wider_level_is_wider(tool: Tool, folder: str) -> None:
     rows = [
         json.loads(tool("psi-means", folder, "--format", "json", "--level", level)[1])["rows"] for level in (90, 99)
     ]
@@ -82,14 +83,14 @@ def test_a_wider_level_is_wider(tool, folder):
         assert narrow["half"] <= wide["half"]
 
 
-def test_too_few_batches(tool, tmp_path, folder):
+def test_too_few_batches(tool: Tool, tmp_path: pathlib.Path, folder: str) -> None:
     blocks = sorted((tmp_path / folder / "blocks").iterdir())
     status, out, error = tool("psi-means", *blocks[:19])
     assert (status, out) == (2, "")
     assert error.startswith("psi-means: there are 19 batches, and 20 are wanted")
 
 
-def test_blocks_that_are_changed_or_of_another_network(tool, tmp_path, folder):
+def test_blocks_that_are_changed_or_of_another_network(tool: Tool, tmp_path: pathlib.Path, folder: str) -> None:
     blocks = sorted((tmp_path / folder / "blocks").iterdir())
     other = tmp_path / "other.csv"
     other.write_text(blocks[0].read_text().replace("jobs", "jabs"))
@@ -103,20 +104,21 @@ def test_blocks_that_are_changed_or_of_another_network(tool, tmp_path, folder):
     assert (status, out.split(":")[0]) == (0, "NOT WHOLE") or status == 2
 
 
-def test_what_is_not_coupled_comes_first(tool, tmp_path):
+def test_what_is_not_coupled_comes_first(tool: Tool, tmp_path: pathlib.Path) -> None:
     tool("psi-many", TOP / "examples/short-past.toml", 0, 0, 1_000, "--folder", "short")
     status, out, _ = tool("psi-means", "short")
     assert status == 0
     assert out.startswith("NOT COUPLED: 585 of 1,000 streams; ")
 
 
-def test_a_picture_with_intervals(tool, tmp_path, folder):
+def test_a_picture_with_intervals(tool: Tool, tmp_path: pathlib.Path, folder: str) -> None:
     status, _, error = tool("psi-plot", "report", folder, "-o", "means.svg")
     assert (status, error) == (0, "")
     assert 'id="interval-0-jobs"' in (tmp_path / "means.svg").read_text()
 
 
-def test_reports_that_a_spreadsheet_has_saved(tool, tmp_path, folder):
+@pytest.mark.slow
+def test_reports_that_a_spreadsheet_has_saved(tool: Tool, tmp_path: pathlib.Path, folder: str) -> None:
     blocks = sorted((tmp_path / folder / "blocks").iterdir())
     saved = [tmp_path / f"{place}.csv" for place in range(len(blocks))]
     for block, path in zip(blocks, saved):
@@ -125,8 +127,8 @@ def test_reports_that_a_spreadsheet_has_saved(tool, tmp_path, folder):
     pictures = [tmp_path / name for name in ("saved.png", "own.png")]
     (tmp_path / "own").mkdir()
     (tmp_path / "own/0.csv").write_bytes(blocks[0].read_bytes())
-    for path, picture in zip(("0.csv", "own/0.csv"), pictures):
-        assert tool("psi-plot", "report", path, "-o", picture)[0] == 0
+    for report, picture in zip(("0.csv", "own/0.csv"), pictures):
+        assert tool("psi-plot", "report", report, "-o", picture)[0] == 0
     assert pictures[0].read_bytes() == pictures[1].read_bytes()
     assert tool("merge_reports.py", *saved[:2]) == (3, "", f"merge_reports: refused 1 Row line 2 {saved[0]}\n")
     saved[0].write_bytes(blocks[0].read_bytes().replace(b"\n", b"\r\n", 3))

@@ -1,7 +1,9 @@
 """The module psi: what it gives is what the program prints."""
 
+import pathlib
 import subprocess
 import tomllib
+import types
 import warnings
 
 import pytest
@@ -10,44 +12,46 @@ from conftest import TOP
 EXAMPLES = TOP / "examples"
 
 
-def said(program, *words):
+def printed_by(program: str, *words: object) -> str:
     return subprocess.run([program, *map(str, words)], capture_output=True, text=True).stdout
 
 
-def test_the_version_is_that_of_the_citation(psi):
+def test_the_version_is_that_of_the_citation(psi: types.SimpleNamespace) -> None:
     citation = (TOP / "CITATION.cff").read_text()
     assert f'\nversion: "{psi.__version__}"\n' in citation
     project = tomllib.loads((TOP / "python/pyproject.toml").read_text())
     assert project["tool"]["setuptools"]["dynamic"]["version"]["attr"] == "psi_tools.__version__"
 
 
-def test_a_report_is_the_programs(psi, program):
+def test_a_report_is_the_programs(psi: types.SimpleNamespace, program: str) -> None:
     for name in ("tandem-blocking", "breakdowns"):
         file = EXAMPLES / f"{name}.toml"
         table = psi.report(file, 3, 5, 200)
         lines = [f"{item},{name},{value}" for item, name, value in table.itertuples(index=False)]
         text = "\n".join(["item,name,value", *lines, ""])
-        assert text == said(program, "report", file, 3, 5, 200)
+        assert text == printed_by(program, "report", file, 3, 5, 200)
 
 
-def test_a_network_built_in_python_is_that_of_its_file(psi, program, tmp_path):
+def test_a_network_built_in_python_is_that_of_its_file(
+    psi: types.SimpleNamespace, program: str, tmp_path: pathlib.Path
+) -> None:
     net = psi.Network(limit=12).queue("desk", 10)
     net.event("come", "arrival", 4, to=["desk"]).event("serve", "service", 5, source="desk")
     net.write(tmp_path / "net.toml")
-    assert psi.check(net) == said(program, "check", tmp_path / "net.toml")
+    assert psi.check(net) == printed_by(program, "check", tmp_path / "net.toml")
     assert "limit 12" in psi.check(net)
 
 
-def test_samples_are_the_programs(psi, program):
+def test_samples_are_the_programs(psi: types.SimpleNamespace, program: str) -> None:
     file = EXAMPLES / "tandem-blocking.toml"
     states = psi.samples(file, 1, 7, 20)
     assert states.shape == (20, 3)
     for stream, state in enumerate(states.tolist(), 7):
         wanted = f"state {','.join(map(str, state))}\n"
-        assert said(program, "sample", file, 1, stream).endswith(wanted)
+        assert printed_by(program, "sample", file, 1, stream).endswith(wanted)
 
 
-def test_streams_that_are_not_coupled(psi):
+def test_streams_that_are_not_coupled(psi: types.SimpleNamespace) -> None:
     file = EXAMPLES / "short-past.toml"
     with pytest.raises(psi.NotCoupled):
         psi.samples(file, 0, 0, 100)
@@ -60,10 +64,10 @@ def test_streams_that_are_not_coupled(psi):
         psi.report(EXAMPLES / "first.toml", 0, 0, 100)
 
 
-def test_a_log_certifies_its_state(psi, program):
+def test_a_log_certifies_its_state(psi: types.SimpleNamespace, program: str) -> None:
     file = EXAMPLES / "tandem-blocking.toml"
     log = psi.log(file, 0, 0)
-    assert log == said(program, "sample", file, 0, 0, "log")
+    assert log == printed_by(program, "sample", file, 0, 0, "log")
     assert psi.replay(file, log) == (64, (3, 2, 1))
     with pytest.raises(psi.Refused) as refused:
         psi.replay(file, log.replace("end 3,2,1", "end 3,2,2"))
@@ -71,7 +75,9 @@ def test_a_log_certifies_its_state(psi, program):
     assert len(psi.draw_log(log, file).axes) == 5
 
 
-def test_a_picture_of_a_log_leaves_the_process_as_it_was(psi, monkeypatch):
+def test_a_picture_of_a_log_leaves_the_process_as_it_was(
+    psi: types.SimpleNamespace, monkeypatch: pytest.MonkeyPatch
+) -> None:
     import logging
 
     import matplotlib
@@ -92,7 +98,7 @@ def test_a_picture_of_a_log_leaves_the_process_as_it_was(psi, monkeypatch):
     assert sizes == {7}
 
 
-def test_no_picture_changes_what_matplotlib_is_set_to():
+def test_no_picture_changes_what_matplotlib_is_set_to() -> None:
     import importlib
     import inspect
 
@@ -105,11 +111,11 @@ def test_no_picture_changes_what_matplotlib_is_set_to():
     for name in names:
         draw = getattr(importlib.import_module(f"psi_tools.plot.draw_{name}"), f"draw_{name}")
         assert inspect.unwrap(draw) is not draw, name
-    style.styled(lambda: style.new_figure(2, "title"))()
+    style.styled(style.new_figure)(2, "title")
     assert dict(matplotlib.rcParams) == before
 
 
-def test_means_of_streams_that_are_not_coupled_are_wider(psi, program):
+def test_means_of_streams_that_are_not_coupled_are_wider(psi: types.SimpleNamespace, program: str) -> None:
     file = EXAMPLES / "short-past.toml"
     with pytest.warns(psi.Uncoupled, match="intervals are wider"):
         found = psi.means(file, count=1_000)
@@ -126,7 +132,7 @@ def test_means_of_streams_that_are_not_coupled_are_wider(psi, program):
             assert row["high"] >= min(capacity[name], (total + lost * capacity[name]) / 1_000)
 
 
-def test_few_samples_that_carry_a_mean_are_warned_of(psi):
+def test_few_samples_that_carry_a_mean_are_warned_of(psi: types.SimpleNamespace) -> None:
     net = psi.Network().queue("desk", 10)
     net.event("come", "arrival", 2, to=["desk"]).event("serve", "service", 5, source="desk")
     net.reward("cost", "table", ["desk"], table=[[4**n for n in range(11)]])
@@ -137,7 +143,7 @@ def test_few_samples_that_carry_a_mean_are_warned_of(psi):
     assert found.loc["reward", "cost"]["low"] < wanted < found.loc["reward", "cost"]["high"]
 
 
-def test_other_commands(psi):
+def test_other_commands(psi: types.SimpleNamespace) -> None:
     assert psi.couple(EXAMPLES / "tandem-blocking.toml", 0, 0) == (39, (3, 2, 1))
     assert psi.reward(EXAMPLES / "shortest-queue.toml", 0, 0, "longest") == (128, 2)
     assert psi.exact(EXAMPLES / "longest-queue.toml", 0, 0, 11).region == 1586
@@ -145,7 +151,7 @@ def test_other_commands(psi):
     assert states.tolist() == [[0, 1, 5], [2, 0, 4]]
 
 
-def test_what_psi_refuses_is_told_by_its_line(psi):
+def test_what_psi_refuses_is_told_by_its_line(psi: types.SimpleNamespace) -> None:
     net = psi.Network().queue("a", 0)
     with pytest.raises(psi.Refused) as refused:
         psi.check(net)

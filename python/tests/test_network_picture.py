@@ -9,11 +9,13 @@ import subprocess
 import sys
 import tomllib
 import xml.etree.ElementTree
+from typing import Any
 
 import pytest
-from conftest import TOP
+from conftest import TOP, Tool, match_in
+from matplotlib.figure import Figure
 
-from psi_tools.model.networks import Network
+from psi_tools.model.networks import Network, Table
 from psi_tools.plot import style
 from psi_tools.plot.draw_network import MOST_SERVERS, draw_network
 from psi_tools.plot.network_folding import folded
@@ -21,17 +23,18 @@ from psi_tools.plot.network_layout import laid_out, size_of
 from psi_tools.plot.network_scene import Arrow, NetworkPicture, Node, scene_of
 
 GALLERY = sorted((TOP / "examples").glob("*.toml"))
+NAMES = [path.stem for path in GALLERY]
 SVG = "{http://www.w3.org/2000/svg}"
 # The graphviz that laid out the pictures in docs/pictures, and the events that servers make.
 GRAPHVIZ = "graphviz version 2.43.0"
 SERVING = "service", "index", "negative", "fork"
 
 
-def names_in(value):
+def names_in(value: str | list[str] | None) -> list[str]:
     return [value] if isinstance(value, str) else value or []
 
 
-def line_of(count):
+def line_of(count: int) -> Network:
     """A line of queues with blocking."""
     net = Network()
     for place in range(count):
@@ -42,19 +45,19 @@ def line_of(count):
     return net.event("leave", "service", 4, f"queue-{count - 1}")
 
 
-def drawn(net, **more):
+def drawn(net: Network, **more: Any) -> tuple[Figure, list[str], xml.etree.ElementTree.Element]:
     """The figure of a network, and the ids of the elements of its SVG."""
     figure = draw_network(NetworkPicture(net, "title", **more))
     root = xml.etree.ElementTree.fromstring(style.saved(figure, "svg"))
     return figure, [each.get("id", "") for each in root.iter(f"{SVG}g")], root
 
 
-def counted(ids, kind):
+def counted(ids: list[str], kind: str) -> int:
     """How many elements have an id of this kind, without what belongs to another."""
     return sum(each.startswith(f"{kind}-") and not each.endswith(("-head", "-blocks")) for each in ids)
 
 
-def expected_arrows(event):
+def expected_arrows(event: Table) -> int:
     """How many arrows an event of a file has, by its kind: those of its customers, and that of the lost."""
     to, sources, kind = names_in(event.get("to")), names_in(event.get("from")), event["kind"]
     stays = event.get("full") == "stay"
@@ -71,8 +74,8 @@ def expected_arrows(event):
     return 1 if kind == "negative" else len(event["part"])
 
 
-@pytest.mark.parametrize("path", GALLERY, ids=lambda path: path.stem)
-def test_the_picture_has_what_the_file_has(path):
+@pytest.mark.parametrize("path", GALLERY, ids=NAMES)
+def test_the_picture_has_what_the_file_has(path: pathlib.Path) -> None:
     """As many queues, servers and arrows as the file has, in every network of the gallery."""
     table = tomllib.loads(path.read_text())
     _, ids, _ = drawn(Network.read(path))
@@ -85,8 +88,8 @@ def test_the_picture_has_what_the_file_has(path):
         assert counted(ids, kind) == sum(event["kind"] in word for event in table["event"])
 
 
-@pytest.mark.parametrize("path", GALLERY, ids=lambda path: path.stem)
-def test_blocking_is_marked_at_the_source(path):
+@pytest.mark.parametrize("path", GALLERY, ids=NAMES)
+def test_blocking_is_marked_at_the_source(path: pathlib.Path) -> None:
     """A service that stays where its target is full has a double bar at its first arrow, and no other has."""
     events = tomllib.loads(path.read_text())["event"]
     stays = sum(event.get("full") == "stay" for event in events if event["kind"] in ("service", "index"))
@@ -96,8 +99,8 @@ def test_blocking_is_marked_at_the_source(path):
     assert sum(each.endswith("-blocks") for each in ids) == 2 * stays
 
 
-@pytest.mark.parametrize("net", [line_of(32), *map(Network.read, GALLERY)], ids=["line", *[it.stem for it in GALLERY]])
-def test_no_text_is_cut_off(net):
+@pytest.mark.parametrize("net", [line_of(32), *map(Network.read, GALLERY)], ids=["line", *NAMES])
+def test_no_text_is_cut_off(net: Network) -> None:
     """Each text is within the picture."""
     figure, _, _ = drawn(net, with_legend=True, with_tables=True)
     figure.canvas.draw()
@@ -108,8 +111,8 @@ def test_no_text_is_cut_off(net):
         assert whole.y0 <= box.y0 and box.y1 <= whole.y1, text.get_text()
 
 
-@pytest.mark.parametrize("net", [line_of(32), *map(Network.read, GALLERY)], ids=["line", *[it.stem for it in GALLERY]])
-def test_texts_can_be_read_on_a_slide(net):
+@pytest.mark.parametrize("net", [line_of(32), *map(Network.read, GALLERY)], ids=["line", *NAMES])
+def test_texts_can_be_read_on_a_slide(net: Network) -> None:
     """On a slide of 13.33 by 7.5 inches no text is smaller than 5.5 points."""
     figure, _, _ = drawn(net, with_legend=True)
     width, height = figure.get_size_inches()
@@ -117,8 +120,8 @@ def test_texts_can_be_read_on_a_slide(net):
     assert min(text.get_fontsize() for text in figure.axes[0].texts) * scale >= 5.5
 
 
-@pytest.mark.parametrize("net", [line_of(32), *map(Network.read, GALLERY)], ids=["line", *[it.stem for it in GALLERY]])
-def test_no_text_covers_another(net):
+@pytest.mark.parametrize("net", [line_of(32), *map(Network.read, GALLERY)], ids=["line", *NAMES])
+def test_no_text_covers_another(net: Network) -> None:
     """Each text stands apart from all others."""
     figure, _, _ = drawn(net, with_legend=True, with_tables=True)
     figure.canvas.draw()
@@ -129,8 +132,8 @@ def test_no_text_covers_another(net):
         assert across <= 1 or up <= 1, (one, two)
 
 
-@pytest.mark.parametrize("path", GALLERY, ids=lambda path: path.stem)
-def test_losses_are_small_arrows(path):
+@pytest.mark.parametrize("path", GALLERY, ids=NAMES)
+def test_losses_are_small_arrows(path: pathlib.Path) -> None:
     """Each arrow of customers who are lost is short: its cross stands beside its source."""
     scene = scene_of(Network.read(path))
     layout = laid_out(scene)
@@ -140,7 +143,7 @@ def test_losses_are_small_arrows(path):
             assert math.hypot(across - tip[0], up - tip[1]) < 0.6
 
 
-def test_a_long_line_is_folded():
+def test_a_long_line_is_folded() -> None:
     """A line of 32 queues takes several rows, none of its nodes covers another, and none is lost."""
     net = line_of(32)
     scene = scene_of(net)
@@ -155,7 +158,7 @@ def test_a_long_line_is_folded():
     assert scene.count(Node.QUEUE) == 32
 
 
-def test_names_are_only_names():
+def test_names_are_only_names() -> None:
     """A name that looks like markup, a formula or a command of the layout stays text."""
     names = "<script>alert(1)</script>", '"]; evil [label="', "$\\frac{1}{0}$", "a\\nb\\", "&amp;"
     net = Network()
@@ -167,26 +170,26 @@ def test_names_are_only_names():
     assert not [each for each in root.iter() if each.tag.rpartition("}")[2] == "script"]
 
 
-@pytest.mark.parametrize("path", GALLERY, ids=lambda path: path.stem)
-def test_the_gallery_shows_the_picture(path):
+@pytest.mark.parametrize("path", GALLERY, ids=NAMES)
+def test_the_gallery_shows_the_picture(path: pathlib.Path) -> None:
     """The gallery's page shows the picture of each network, and it is what is drawn of the file."""
     name = f"network-{path.stem}.svg"
     assert f"](../docs/pictures/{name})" in (TOP / "examples/README.md").read_text()
     shown = (TOP / "docs/pictures" / name).read_bytes()
     drawn = style.saved(draw_network(NetworkPicture(Network.read(path), path.stem)), "svg")
-    versions = {re.search(rb"Matplotlib v[\d.]+", data)[0] for data in (shown, drawn)}
+    versions = {match_in(r"Matplotlib v[\d.]+", data.decode())[0] for data in (shown, drawn)}
     graphviz = subprocess.run(["dot", "-V"], capture_output=True, text=True, check=True).stderr
     if len(versions) > 1 or GRAPHVIZ not in graphviz:
         pytest.skip(f"the picture was drawn by other versions than {versions} and {graphviz}")
     assert drawn == shown
 
 
-@pytest.mark.parametrize("path", GALLERY, ids=lambda path: path.stem)
-def test_the_gallery_has_a_line_and_means(path):
+@pytest.mark.parametrize("path", GALLERY, ids=NAMES)
+def test_the_gallery_has_a_line_and_means(path: pathlib.Path) -> None:
     """The gallery's page has each network below a topic, with a line on what it shows, and the measured mean of each
     of its queues."""
     page = (TOP / "examples/README.md").read_text()
-    found = re.search(rf"^### {path.stem}\n\n(.*?)\n\n!\[", page, re.M | re.S)
+    found = match_in(rf"^### {path.stem}\n\n(.*?)\n\n!\[", page, re.M | re.S)
     topics = re.findall(r"^## (.*)$", page[: found.start()], re.M)
     assert len(topics) > 1 and topics[-1] != "Pictures"
     assert re.match(r"[A-Z][^.]{20,}\. ", found[1])
@@ -194,16 +197,16 @@ def test_the_gallery_has_a_line_and_means(path):
         assert re.search(rf"`{re.escape(queue['name'])}`\s+[\d.]+<!--=", found[1]), queue["name"]
 
 
-def test_a_notebook_shows_the_picture():
+def test_a_notebook_shows_the_picture() -> None:
     """A notebook shows a network as its picture, and one that cannot be drawn yet as Python does."""
-    root = xml.etree.ElementTree.fromstring(Network.read(TOP / "examples/overflow.toml")._repr_svg_())
+    root = xml.etree.ElementTree.fromstring(Network.read(TOP / "examples/overflow.toml")._repr_svg_() or "")
     assert sum(each.get("id", "").startswith("queue-") for each in root.iter(f"{SVG}g")) == 2
     assert Network().queue("desk", 3)._repr_svg_() is not None
     unfinished = Network().event("serve", "service", 1, "nowhere", [])
     assert Network()._repr_svg_() is None and unfinished._repr_svg_() is None
 
 
-def test_tables_are_drawn_on_demand():
+def test_tables_are_drawn_on_demand() -> None:
     """The tables of a choice by an index stand below the picture where they are asked for."""
     net = Network.read(TOP / "examples/shortest-queue.toml")
     texts = [text.get_text() for text in drawn(net, with_tables=True)[0].axes[0].texts]
@@ -211,7 +214,8 @@ def test_tables_are_drawn_on_demand():
     assert not [text for text in drawn(net)[0].axes[0].texts if "index of" in text.get_text()]
 
 
-def test_the_command_draws_each_format(tool, tmp_path):
+@pytest.mark.slow
+def test_the_command_draws_each_format(tool: Tool, tmp_path: pathlib.Path) -> None:
     """The command draws SVG, PNG and PDF, the same bytes for the same network."""
     net = TOP / "examples/overflow.toml"
     for form, head in (("svg", b"<?xml"), ("png", b"\x89PNG"), ("pdf", b"%PDF")):
@@ -221,7 +225,7 @@ def test_the_command_draws_each_format(tool, tmp_path):
         assert data.startswith(head) and data == (tmp_path / f"two.{form}").read_bytes()
 
 
-def test_what_psi_refuses_is_not_drawn(tool, tmp_path):
+def test_what_psi_refuses_is_not_drawn(tool: Tool, tmp_path: pathlib.Path) -> None:
     """A network that psi refuses is refused by name, and nothing is written."""
     (tmp_path / "bad.toml").write_text("version = 1\n[[queue]]\nname = 'a'\ncapacity = 0\n")
     status, out, err = tool("psi-plot", "network", "bad.toml", "-o", "bad.svg")
@@ -229,13 +233,13 @@ def test_what_psi_refuses_is_not_drawn(tool, tmp_path):
     assert not (tmp_path / "bad.svg").exists()
 
 
-def test_options_of_another_picture_are_refused(tool):
+def test_options_of_another_picture_are_refused(tool: Tool) -> None:
     """--legend belongs to networks alone."""
     status, _, err = tool("psi-plot", "exact", "none", "--legend", "-o", "x.svg")
     assert status == 2 and "--legend" in err
 
 
-def test_without_graphviz_one_line_says_so(tmp_path):
+def test_without_graphviz_one_line_says_so(tmp_path: pathlib.Path) -> None:
     """Where `dot` is missing, one line names the package, and the status is 1."""
     call = "from psi_tools.plot.network_layout import laid_out; from psi_tools.plot.network_scene import Scene\n"
     call += "from psi_tools.errors import PsiError\ntry:\n    laid_out(Scene([], []))\n"

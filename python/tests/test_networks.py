@@ -1,5 +1,7 @@
 """Networks: files go to psi as they are, and no number is changed without a word."""
 
+import pathlib
+import types
 from decimal import Decimal
 from fractions import Fraction
 
@@ -27,14 +29,16 @@ from = "desk"
 """
 
 
-def desk(rate):
+def desk(rate: object) -> Network:
     net = Network().queue("desk", 10)
     net.event("come", "arrival", rate, to=["desk"])
     return net.event("serve", "service", 5, source="desk")
 
 
 @pytest.mark.parametrize("rate", ["4.9", "4.0", "true", '"4"'])
-def test_a_file_that_psi_refuses_is_refused_by_the_module(psi, tmp_path, rate):
+def test_a_file_that_psi_refuses_is_refused_by_the_module(
+    psi: types.SimpleNamespace, tmp_path: pathlib.Path, rate: str
+) -> None:
     path = tmp_path / "float.toml"
     path.write_text(FILE.replace("rate = 4", f"rate = {rate}"))
     for call in (psi.check, psi.report, psi.means, psi.samples, lambda net: psi.law(net, "desk")):
@@ -43,7 +47,7 @@ def test_a_file_that_psi_refuses_is_refused_by_the_module(psi, tmp_path, rate):
         assert str(refused.value) == "network refused 5 WrongType event 1 rate"
 
 
-def test_a_file_is_handed_on_byte_by_byte(psi, tmp_path):
+def test_a_file_is_handed_on_byte_by_byte(psi: types.SimpleNamespace, tmp_path: pathlib.Path) -> None:
     path = tmp_path / "net.toml"
     path.write_text(FILE)
     net = Network.read(path)
@@ -56,12 +60,12 @@ def test_a_file_is_handed_on_byte_by_byte(psi, tmp_path):
 @pytest.mark.parametrize(
     "rate", [0.29 * 100, Fraction(1, 3), Decimal("0.5"), True, float("nan"), float("inf"), numpy.float64(2.5), None]
 )
-def test_a_number_that_is_not_whole_names_its_key(rate):
+def test_a_number_that_is_not_whole_names_its_key(rate: object) -> None:
     with pytest.raises(PsiError, match="^rate of event 'come' is .*, which isn't a whole number"):
         desk(rate).toml()
 
 
-def test_other_keys_are_named_as_well():
+def test_other_keys_are_named_as_well() -> None:
     net = desk(4).reward("cost", "linear", ["desk"], weights=[0.5])
     with pytest.raises(PsiError, match="a value of weights of reward 'cost' is 0.5, which isn't"):
         net.toml()
@@ -71,12 +75,12 @@ def test_other_keys_are_named_as_well():
         net.toml()
 
 
-def test_whole_numbers_of_any_type_are_written():
+def test_whole_numbers_of_any_type_are_written() -> None:
     for rate in (4, 4.0, numpy.int64(4), Fraction(4), Decimal(4)):
         assert "\nrate = 4\n" in desk(rate).toml()
 
 
-def test_rates_are_made_whole():
+def test_rates_are_made_whole() -> None:
     assert [event["rate"] for event in desk(0.29 * 100).copy().table["event"]] != [29, 5]
     for rate, wanted in ((0.8, [4, 25]), (Fraction(1, 3), [1, 15]), (Decimal("2.25"), [9, 20])):
         net = desk(rate)
@@ -101,7 +105,7 @@ def test_rates_are_made_whole():
         {"count": None},
     ],
 )
-def test_arguments_of_streams(psi, named):
+def test_arguments_of_streams(psi: types.SimpleNamespace, named: dict[str, object]) -> None:
     name = next(iter(named))
     calls = psi.report, psi.means, psi.samples, lambda net, **more: psi.law(net, "desk", **more)
     for call in calls:
@@ -111,12 +115,12 @@ def test_arguments_of_streams(psi, named):
 
 
 @pytest.mark.parametrize("level", [95, 0, 1, True, "0.95", None, float("nan")])
-def test_a_level_is_a_share(psi, level):
+def test_a_level_is_a_share(psi: types.SimpleNamespace, level: object) -> None:
     with pytest.raises(psi.ArgumentError, match="^level is .*; a share from 0.5 to 0.9999"):
         psi.means(desk(4), count=40, level=level)
 
 
-def test_other_arguments(psi):
+def test_other_arguments(psi: types.SimpleNamespace) -> None:
     for call in (psi.couple, psi.log, lambda net, seed, stream: psi.exact(net, seed, stream, 4)):
         with pytest.raises(psi.ArgumentError, match="^seed is -1; "):
             call(desk(4), -1, 0)

@@ -1,12 +1,14 @@
 """psi-new: each kind is a file that psi takes, and means what it says."""
 
+import pathlib
 import re
 import shutil
 import subprocess
+import types
 from fractions import Fraction
 
 import pytest
-from conftest import TOP
+from conftest import TOP, Tool, erlang_b, match_in
 from solving import means_of
 
 from psi_tools.model.catalog import made_whole
@@ -32,18 +34,20 @@ KIND_WORDS = {
 }
 
 
-def made(tool, tmp_path, kind, words):
+def made(tool: Tool, tmp_path: pathlib.Path, kind: str, words: str) -> Network:
     status, out, error = tool("psi-new", kind, *words.split(), "-o", "net.toml")
     assert (status, out, error) == (0, "", "")
     return Network.read(tmp_path / "net.toml")
 
 
-def test_each_kind_is_tried():
+def test_each_kind_is_tried() -> None:
     assert {*KIND_WORDS} == {*KINDS}
 
 
 @pytest.mark.parametrize("kind", KIND_WORDS)
-def test_a_kind_is_a_network_that_couples(tool, tmp_path, psi, kind):
+def test_a_kind_is_a_network_that_couples(
+    tool: Tool, tmp_path: pathlib.Path, psi: types.SimpleNamespace, kind: str
+) -> None:
     net = made(tool, tmp_path, kind, KIND_WORDS[kind])
     assert (tmp_path / "net.toml").read_text().startswith("# ")
     if kind == "closed":
@@ -53,26 +57,18 @@ def test_a_kind_is_a_network_that_couples(tool, tmp_path, psi, kind):
     assert int(report["value"][1]) == 50
 
 
-def erlang_b(load, lines):
-    """Erlang's formula B, by its recursion."""
-    blocked = 1.0
-    for line in range(1, lines + 1):
-        blocked = load * blocked / (line + load * blocked)
-    return blocked
-
-
-def test_erlangs_formula(tool, tmp_path):
+def test_erlangs_formula(tool: Tool, tmp_path: pathlib.Path) -> None:
     net = made(tool, tmp_path, "erlang-loss", KIND_WORDS["erlang-loss"])
-    assert means_of(net)[1]["lost"] == pytest.approx(erlang_b(7.5, 12))
+    assert means_of(net)[1]["lost"] == pytest.approx(erlang_b(12, 7.5))
 
 
-def test_more_than_64_servers_are_the_same_queue(tool, tmp_path):
+def test_more_than_64_servers_are_the_same_queue(tool: Tool, tmp_path: pathlib.Path) -> None:
     net = made(tool, tmp_path, "erlang-loss", "--arrival 95 --service 1 --servers 100")
     assert net.version() == 2
-    assert means_of(net)[1]["lost"] == pytest.approx(erlang_b(95, 100))
+    assert means_of(net)[1]["lost"] == pytest.approx(erlang_b(100, 95))
 
 
-def test_the_mean_of_a_single_server(tool, tmp_path):
+def test_the_mean_of_a_single_server(tool: Tool, tmp_path: pathlib.Path) -> None:
     net = made(tool, tmp_path, "mm1k", KIND_WORDS["mm1k"])
     weights = [0.8**n for n in range(11)]
     wanted = sum(n * w for n, w in enumerate(weights)) / sum(weights)
@@ -80,20 +76,20 @@ def test_the_mean_of_a_single_server(tool, tmp_path):
 
 
 @pytest.mark.parametrize("kind", ["mm1k", "mmck", "abandonment", "erlang-loss", "closed"])
-def test_the_formula_in_the_comment_is_what_is_solved(tool, tmp_path, kind):
+def test_the_formula_in_the_comment_is_what_is_solved(tool: Tool, tmp_path: pathlib.Path, kind: str) -> None:
     net = made(tool, tmp_path, kind, KIND_WORDS[kind])
     comment = " ".join((tmp_path / "net.toml").read_text().split("version")[0].split("\n# "))
     if kind == "closed":
-        told = re.search(r"They are (\S+), (\S+) and (\S+)\.\s", comment).groups()
-        assert [*map(float, told)] == pytest.approx([*means_of(net, 4)[0].values()], rel=1e-5)
+        reported = match_in(r"They are (\S+), (\S+) and (\S+)\.\s", comment).groups()
+        assert [*map(float, reported)] == pytest.approx([*means_of(net, 4)[0].values()], rel=1e-5)
         return
-    mean, full = re.search(r"birth and death (\S+) are .* for (\S+) of the time", comment).groups()
+    mean, full = match_in(r"birth and death (\S+) are .* for (\S+) of the time", comment).groups()
     queues, rewards = means_of(net)
-    assert float(mean) == pytest.approx(*queues.values(), rel=1e-5)
+    assert [float(mean)] == pytest.approx([*queues.values()], rel=1e-5)
     assert float(full) == pytest.approx(rewards.get("full", rewards.get("lost")), rel=1e-5)
 
 
-def test_phases_have_the_mean_of_pollaczek_and_khinchine(tool, tmp_path):
+def test_phases_have_the_mean_of_pollaczek_and_khinchine(tool: Tool, tmp_path: pathlib.Path) -> None:
     # With room enough the mean number is rho + rho^2 (1 + c^2) / (2 (1 - rho)).
     for kind, words, rho, scv in (
         ("erlang-service", "--arrival 0.3 --service 1 --phases 3 --places 60", 0.3, 1 / 3),
@@ -112,14 +108,14 @@ def test_phases_have_the_mean_of_pollaczek_and_khinchine(tool, tmp_path):
         assert means_of(net)[0]["jobs"] == pytest.approx(wanted, rel=1e-6)
 
 
-def test_rates_are_exact_where_there_is_room():
+def test_rates_are_exact_where_there_is_room() -> None:
     net = Network().queue("a", 1).event("in", "arrival", Fraction("0.8"), to=["a"])
     net.event("out", "service", Fraction(1, 3), source="a")
-    assert made_whole(net) == (15, 0)
+    assert [*made_whole(net)] == [15, 0]
     assert [event["rate"] for event in net.table["event"]] == [12, 5]
 
 
-def test_rates_are_rounded_where_there_is_none(tool):
+def test_rates_are_rounded_where_there_is_none(tool: Tool) -> None:
     words = "--arrival 0.123456789 --service 99999937/999999937 --places 3"
     status, out, error = tool("psi-new", "mm1k", *words.split())
     assert status == 0
@@ -138,7 +134,7 @@ def test_rates_are_rounded_where_there_is_none(tool):
         "mmck --arrival 1 --service 1 --servers 5 --places 4",
     ],
 )
-def test_words_that_are_not_right(tool, words):
+def test_words_that_are_not_right(tool: Tool, words: str) -> None:
     status, out, error = tool("psi-new", *words.split())
     assert (status, out) == (2, "")
     assert error.startswith("psi-new: ") and error.count("\n") == 1
@@ -148,7 +144,7 @@ SHOWN = re.compile(r"^# `psi ([^`]*)` prints\n#\n((?:#     .*\n)+)", re.M)
 
 
 @pytest.mark.parametrize("kind", KIND_WORDS)
-def test_the_comment_shows_what_psi_prints(tool, program, tmp_path, kind):
+def test_the_comment_shows_what_psi_prints(tool: Tool, program: str, tmp_path: pathlib.Path, kind: str) -> None:
     made(tool, tmp_path, kind, KIND_WORDS[kind])
     runs = SHOWN.findall((tmp_path / "net.toml").read_text())
     commands = ["closed"] if kind == "closed" else ["sample", "report"]
@@ -160,14 +156,14 @@ def test_the_comment_shows_what_psi_prints(tool, program, tmp_path, kind):
         assert (done.returncode, done.stdout) == (0, wanted)
 
 
-def test_the_comment_of_what_does_not_couple(tool, program, tmp_path):
+def test_the_comment_of_what_does_not_couple(tool: Tool, program: str, tmp_path: pathlib.Path) -> None:
     words = "--arrival 1000 --service 1 --servers 1023 --places 65535 -o".split()
     assert tool("psi-new", "mmck", *words, "odd name")[0] == 0
-    [(words, text)] = SHOWN.findall((tmp_path / "odd name").read_text())
-    assert (words, text) == ("sample net.toml 0 0", "#     not coupled within 262144\n")
+    [shown] = SHOWN.findall((tmp_path / "odd name").read_text())
+    assert shown == ("sample net.toml 0 0", "#     not coupled within 262144\n")
 
 
-def test_rates_that_would_be_off_are_refused(tool, tmp_path):
+def test_rates_that_would_be_off_are_refused(tool: Tool, tmp_path: pathlib.Path) -> None:
     words = "--arrival 999999999 --service 0.000000001 --places 3 -o net.toml".split()
     status, out, error = tool("psi-new", "mm1k", *words)
     assert (status, out) == (2, "") and not (tmp_path / "net.toml").exists()
@@ -177,14 +173,14 @@ def test_rates_that_would_be_off_are_refused(tool, tmp_path):
     assert (tmp_path / "net.toml").exists()
 
 
-def test_without_psi_nothing_is_shown(environment, tmp_path):
+def test_without_psi_nothing_is_shown(environment: dict[str, str], tmp_path: pathlib.Path) -> None:
     words = "mm1k --arrival 1 --service 2 --places 3".split()
     # The package is read elsewhere, where no program is built.
     shutil.copytree(TOP / "python", tmp_path / "python")
-    code = "import sys; from psi_tools.cli.new import main; sys.exit(main(sys.argv[1:]))"
+    code = "import sys; from psi_tools.cli.entry import new; sys.exit(new())"
     call = ["/usr/bin/python3", "-c", code, *words]
     done = subprocess.run(
         call, cwd=tmp_path / "python", capture_output=True, text=True, env={**environment, "PATH": "/usr/bin:/bin"}
     )
-    assert done.returncode == 0 and done.stderr.startswith("psi-new: there is no psi that looks")
+    assert done.returncode == 0 and done.stderr.startswith("psi-new: there is no psi that checks the file")
     assert "` prints" not in done.stdout and "version = 1\n" in done.stdout

@@ -6,16 +6,19 @@ import hashlib
 import html.parser
 import json
 import os
+import pathlib
 import re
 import shutil
 import subprocess
 import tomllib
+from collections.abc import Callable, Iterator
+from typing import TYPE_CHECKING, Any
 
 import numpy
 import pytest
-from conftest import TOP
-from oracle.plain_network import Network as Plain
+from conftest import TOP, Tool
 from oracle.log_regions import regions_of as regions_of_text
+from oracle.plain_network import Network as Plain
 
 from psi_tools.cli.page import MOST_LOG
 from psi_tools.plot import page
@@ -23,6 +26,12 @@ from psi_tools.check_log import block
 from psi_tools.model.networks import Network
 from psi_tools.plot.past import past_of
 
+if TYPE_CHECKING:
+    from selenium.webdriver.chrome.webdriver import WebDriver
+
+# The page of a network and its log, and what a browser shows it as.
+Pages = Callable[..., tuple[str, str]]
+Emulate = Callable[..., None]
 NETS = (
     "first",
     "tandem-blocking",
@@ -85,37 +94,38 @@ return Math.min(...found);
 class Elements(html.parser.HTMLParser):
     """The names of the elements of a page, and the text of each script."""
 
-    def __init__(self, text):
+    def __init__(self, text: str) -> None:
         super().__init__()
-        self.found, self.scripts = [], []
+        self.found: list[tuple[str, dict[str, str]]] = []
+        self.scripts: list[str] = []
         self.feed(text)
 
-    def handle_starttag(self, tag, attrs):
-        self.found.append((tag, dict(attrs)))
+    def handle_starttag(self, tag: str, attrs: list[tuple[str, str | None]]) -> None:
+        self.found.append((tag, {name: value or "" for name, value in attrs}))
         if tag == "script":
             self.scripts.append("")
 
-    def handle_data(self, data):
+    def handle_data(self, data: str) -> None:
         if self.cdata_elem == "script":
             self.scripts[-1] += data
 
 
-def path_of(name):
+def path_of(name: str) -> pathlib.Path:
     return TOP / f"examples/{name}.toml"
 
 
-def log_of(program, name, stream=0):
+def log_of(program: str, name: str, stream: int = 0) -> bytes:
     """The log of a sample of a network of the gallery."""
-    words = [program, "sample", path_of(name), "0", str(stream), "log"]
+    words = [program, "sample", str(path_of(name)), "0", str(stream), "log"]
     return subprocess.run(words, capture_output=True, check=True).stdout
 
 
 @pytest.fixture(scope="module")
-def pages(program):
+def pages(program: str) -> Pages:
     """The page of a network of the gallery, and its log; each is made once."""
     made = {}
 
-    def page_of(name, stream=0):
+    def page_of(name: str, stream: int = 0) -> tuple[str, str]:
         if (name, stream) not in made:
             log, net = log_of(program, name, stream), Network.read(path_of(name))
             made[name, stream] = page.page_of(page.runs_of(net, log, name)), log.decode()
@@ -125,7 +135,7 @@ def pages(program):
 
 
 @pytest.fixture(scope="module")
-def browser():
+def browser() -> Iterator["WebDriver"]:
     """Headless Chromium."""
     webdriver = pytest.importorskip("selenium.webdriver", reason="without python3-selenium no browser tries the page")
     if not shutil.which("chromium") or not shutil.which("chromedriver"):
@@ -149,28 +159,30 @@ def browser():
     driver.quit()
 
 
-def opened(browser, tmp_path, text):
+def opened(browser: "WebDriver", tmp_path: pathlib.Path, text: str) -> "WebDriver":
     """Opens a page from disk."""
     (tmp_path / "page.html").write_text(text)
     browser.get((tmp_path / "page.html").as_uri())
     return browser
 
 
-def data_of(text):
+def data_of(text: str) -> Any:
     """The data of a page."""
     return json.loads(Elements(text).scripts[0])
 
 
-def interval(low, high):
+def interval(low: int, high: int) -> str:
     return f"{low:,}" if low == high else f"{low:,} to {high:,}"
 
 
-def states_left(size):
+def states_left(size: int) -> str:
     return f"{size:,} state{'s' * (size != 1)} left"
 
 
 @pytest.mark.parametrize("name", NETS)
-def test_the_page_shows_the_log(browser, pages, program, tmp_path, name):
+def test_the_page_shows_the_log(
+    browser: "WebDriver", pages: Pages, program: str, tmp_path: pathlib.Path, name: str
+) -> None:
     """Each step of each run shows the region that the log has, or the plain follower of a run that fails, in the
     table and in the picture; the event and its random word; and nothing is wrong on the console."""
     text, log = pages(name)
@@ -189,7 +201,7 @@ def test_the_page_shows_the_log(browser, pages, program, tmp_path, name):
     assert browser.get_log("browser") == []
 
 
-def hold_events(rows, name, log):
+def hold_events(rows: list[dict[str, Any]], name: str, log: str) -> None:
     """The last run shows the events of the log, by their names, the random words that pick them, the arrows that
     they have, and what replay checks."""
     plain = Plain(tomllib.loads(path_of(name).read_text()))
@@ -209,7 +221,7 @@ def hold_events(rows, name, log):
 
 
 @pytest.mark.parametrize("name", HOSTILE)
-def test_names_are_only_text(browser, pages, tmp_path, name):
+def test_names_are_only_text(browser: "WebDriver", pages: Pages, tmp_path: pathlib.Path, name: str) -> None:
     """A name or a title that looks like markup is shown as text, and runs nothing."""
     log = pages("first")[1].encode()
     table = tomllib.loads(path_of("first").read_text().replace('"a"', json.dumps(name)))
@@ -223,7 +235,7 @@ def test_names_are_only_text(browser, pages, tmp_path, name):
     assert browser.get_log("browser") == []
 
 
-def test_answers_are_hidden_until_a_key_is_pressed(browser, pages, tmp_path):
+def test_answers_are_hidden_until_a_key_is_pressed(browser: "WebDriver", pages: Pages, tmp_path: pathlib.Path) -> None:
     """While answers are hidden a step shows its event and the region before it; Enter shows the region."""
     text, log = pages("tandem-blocking")
     opened(browser, tmp_path, text)
@@ -244,7 +256,7 @@ def test_answers_are_hidden_until_a_key_is_pressed(browser, pages, tmp_path):
         assert browser.execute_script("return Number(document.getElementById('time').value)") == time
 
 
-def test_all_can_be_done_by_keys(browser, pages, tmp_path):
+def test_all_can_be_done_by_keys(browser: "WebDriver", pages: Pages, tmp_path: pathlib.Path) -> None:
     """Tab leads to each control in its order, and keys that are typed step, choose the run and turn modes on."""
     from selenium.webdriver import ActionChains, Keys
 
@@ -277,10 +289,10 @@ def test_all_can_be_done_by_keys(browser, pages, tmp_path):
 
 
 @pytest.fixture
-def emulated(browser):
+def emulated(browser: "WebDriver") -> Iterator[Emulate]:
     """Makes the browser show a page as on a phone, in the dark or on paper; in the end it is as it was."""
 
-    def emulate(width=None, **media):
+    def emulate(width: int | None = None, **media: str) -> None:
         if width:
             size = {"width": width, "height": 800, "deviceScaleFactor": 1, "mobile": True}
             browser.execute_cdp_cmd("Emulation.setDeviceMetricsOverride", size)
@@ -293,7 +305,9 @@ def emulated(browser):
 
 
 @pytest.mark.parametrize("scheme, medium", [("light", ""), ("dark", ""), ("dark", "print")])
-def test_texts_stand_out(browser, pages, tmp_path, emulated, scheme, medium):
+def test_texts_stand_out(
+    browser: "WebDriver", pages: Pages, tmp_path: pathlib.Path, emulated: Emulate, scheme: str, medium: str
+) -> None:
     """Each text has a contrast of 4.5 at least with what is behind it, in light and in dark colours and on paper, where
     the background is white; what is certain and what is possible differ by more than their colours."""
     opened(browser, tmp_path, pages("tandem-blocking")[0])
@@ -312,7 +326,9 @@ def test_texts_stand_out(browser, pages, tmp_path, emulated, scheme, medium):
 
 
 @pytest.mark.parametrize("name", ["tandem-blocking", "hyperexponential-service"])
-def test_a_phone_shows_all(browser, pages, tmp_path, emulated, name):
+def test_a_phone_shows_all(
+    browser: "WebDriver", pages: Pages, tmp_path: pathlib.Path, emulated: Emulate, name: str
+) -> None:
     """On a screen of 390 dots the page is no wider than the screen, the numbers in the queues are not smaller than nine
     dots, and the arrow that fires is brought to sight."""
     emulated(width=390)
@@ -332,7 +348,9 @@ def test_a_phone_shows_all(browser, pages, tmp_path, emulated, name):
 
 
 @pytest.mark.parametrize("name", ["first", "tandem-blocking", "longest-queue-split", "hyperexponential-service"])
-def test_the_page_prints(browser, pages, tmp_path, emulated, name):
+def test_the_page_prints(
+    browser: "WebDriver", pages: Pages, tmp_path: pathlib.Path, emulated: Emulate, name: str
+) -> None:
     """On paper the network, the time line, the step and the states that are left stand on one white page, within its
     margins; the controls and the keys do not."""
     for program in ("pdftotext", "pdftoppm"):
@@ -359,7 +377,7 @@ def test_the_page_prints(browser, pages, tmp_path, emulated, name):
     assert not ink[border].any() and 0.005 < ink.mean() < 0.2
 
 
-def drawn_on(pdf):
+def drawn_on(pdf: pathlib.Path) -> numpy.ndarray[Any, Any]:
     """How light each dot of a printed page is, at 50 dots an inch."""
     data = subprocess.run(["pdftoppm", "-gray", "-r", "50", "-singlefile", pdf], capture_output=True, check=True).stdout
     kind, size, _, dots = data.split(b"\n", 3)
@@ -368,7 +386,7 @@ def drawn_on(pdf):
     return numpy.frombuffer(dots, dtype=numpy.uint8).reshape(height, width)
 
 
-def test_a_long_log_opens_soon(browser, pages, program, tmp_path):
+def test_a_long_log_opens_soon(browser: "WebDriver", pages: Pages, program: str, tmp_path: pathlib.Path) -> None:
     """A page of 4,096 steps opens within a second, and takes half a second of one processor at most. On a
     busy machine only the processor's time is held against it."""
     stream = next(
@@ -390,11 +408,12 @@ def test_a_long_log_opens_soon(browser, pages, program, tmp_path):
 
 
 @pytest.mark.parametrize("name", ["first", "tandem-blocking", "longest-queue-split"])
-def test_the_data_are_the_log(pages, name):
+def test_the_data_are_the_log(pages: Pages, name: str) -> None:
     """The last run of the data is the log, and the plain follower's run of that length is the same."""
     text, log = pages(name)
     data = data_of(text)
-    low, high, found = *data["runs"][-1]["begin"].get("box", (None, None)), []
+    low, high = data["runs"][-1]["begin"].get("box", ([], []))
+    found = []
     for change in [data["runs"][-1]["begin"], *data["runs"][-1]["steps"]]:
         if isinstance(change, dict) and "set" in change:
             low, high = [[*map(end, zip(*change["set"]))] for end in (min, max)]
@@ -408,7 +427,7 @@ def test_the_data_are_the_log(pages, name):
     assert [len(run["steps"]) for run in data["runs"]] == [1 << power for power in range(len(data["runs"]))]
 
 
-def test_the_page_needs_nothing_else(pages):
+def test_the_page_needs_nothing_else(pages: Pages) -> None:
     """The page has its own script alone, whose hash its policy names, and no address but those of namespaces."""
     text, _ = pages("tandem-blocking")
     found = Elements(text)
@@ -422,7 +441,7 @@ def test_the_page_needs_nothing_else(pages):
 
 
 @pytest.mark.parametrize("name", HOSTILE)
-def test_hostile_names_are_no_elements(pages, name):
+def test_hostile_names_are_no_elements(pages: Pages, name: str) -> None:
     """As the test in a browser, by Python's parser: a hostile name adds no element."""
     log = pages("first")[1].encode()
     table = tomllib.loads(path_of("first").read_text().replace('"a"', json.dumps(name)))
@@ -434,7 +453,7 @@ def test_hostile_names_are_no_elements(pages, name):
     assert json.loads(found.scripts[0])["queues"][0]["name"] == name
 
 
-def test_the_command_writes_a_page(tool, tmp_path, program):
+def test_the_command_writes_a_page(tool: Tool, tmp_path: pathlib.Path, program: str) -> None:
     """The page of a sample, and that of its log, are the same bytes."""
     (tmp_path / "own.log").write_bytes(log_of(program, "overflow"))
     assert tool("psi-page", path_of("overflow"), "0", "0", "-o", "one.html") == (0, "", "")
@@ -443,7 +462,7 @@ def test_the_command_writes_a_page(tool, tmp_path, program):
     assert text.startswith("<!DOCTYPE html>") and text == (tmp_path / "two.html").read_text()
 
 
-def test_what_replay_does_not_accept_is_refused(tool, tmp_path, program):
+def test_what_replay_does_not_accept_is_refused(tool: Tool, tmp_path: pathlib.Path, program: str) -> None:
     """A changed log, one that is too long, a sample that is not coupled and wrong arguments are refused by one line,
     and no page is written."""
     log = log_of(program, "overflow")
@@ -452,7 +471,7 @@ def test_what_replay_does_not_accept_is_refused(tool, tmp_path, program):
         file.write(log)
         file.truncate(MOST_LOG + 1)
     net, short = path_of("overflow"), path_of("short-past")
-    for words, status, said in (
+    for words, status, printed in (
         ((net, "--log", "changed.log"), 4, "log rejected 3"),
         ((net, "--log", "long.log"), 2, "20,000,000 bytes"),
         ((net, "--log", "absent.log"), 6, "can't be read"),
@@ -461,5 +480,5 @@ def test_what_replay_does_not_accept_is_refused(tool, tmp_path, program):
         ((net, "0", "0", "--log", "changed.log"), 2, "--log"),
     ):
         found, out, err = tool("psi-page", *words, "-o", "page.html")
-        assert (found, out, err.count("\n")) == (status, "", 1) and said in err
+        assert (found, out, err.count("\n")) == (status, "", 1) and printed in err
     assert not (tmp_path / "page.html").exists()

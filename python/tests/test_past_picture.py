@@ -1,10 +1,11 @@
 """psi-plot past: the runs are those of a plain walk, end as psi says, and the picture shows each of them."""
 
+import pathlib
 import tomllib
 import xml.etree.ElementTree
 
 import pytest
-from conftest import TOP
+from conftest import TOP, Tool
 from oracle.plain_network import Network as Plain
 
 from psi_tools.model.networks import Network
@@ -17,12 +18,12 @@ SVG = "{http://www.w3.org/2000/svg}"
 SMALL = "first", "single-server", "tandem-blocking", "fork-join", "longest-queue", "reset"
 
 
-def path_of(name):
+def path_of(name: str) -> str:
     return str(TOP / f"examples/{name}.toml")
 
 
 @pytest.mark.parametrize("name", SMALL)
-def test_runs_end_where_psi_says(program, name):
+def test_runs_end_where_psi_says(program: str, name: str) -> None:
     """Each run but the last leaves several states, and the last one is psi's sample (compared inside, too)."""
     for stream in range(3):
         past = past_of(program, path_of(name), 7, stream)
@@ -32,7 +33,7 @@ def test_runs_end_where_psi_says(program, name):
 
 
 @pytest.mark.parametrize("name", SMALL)
-def test_runs_are_those_of_a_plain_walk(name):
+def test_runs_are_those_of_a_plain_walk(name: str) -> None:
     """A run's paths are a walk by the plain program's events, and a longer run ends with a shorter one's events."""
     table = tomllib.loads((TOP / f"examples/{name}.toml").read_text())
     plain, follower = Plain(table), Follower(table)
@@ -41,15 +42,16 @@ def test_runs_are_those_of_a_plain_walk(name):
         plain.events[number] if number < len(plain.events) else None
         for number in (follower.net.event_of(5, 11, time) for time in range(8, 0, -1))
     ]
+    assert run.paths is not None
     for path in run.paths:
         state = path[0]
         for event, after in zip(events, path[1:]):
-            state = tuple(event.after(state)) if event else state
+            state = event.after(state) if event else state
             assert state == after
     assert len(run.paths) == len({path[0] for path in run.paths})
 
 
-def test_a_large_network_is_followed_by_regions(program, tmp_path):
+def test_a_large_network_is_followed_by_regions(program: str, tmp_path: pathlib.Path) -> None:
     """Where there are too many paths, bounds are drawn, which hold those of a smaller split number."""
     text = (TOP / "examples/tandem-blocking.toml").read_text().replace("capacity = 4", "capacity = 40")
     (tmp_path / "large.toml").write_text(text)
@@ -58,22 +60,27 @@ def test_a_large_network_is_followed_by_regions(program, tmp_path):
     assert all(low <= high for run in past.runs for one, two in zip(run.low, run.high) for low, high in zip(one, two))
 
 
-def test_a_region_may_hold_more_than_the_paths(program):
+def test_a_region_may_hold_more_than_the_paths(program: str) -> None:
     """With a small split number the paths coalesce before the region does, and the picture says both."""
     past = past_of(program, path_of("longest-queue"), 7, 0)
-    wide = [run for run in past.runs if len({path[-1] for path in run.paths}) == 1 < run.counts[-1]]
-    assert wide and all(
-        low <= number <= high
-        for run in past.runs
-        for path in run.paths
-        for state, *ends in zip(path, run.low, run.high)
-        for number, low, high in zip(state, *ends)
+    followed = [(run, run.paths) for run in past.runs if run.paths is not None]
+    wide = [run for run, paths in followed if len({path[-1] for path in paths}) == 1 < run.counts[-1]]
+    assert (
+        len(followed) == len(past.runs)
+        and wide
+        and all(
+            low <= number <= high
+            for run, paths in followed
+            for path in paths
+            for state, *ends in zip(path, run.low, run.high)
+            for number, low, high in zip(state, *ends)
+        )
     )
     texts = [text.get_text() for axes in draw_past((past, None), "").figure.axes for text in axes.texts]
     assert any("1 state left,\n" in text and "in the region" in text for text in texts)
 
 
-def test_new_words_differ_from_run_to_run(program):
+def test_new_words_differ_from_run_to_run(program: str) -> None:
     """The wrong way draws each run from another stream; the right one keeps the words."""
     right, wrong = (past_of(program, path_of("single-server"), 0, 1, new) for new in (False, True))
     assert right.has_new_words is False and wrong.has_new_words is True
@@ -81,7 +88,7 @@ def test_new_words_differ_from_run_to_run(program):
     assert wrong.runs[1] == follower.run(0, 2, 2) and right.runs[1] == follower.run(0, 1, 2)
 
 
-def test_each_run_has_a_row(program):
+def test_each_run_has_a_row(program: str) -> None:
     """The picture has a band and an end for each run, paths where they are drawn, and says how each one ends."""
     past = past_of(program, path_of("tandem-blocking"), 0, 0)
     figure = draw_past((past, None), "")
@@ -92,7 +99,7 @@ def test_each_run_has_a_row(program):
     assert "64 steps:\ncoalesced in\nstate 3,2,1" in texts and "32 steps:\n2 states left" in texts
 
 
-def test_no_text_is_cut_off(program, tmp_path):
+def test_no_text_is_cut_off(program: str, tmp_path: pathlib.Path) -> None:
     """Each text is within the picture, with many queues and long names too."""
     net = Network()
     for place in range(12):
@@ -109,7 +116,7 @@ def test_no_text_is_cut_off(program, tmp_path):
             assert whole.x0 <= box.x0 and box.x1 <= whole.x1 and whole.y0 <= box.y0, text.get_text()
 
 
-def test_the_command_draws_and_refuses(tool, tmp_path):
+def test_the_command_draws_and_refuses(tool: Tool, tmp_path: pathlib.Path) -> None:
     """The command draws a queue; wrong arguments are refused by one line with status 2."""
     words = "psi-plot", "past", path_of("tandem-blocking"), "0", "0"
     assert tool(*words, "--queue", "drill", "-o", "past.svg") == (0, "", "")
@@ -124,7 +131,7 @@ def test_the_command_draws_and_refuses(tool, tmp_path):
     assert not (tmp_path / "x.svg").exists()
 
 
-def test_a_network_that_does_not_coalesce_is_refused(program, tmp_path):
+def test_a_network_that_does_not_coalesce_is_refused(program: str, tmp_path: pathlib.Path) -> None:
     """Longer runs than can be drawn are refused by name."""
     ring = Network().queue("a", 2).queue("b", 2)
     ring.event("there", "service", 1, "a", ["b"], full="stay").event("back", "service", 1, "b", ["a"], full="stay")

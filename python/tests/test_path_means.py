@@ -4,15 +4,17 @@ import csv
 import io
 import json
 import math
+import pathlib
 import subprocess
 import sys
+import types
+from typing import Any
 
 import pytest
-from conftest import TOP
+from conftest import TOP, Tool, ends_of
 from solving import means_of
 
 import psi as module
-from psi_tools.draw.program import companion_of
 from psi_tools.model.networks import Network
 from psi_tools.stats.intervals import FEW, Span, probability, spread_of, student
 from psi_tools.stats.paths import CHOSEN, MOVED, QUEUE, PathRow, Paths, columns_of
@@ -21,31 +23,26 @@ EXAMPLES = TOP / "examples"
 TANDEM, SHORT, CENTRAL = (EXAMPLES / f"{name}.toml" for name in ("tandem-blocking", "short-past", "central-server"))
 
 
-@pytest.fixture
-def paths_program(program):
-    """psi_paths, by which these tests draw."""
-    if companion_of(program, "psi_paths") is None:
-        pytest.skip("psi_paths isn't built")
-
-
-def of_csv(text):
+def of_csv(text: str) -> dict[tuple[str, str], dict[str, float]]:
     """The rows of an answer, by item and name."""
     rows = csv.DictReader(io.StringIO(text))
     return {(row["item"], row["name"]): {key: float(row[key]) for key in ("mean", "low", "high")} for row in rows}
 
 
-def test_estimates_are_those_of_the_table(paths_program, psi, tool, program):
+def test_estimates_are_those_of_the_table(
+    paths_program: str, psi: types.SimpleNamespace, tool: Tool, program: str
+) -> None:
     words = "--paths", 200, "--count", 30, "--seed", 5, "--first", 7, "--psi", program, "--format", "csv"
     status, out, err = tool("psi-means", TANDEM, *words)
     assert (status, err) == (0, "")
     found, table, net = of_csv(out), psi.paths(TANDEM, 5, 7, 30, 200), Network.read(TANDEM)
     means, exact = {}, {"deliver": 3, "cut-done": 4, "drill-done": 4, "paint-done": 5}
-    for sort, item in (("queue", "mean"), ("reward", "reward-mean")):
-        for name in net.queues if sort == "queue" else net.rewards:
-            means[item, name] = int(table[f"{sort}.{name}"].sum()) / (30 * 201)
+    for kind, item in (("queue", "mean"), ("reward", "reward-mean")):
+        for name in net.queues if kind == "queue" else net.rewards:
+            means[item, name] = int(table[f"{kind}.{name}"].sum()) / (30 * 201)
     for event in net.table["event"]:
-        for sort, item in (("event", "chosen-rate"), ("moved", "moved-rate")):
-            means[item, event["name"]] = 16 * int(table[f"{sort}.{event['name']}.1"].sum()) / (30 * 200)
+        for kind, item in (("event", "chosen-rate"), ("moved", "moved-rate")):
+            means[item, event["name"]] = 16 * int(table[f"{kind}.{event['name']}.1"].sum()) / (30 * 200)
         chosen = found["chosen-rate", event["name"]]
         assert chosen["low"] <= exact[event["name"]] <= chosen["high"]
     assert [*found] == sorted(found, key=[*found].index) and {*found} == {*means}
@@ -54,7 +51,7 @@ def test_estimates_are_those_of_the_table(paths_program, psi, tool, program):
         assert found[key]["low"] < mean < found[key]["high"]
 
 
-def test_means_are_those_of_the_solved_chain(paths_program, tool, program):
+def test_means_are_those_of_the_solved_chain(paths_program: str, tool: Tool, program: str) -> None:
     status, out, _ = tool("psi-means", TANDEM, "--paths", 2_000, "--psi", program, "--format", "csv", "--level", 99.99)
     found, (queues, rewards) = of_csv(out), means_of(Network.read(TANDEM))
     assert status == 0
@@ -65,7 +62,7 @@ def test_means_are_those_of_the_solved_chain(paths_program, tool, program):
     assert len({round(found["moved-rate", name]["mean"], 1) for name in ("cut-done", "drill-done", "paint-done")}) == 1
 
 
-def test_the_text_and_the_json_of_an_answer(paths_program, tool, program):
+def test_the_text_and_the_json_of_an_answer(paths_program: str, tool: Tool, program: str) -> None:
     words = "--paths", 50, "--count", 20, "--total", 6, "--psi", program
     status, text, err = tool("psi-means", CENTRAL, *words)
     assert (status, err) == (0, "")
@@ -81,7 +78,7 @@ def test_the_text_and_the_json_of_an_answer(paths_program, tool, program):
     assert "rates" not in text and "100 paths of 0 steps" in text
 
 
-def test_streams_that_are_not_coupled(paths_program, psi, tool, program):
+def test_streams_that_are_not_coupled(paths_program: str, psi: types.SimpleNamespace, tool: Tool, program: str) -> None:
     words = "--paths", 20, "--count", 60, "--psi", program
     status, text, _ = tool("psi-means", SHORT, *words)
     with pytest.warns(psi.Uncoupled):
@@ -99,7 +96,9 @@ def test_streams_that_are_not_coupled(paths_program, psi, tool, program):
 
 
 @pytest.mark.parametrize("file, words", ((TANDEM, ()), (SHORT, ("--pilot", 0)), (CENTRAL, ("--total", 4))))
-def test_guaranteed_intervals_have_certificates(paths_program, tool, program, tmp_path, file, words):
+def test_guaranteed_intervals_have_certificates(
+    paths_program: str, tool: Tool, program: str, tmp_path: pathlib.Path, file: pathlib.Path, words: tuple[object, ...]
+) -> None:
     words = "--paths", 300, "--count", 40, "--psi", program, "--guaranteed", "--certificate", "c.json", *words
     status, out, err = tool("psi-means", file, *words, "--format", "csv")
     assert status == 0 and "assumed: the random words" in err
@@ -113,22 +112,22 @@ def test_guaranteed_intervals_have_certificates(paths_program, tool, program, tm
     for line in done.stdout.splitlines()[:-1]:
         name, _, ends = line.partition(": mean: ")
         proved[name] = [float(end) for end in ends.split(" to ")]
-    names = {("reward " if item == "reward-mean" else "queue ") + name: ends for (item, name), ends in found.items()}
+    names = {("reward " if item == "reward-mean" else "queue ") + name: own for (item, name), own in found.items()}
     assert {*names} == {*proved}
-    for name, ends in names.items():
-        assert [ends["low"], ends["high"]] == pytest.approx(proved[name], abs=2e-6)
-        assert ends["low"] <= ends["mean"] <= ends["high"] or "short" in str(file)
+    for name, own in names.items():
+        assert [own["low"], own["high"]] == pytest.approx(proved[name], abs=2e-6)
+        assert own["low"] <= own["mean"] <= own["high"] or "short" in str(file)
     drawn = json.loads((tmp_path / "c.json").read_text())["drawn"]
     assert (drawn["steps"], drawn["count"], drawn["first"]) == (300, 40, 0)
 
 
-def test_a_certificate_of_paths_is_of_a_mean_alone(tmp_path):
+def test_a_certificate_of_paths_is_of_a_mean_alone(tmp_path: pathlib.Path) -> None:
     """The checker divides the ends of a mean by the number of times, and takes no other claim of such sums."""
     claim = {"of": "mean", "q": 10, "unit": 1, "low": None, "high": None}
     row = {"name": "a", "samples": 2, "uncoupled": 0, "least": 0, "greatest": 50, "times": 10, "counts": [[3, 2]]}
     file = tmp_path / "c.json"
 
-    def checked(**more):
+    def checked(**more: object) -> tuple[int, list[str]]:
         file.write_text(json.dumps({"format": "psi certificates 1", "d": 40, "rows": [{**row, **more}]}))
         words = [sys.executable, str(TOP / "tools/check_interval.py"), str(file)]
         done = subprocess.run(words, capture_output=True, text=True)
@@ -140,12 +139,12 @@ def test_a_certificate_of_paths_is_of_a_mean_alone(tmp_path):
     assert checked(claims=[claim], times=0) == (3, [])
 
 
-def test_words_that_are_refused(tool, program, tmp_path):
+def test_words_that_are_refused(tool: Tool, program: str, tmp_path: pathlib.Path) -> None:
     for words, line in (
         (("a.csv", "--seed", 1), "--seed goes with --paths"),
         (("a.csv", "--total", 1), "--total goes with --paths"),
-        (("a.csv", "b.csv", "--paths", 1), "--paths is of one network, which is given in the place of reports"),
-        ((TANDEM, "--paths", 1, "--net", TANDEM), "--paths is of one network, which is given in the place of reports"),
+        (("a.csv", "b.csv", "--paths", 1), "--paths is of one network, which is given instead of reports"),
+        ((TANDEM, "--paths", 1, "--net", TANDEM), "--paths is of one network, which is given instead of reports"),
         ((TANDEM, "--paths", 1, "--pilot", 1), "--pilot goes with --guaranteed"),
         (
             (TANDEM, "--paths", 1, "--count", 19, "--psi", program),
@@ -159,22 +158,31 @@ def test_words_that_are_refused(tool, program, tmp_path):
     assert status == 2 and "--paths" in err
 
 
-def paths_with(sums, span=Span(0, 10, 0, 10), times=11, lost=0, horizon=64, kind=QUEUE, **more):
+def paths_with(
+    sums: list[int],
+    span: Span = Span(0, 10, 0, 10),
+    times: int = 11,
+    lost: int = 0,
+    horizon: int = 64,
+    kind: str = QUEUE,
+    **more: Any,
+) -> tuple[Paths, PathRow]:
     row = PathRow(kind, "a", sums, span, times, **more)
     return Paths(times - 1, [horizon] * len(sums), lost, [row]), row
 
 
-def test_even_paths_have_the_interval_of_student():
+def test_even_paths_have_the_interval_of_student() -> None:
     """Where paths are long and many, hardly more than Student's t; never less."""
     sums = [50_000 + 100 * ((37 * k) % 101) for k in range(101)]
     paths, row = paths_with(sums, times=10_000)
     mean, spread = paths.mean(row), spread_of(sums, [10_000] * 101)
-    plain = student(100) * spread.error
+    assert spread is not None and spread.error is not None
     assert mean.mean == pytest.approx(spread.mean)
-    assert plain < mean.high - mean.mean < 1.02 * plain and plain < mean.mean - mean.low < 1.02 * plain
+    (low, high), plain = ends_of(mean), student(100) * spread.error
+    assert plain < high - spread.mean < 1.02 * plain and plain < spread.mean - low < 1.02 * plain
 
 
-def test_paths_that_are_all_alike():
+def test_paths_that_are_all_alike() -> None:
     """Another value may come in a path that didn't come, for as long as the longest horizon."""
     paths, row = paths_with([0] * 20, times=1_000, horizon=100)
     mean = paths.mean(row)
@@ -182,21 +190,22 @@ def test_paths_that_are_all_alike():
     assert mean.high == pytest.approx(-math.log(0.025) * 10 * 100 / 1_000 / 20)
 
 
-def test_few_visits_are_told_and_widen_an_interval():
+def test_few_visits_are_told_and_widen_an_interval() -> None:
     sums = [0] * 99 + [40]
     paths, row = paths_with(sums, times=1_000)
     mean, spread = paths.mean(row), spread_of(sums, [1_000] * 100)
-    assert mean.high - mean.mean > 2 * student(99) * spread.error
+    assert spread is not None and spread.error is not None and mean.mean is not None
+    assert ends_of(mean)[1] - mean.mean > 2 * student(99) * spread.error
     assert paths.carried() == [
         "few visits carry the mean of a: as if 1 had the whole sum; more streams, or longer paths, make its "
         "interval narrower"
     ]
     assert paths_with([4_000 + k for k in range(100)], times=1_000)[0].carried() == []
     steep = paths_with(sums, times=1_000, few=4 * FEW)
-    assert steep[0].mean(steep[1]).high >= mean.high
+    assert ends_of(steep[0].mean(steep[1]))[1] >= ends_of(mean)[1]
 
 
-def test_a_path_of_no_step_is_a_sample():
+def test_a_path_of_no_step_is_a_sample() -> None:
     """A row of 0 and 1 has the interval of Clopper and Pearson, also where streams aren't coupled."""
     for lost in (0, 5):
         paths, row = paths_with([1] * 3 + [0] * 37, Span(0, 1, 0, 1, True), 1, lost)
@@ -205,15 +214,15 @@ def test_a_path_of_no_step_is_a_sample():
         assert mean.mean == 3 / 40
 
 
-def test_chosen_events_are_independent_of_what_is_coupled():
+def test_chosen_events_are_independent_of_what_is_coupled() -> None:
     paths, row = paths_with([30, 50], Span(0, 1, 0, 1, True), 100, lost=9, kind=CHOSEN, unit=8)
     mean = paths.mean(row)
     assert (mean.low, mean.high) == pytest.approx([8 * end for end in probability(80, 200)])
     moved = paths_with([30, 50], Span(0, 1, 0, 1, True), 100, lost=9, kind=MOVED, unit=8)
-    assert moved[0].mean(moved[1]).high > 2 * mean.high
+    assert ends_of(moved[0].mean(moved[1]))[1] > 2 * ends_of(mean)[1]
 
 
-def test_servers_of_an_event_are_one_row():
+def test_servers_of_an_event_are_one_row() -> None:
     net = module.Network().queue("a", 3, servers=2).event("in", "arrival", 1, to=["a"])
     net.event("out", "service", 1, source="a").reward("r", "above", ["a"], level=0)
     states = [(QUEUE, "a", [0]), ("reward", "r", [1])]

@@ -4,7 +4,8 @@ import pathlib
 import tomllib
 
 import pytest
-from conftest import TOP
+from conftest import TOP, Tool
+from matplotlib.axes import Axes
 
 from oracle import paths as plain
 from oracle.plain import Words
@@ -16,12 +17,12 @@ from psi_tools.plot.draw_path import draw_path
 from psi_tools.plot.path import path_of, row_of
 
 
-def file_of(name):
+def file_of(name: str) -> str:
     return str(TOP / f"examples/{name}.toml")
 
 
 @pytest.mark.parametrize("name", ("first", "tandem-blocking", "fork-join", "call-centre", "longest-queue"))
-def test_states_and_sums_are_those_of_a_plain_walk(program, name):
+def test_states_and_sums_are_those_of_a_plain_walk(program: str, name: str) -> None:
     net = Plain(tomllib.loads(pathlib.Path(file_of(name)).read_text()))
     for stream in range(2):
         found = path_of(program, file_of(name), 7, stream, 50)
@@ -32,13 +33,13 @@ def test_states_and_sums_are_those_of_a_plain_walk(program, name):
         assert row_of(Network.read(file_of(name)), found) == plain.row(net, 7, stream, drawn, 50)
 
 
-def lines_of(axes, name):
+def lines_of(axes: Axes, name: str) -> tuple[list[int], list[float]]:
     """The points of a line of a picture."""
     [line] = [line for line in axes.lines if line.get_gid() == name]
     return [*map(int, line.get_xdata())], [*line.get_ydata()]
 
 
-def test_the_picture_has_the_path_beside_the_coupling(program):
+def test_the_picture_has_the_path_beside_the_coupling(program: str) -> None:
     found = path_of(program, file_of("tandem-blocking"), 0, 2, 40)
     figure = draw_path((found, [0, 2]), "").figure
     assert len(figure.axes) == 4
@@ -53,7 +54,8 @@ def test_the_picture_has_the_path_beside_the_coupling(program):
         assert lines_of(before, "end")[1] == [found.states[0][queue]]
 
 
-def test_the_tool_draws_a_path(tool, program):
+@pytest.mark.slow
+def test_the_tool_draws_a_path(tool: Tool, program: str) -> None:
     words = "path", file_of("tandem-blocking"), 0, 2, "--psi", program, "-o"
     assert tool("psi-plot", *words, "a.svg") == (0, "", "")
     assert tool("psi-plot", *words, "b.svg", "--steps", 0, "--queue", "drill") == (0, "", "")
@@ -70,12 +72,12 @@ def test_the_tool_draws_a_path(tool, program):
     assert (status, err) == (2, "psi-plot: path is given NET SEED STREAM\n")
 
 
-def test_a_sample_that_is_not_coupled_has_no_path(program):
+def test_a_sample_that_is_not_coupled_has_no_path(program: str) -> None:
     with pytest.raises(InputError, match="isn't coupled within 64 steps"):
         path_of(program, file_of("short-past"), 0, 0, 5)
 
 
-def test_other_sums_are_refused(program, monkeypatch):
+def test_other_sums_are_refused(program: str, monkeypatch: pytest.MonkeyPatch) -> None:
     monkeypatch.setattr("psi_tools.plot.path.companion_of", lambda path, name: "there")
     monkeypatch.setattr("psi_tools.draw.program.Program.paths", lambda self, *words: "stream\n")
     with pytest.raises(InputError, match="psi_paths and the plain follower differ"):

@@ -1,43 +1,36 @@
 """Tables of paths: psi.paths, beside the plain program, and psi.states where a path has no step."""
 
+import pathlib
 import tomllib
+import types
 import warnings
 
 import pandas
 import pytest
-from conftest import TOP
+from conftest import TOP, rows_in
 
 import psi as module
 from oracle import paths as plain
 from oracle.plain_network import Network as PlainNetwork
 from psi_tools.draw.paths import MOST_STEPS, events_of, header_of, modulus_of, paths_of
-from psi_tools.draw.program import companion_of
+from psi_tools.draw.program import Program
 from psi_tools.errors import PsiError
 from psi_tools.model.networks import Network
 
 EXAMPLES = TOP / "examples"
 LAST = 2**64 - 1
 BILLION = 1_000_000_000
+pytestmark = pytest.mark.usefixtures("paths_program")
 
 
-@pytest.fixture(autouse=True)
-def paths_program(program):
-    """psi_paths, which these tests draw by."""
-    if companion_of(program, "psi_paths") is None:
-        pytest.skip("psi_paths isn't built")
-
-
-def rows_wanted(file, seed, streams, steps, total=None):
+def rows_wanted(
+    file: pathlib.Path, seed: int, streams: range, steps: int, total: int | None = None
+) -> tuple[list[str], list[list[int | None]]]:
     """The columns of a table and its rows, with None for what is missing, as the plain program has them."""
     net = PlainNetwork(tomllib.loads(file.read_text()))
     outcomes = plain.outcomes_of(net, seed, streams, total)
     rows = [plain.row(net, seed, stream, drawn, steps) for stream, drawn in zip(streams, outcomes)]
-    return plain.header(net), [[None if value == "" else value for value in row] for row in rows]
-
-
-def rows_in(table):
-    """The rows of a table, with None for what is missing."""
-    return [[None if value is pandas.NA else int(value) for value in row] for row in table.itertuples(index=False)]
+    return plain.header(net), [[None if value == "" else int(value) for value in row] for row in rows]
 
 
 @pytest.mark.parametrize(
@@ -50,14 +43,16 @@ def rows_in(table):
         ("first", 1, 9, 1, 1_000),
     ),
 )
-def test_rows_are_the_plain_programs(psi, name, seed, first, count, steps):
+def test_rows_are_the_plain_programs(
+    psi: types.SimpleNamespace, name: str, seed: int, first: int, count: int, steps: int
+) -> None:
     file = EXAMPLES / f"{name}.toml"
     table = psi.paths(file, seed, first, count, steps)
     columns, rows = rows_wanted(file, seed, range(first, first + count), steps)
     assert ([*table.columns], rows_in(table)) == (columns, rows)
 
 
-def test_rows_of_a_closed_network(psi):
+def test_rows_of_a_closed_network(psi: types.SimpleNamespace) -> None:
     file = EXAMPLES / "central-server.toml"
     table = psi.paths(file, 2, 4, 12, 30, total=6)
     columns, rows = rows_wanted(file, 2, range(4, 16), 30, 6)
@@ -65,7 +60,7 @@ def test_rows_of_a_closed_network(psi):
     assert (table[["queue.cpu", "queue.disk", "queue.drum"]].sum(axis=1) == 6 * 31).all()
 
 
-def test_a_path_of_no_step_is_its_sample(psi):
+def test_a_path_of_no_step_is_its_sample(psi: types.SimpleNamespace) -> None:
     file = EXAMPLES / "tandem-blocking.toml"
     states, paths = psi.states(file, 1, 2, 30), psi.paths(file, 1, 2, 30, steps=0)
     for name in states.columns:
@@ -74,7 +69,7 @@ def test_a_path_of_no_step_is_its_sample(psi):
     assert (paths[["steps", *counts]] == 0).all(axis=None)
 
 
-def test_a_stream_that_is_not_coupled_keeps_its_row(psi):
+def test_a_stream_that_is_not_coupled_keeps_its_row(psi: types.SimpleNamespace) -> None:
     file = EXAMPLES / "short-past.toml"
     columns, rows = rows_wanted(file, 0, range(40), 20)
     lost = [row[1] is None for row in rows]
@@ -86,7 +81,7 @@ def test_a_stream_that_is_not_coupled_keeps_its_row(psi):
         assert [*table[name].isna()] == lost
 
 
-def test_processes_make_no_difference(program):
+def test_processes_make_no_difference(program: str) -> None:
     with pytest.warns(module.Uncoupled):
         one, four = (
             module.paths(EXAMPLES / "short-past.toml", 1, 3, 133, 40, program=module.Program(program, jobs))
@@ -96,7 +91,7 @@ def test_processes_make_no_difference(program):
     assert len(one) == 133
 
 
-def test_sums_of_any_size_are_exact(psi):
+def test_sums_of_any_size_are_exact(psi: types.SimpleNamespace) -> None:
     net = psi.Network().queue("a", 2_000)
     net.event("in", "arrival", 400, to=["a"]).event("out", "service", 1, source="a")
     net.reward("cost", "linear", ["a"], weights=[-BILLION])
@@ -117,7 +112,7 @@ def test_sums_of_any_size_are_exact(psi):
     assert table["reward.cost"][0] is pandas.NA and table["reward.number"].isna().all()
 
 
-def test_events_and_their_unit(psi):
+def test_events_and_their_unit(psi: types.SimpleNamespace) -> None:
     net = psi.Network.read(EXAMPLES / "call-centre.toml")
     lines = [line.split() for line in psi.check(net).splitlines()]
     assert [(name, str(k)) for name, k in events_of(net)] == [tuple(line[1:3]) for line in lines if line[0] == "event"]
@@ -126,7 +121,7 @@ def test_events_and_their_unit(psi):
     assert modulus_of(one) == 4 and events_of(one) == [("in", 1), ("out", 1)]
 
 
-def test_what_is_refused(psi, tmp_path):
+def test_what_is_refused(psi: types.SimpleNamespace, tmp_path: pathlib.Path) -> None:
     net = psi.Network().queue("a", 2).event("out", "service", 1, source="b")
     with pytest.raises(psi.Refused) as fault:
         psi.paths(net, count=1)
@@ -150,36 +145,26 @@ def test_what_is_refused(psi, tmp_path):
             psi.paths(opened, **words)
 
 
-def test_a_text_that_is_no_such_table(psi):
+def test_a_text_that_is_no_such_table(program: str, monkeypatch: pytest.MonkeyPatch) -> None:
     net = Network.read(EXAMPLES / "short-past.toml")
     head = ",".join(header_of(net))
 
-    class Printed:
-        """A program that prints some text."""
-
-        def paths(self, *words):
-            return self.text
-
-        def all(self, calls, done):
-            return [call() for call in calls]
-
-    printed = Printed()
-    printed.text = f"{head}\n7,64,1,2,0,1,1,0,0\n8,,,,,,,,\n"
-    assert paths_of(printed, net, 0, [(7, 2)], 1) == ["64,1,2,0,1,1,0,0", None]
-    for text in ("", printed.text[:-1], printed.text.replace("8,", "9,"), printed.text.replace("moved", "event")):
-        printed.text = text
+    text = f"{head}\n7,64,1,2,0,1,1,0,0\n8,,,,,,,,\n"
+    monkeypatch.setattr(Program, "paths", lambda *words: text)
+    assert paths_of(Program(program), net, 0, [(7, 2)], 1) == ["64,1,2,0,1,1,0,0", None]
+    for text in ("", text[:-1], text.replace("8,", "9,"), text.replace("moved", "event")):
         with pytest.raises(PsiError, match="^psi_paths printed no "):
-            paths_of(printed, net, 0, [(7, 2)], 1)
+            paths_of(Program(program), net, 0, [(7, 2)], 1)
 
 
-def test_without_psi_paths(program, tmp_path, monkeypatch):
+def test_without_psi_paths(program: str, tmp_path: pathlib.Path, monkeypatch: pytest.MonkeyPatch) -> None:
     (tmp_path / "psi").symlink_to("/bin/true")
     monkeypatch.setattr("psi_tools.draw.program.TOP", tmp_path)
     with pytest.raises(PsiError, match="^psi_paths isn't built, .*`rt run` in crates/psi_paths builds it$"):
         module.paths(EXAMPLES / "first.toml", program=module.Program(tmp_path / "psi"))
 
 
-def test_means_of_paths_are_stationary(psi):
+def test_means_of_paths_are_stationary(psi: types.SimpleNamespace) -> None:
     """The mean of all sums is steps + 1 times the stationary mean, within five standard errors."""
     net = psi.Network().queue("desk", 10)
     net.event("come", "arrival", 4, to=["desk"]).event("serve", "service", 5, source="desk")

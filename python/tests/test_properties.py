@@ -2,27 +2,38 @@
 
 import tomllib
 from decimal import Decimal
+from fractions import Fraction
+from typing import Any
 
 import pytest
+from conftest import ends_of
 
 pytest.importorskip("hypothesis")
 
 from hypothesis import given, settings
 from hypothesis import strategies as st
-from psi_tools.draw.reports import blocks_of, size_of
+from psi_tools.draw.streams import blocks_of, size_of
 from psi_tools.io import reports, toml
 from psi_tools.model.designs import aligned, common_events, designs_of, values_of
 from psi_tools.model.networks import Network, plain
 from psi_tools.stats.guaranteed import by_count, by_total, is_binomial, rounded_out
 from psi_tools.stats.intervals import Span, mean_of_batches, mean_of_values, probability, quantile, share_of
 
+# Samples, each a horizon's exponent with its values; and queues, rewards, and the samples of several reports.
+Samples = list[tuple[int, tuple[int, ...]] | None]
+Drawn = tuple[list[str], list[str], list[Samples]]
 NAMES = st.from_regex(r"[A-Za-z0-9_-]{1,32}", fullmatch=True)
 # The same inputs in each run, so that a gate does not fail by chance.
 FEW = settings(max_examples=60, deadline=None, derandomize=True, database=None)
 
 
+def first_of(pair: tuple[int, int]) -> int:
+    """The value of a pair of a value and how many samples have it."""
+    return pair[0]
+
+
 @st.composite
-def reports_of_one_network(draw, least=2, most=4):
+def reports_of_one_network(draw: st.DrawFn, least: int = 2, most: int = 4) -> Drawn:
     """Reports of samples of one network, each over streams of its own: texts, made from drawn states."""
     queues = draw(st.lists(NAMES, min_size=1, max_size=3, unique=True))
     rewards = draw(st.lists(NAMES, min_size=0, max_size=2, unique=True))
@@ -32,11 +43,15 @@ def reports_of_one_network(draw, least=2, most=4):
     return queues, rewards, [draw(st.lists(sample, min_size=1, max_size=6)) for _ in range(many)]
 
 
-def text_of(queues, rewards, samples):
+def text_of(queues: list[str], rewards: list[str], samples: Samples) -> bytes:
     """The report of some samples, as the guide has it; a reward goes by the state, as all samples of one state."""
-    known = {}
+    known: dict[tuple[int, ...], tuple[int, ...]] = {}
     met = [(horizon, known.setdefault(values[: len(queues)], values)) for horizon, values in filter(None, samples)]
-    rows = [("samples", "-", len(samples)), ("met", "-", len(met)), ("uncoupled", "-", len(samples) - len(met))]
+    rows: list[tuple[str, str | int, int]] = [
+        ("samples", "-", len(samples)),
+        ("met", "-", len(met)),
+        ("uncoupled", "-", len(samples) - len(met)),
+    ]
     horizons = [1 << horizon for horizon, _ in met]
     rows += [("horizon", horizon, horizons.count(horizon)) for horizon in sorted({*horizons})]
     for place, name in enumerate([*queues, *rewards]):
@@ -50,10 +65,10 @@ def text_of(queues, rewards, samples):
 
 @FEW
 @given(reports_of_one_network())
-def test_reports_merge_as_lists_join(drawn):
+def test_reports_merge_as_lists_join(drawn: Drawn) -> None:
     queues, rewards, lists = drawn
     # One state has one value of each reward, in all lists.
-    known = {}
+    known: dict[tuple[int, ...], tuple[int, ...]] = {}
     lists = [
         [each and (each[0], known.setdefault(each[1][: len(queues)], each[1])) for each in samples] for samples in lists
     ]
@@ -70,7 +85,7 @@ def test_reports_merge_as_lists_join(drawn):
 
 
 @st.composite
-def networks(draw):
+def networks(draw: st.DrawFn) -> Network:
     """Networks of arrivals and services, with rates that leave room for designs."""
     net = Network()
     queues = draw(st.lists(NAMES, min_size=1, max_size=4, unique=True))
@@ -83,7 +98,7 @@ def networks(draw):
     return net
 
 
-def events_by_word(net):
+def events_by_word(net: Network) -> list[str | None]:
     """The name of the event of each word below the modulus; idle events have none."""
     found = []
     for event in net.table["event"]:
@@ -94,7 +109,7 @@ def events_by_word(net):
 
 @FEW
 @given(networks(), st.lists(st.integers(1, 500), min_size=2, max_size=3, unique=True), st.data())
-def test_designs_keep_the_order_of_words(net, rates, data):
+def test_designs_keep_the_order_of_words(net: Network, rates: list[int], data: st.DataObject) -> None:
     """In aligned designs a word picks the same event in all of them, or none where a rate is less."""
     name = data.draw(st.sampled_from([event["name"] for event in net.table["event"]]))
     _, designs, scale, short = designs_of([f"{name}.rate={','.join(map(str, rates))}"], net)
@@ -112,7 +127,7 @@ def test_designs_keep_the_order_of_words(net, rates, data):
 
 @FEW
 @given(st.lists(networks(), min_size=1, max_size=3))
-def test_common_events_keep_the_order_of_each_network(nets):
+def test_common_events_keep_the_order_of_each_network(nets: list[Network]) -> None:
     names = common_events(nets)
     assert len({*names}) == len(names)
     own = [event["name"] for event in nets[0].table["event"]]
@@ -121,7 +136,7 @@ def test_common_events_keep_the_order_of_each_network(nets):
 
 @FEW
 @given(st.integers(0, 100), st.integers(0, 100), st.integers(1, 7))
-def test_a_range_of_values_is_python_s(first, more, step):
+def test_a_range_of_values_is_python_s(first: int, more: int, step: int) -> None:
     assert values_of("a.rate=..", f"{first}..{first + more}..{step}") == [
         Decimal(value) for value in range(first, first + more + 1, step)
     ]
@@ -137,7 +152,7 @@ VALUES = st.recursive(
 
 @FEW
 @given(st.dictionaries(NAMES, VALUES, max_size=6))
-def test_toml_is_read_as_it_was_written(table):
+def test_toml_is_read_as_it_was_written(table: dict[str, Any]) -> None:
     from psi_tools.model.networks import written
 
     text = "".join(f"{key} = {written(value, key)}\n" for key, value in table.items())
@@ -146,14 +161,14 @@ def test_toml_is_read_as_it_was_written(table):
 
 @FEW
 @given(networks())
-def test_a_network_is_read_as_it_was_written(net):
+def test_a_network_is_read_as_it_was_written(net: Network) -> None:
     again = Network.parse(net.toml())
     assert again.table == net.table and again.toml() == net.toml() and again.data == net.toml().encode()
 
 
 @FEW
 @given(st.integers(1, 2_000), st.data())
-def test_an_interval_of_a_share_holds_its_estimate(many, data):
+def test_an_interval_of_a_share_holds_its_estimate(many: int, data: st.DataObject) -> None:
     count, unknown = data.draw(st.integers(0, many)), 0
     low, high = probability(count, many, unknown)
     assert 0 <= low <= count / many <= high <= 1
@@ -165,30 +180,34 @@ def test_an_interval_of_a_share_holds_its_estimate(many, data):
 
 
 @FEW
-@given(st.lists(st.tuples(st.integers(0, 20), st.integers(1, 200)), min_size=1, max_size=8, unique_by=lambda p: p[0]))
-def test_an_interval_of_a_mean_holds_it_and_shrinks(counts):
+@given(st.lists(st.tuples(st.integers(0, 20), st.integers(1, 200)), min_size=1, max_size=8, unique_by=first_of))
+def test_an_interval_of_a_mean_holds_it_and_shrinks(counts: list[tuple[int, int]]) -> None:
     span = Span(0, 20, 0, 20)
     found, more = mean_of_values(counts, span), mean_of_values([(value, 10 * n) for value, n in counts], span)
+    assert found.mean is not None and more.mean is not None
     assert found.holds(found.mean) and more.holds(more.mean)
     assert more.mean == pytest.approx(found.mean)
-    assert more.high - more.low < found.high - found.low
-    unknown = mean_of_values(counts, span, 5)
-    assert unknown.low <= found.low + 1e-9 and found.high <= unknown.high + 1e-9
+    (low, high), (higher, lower) = ends_of(found), ends_of(more)
+    assert lower - higher < high - low
+    least, most = ends_of(mean_of_values(counts, span, 5))
+    assert least <= low + 1e-9 and high <= most + 1e-9
 
 
 @FEW
 @given(st.lists(st.tuples(st.integers(0, 10_000), st.integers(1, 1_000)), min_size=20, max_size=40))
-def test_an_interval_of_batches_holds_the_mean(batches):
+def test_an_interval_of_batches_holds_the_mean(batches: list[tuple[int, int]]) -> None:
     counts = [count for _, count in batches]
     sums = [total % (20 * count + 1) for total, count in batches]
     found = mean_of_batches(sums, counts, span=Span(0, 20, 0, 20))
-    assert found.mean == pytest.approx(sum(sums) / sum(counts)) and found.holds(found.mean)
-    assert 0 <= found.low <= found.high <= 20
+    low, high = ends_of(found)
+    assert found.mean is not None and found.holds(found.mean)
+    assert found.mean == pytest.approx(sum(sums) / sum(counts))
+    assert 0 <= low <= high <= 20
 
 
 @FEW
-@given(st.lists(st.tuples(st.integers(-50, 50), st.integers(1, 40)), min_size=1, max_size=9, unique_by=lambda p: p[0]))
-def test_a_quantile_is_that_of_the_list(counts):
+@given(st.lists(st.tuples(st.integers(-50, 50), st.integers(1, 40)), min_size=1, max_size=9, unique_by=first_of))
+def test_a_quantile_is_that_of_the_list(counts: list[tuple[int, int]]) -> None:
     counts.sort()
     values = [value for value, many in counts for _ in range(many)]
     middle, low, high = quantile(counts, 0.5)
@@ -199,7 +218,7 @@ def test_a_quantile_is_that_of_the_list(counts):
 
 @FEW
 @given(st.integers(20, 400), st.data())
-def test_guaranteed_claims_have_their_certificates(many, data):
+def test_guaranteed_claims_have_their_certificates(many: int, data: st.DataObject) -> None:
     ones = data.draw(st.integers(1, many))
     q, d = 10**6, 40
     claim = by_count(many, ones, q, d)
@@ -207,19 +226,13 @@ def test_guaranteed_claims_have_their_certificates(many, data):
     assert claim["r"] / q <= ones / many
     weaker = by_total(many, 1, ones, q, d)
     assert weaker is None or weaker["r"] <= claim["r"] + 1
-    low, high = rounded_out(*(share for share in (_fraction(claim["r"], q), _fraction(ones, many))))
+    low, high = rounded_out(*(share for share in (Fraction(claim["r"], q), Fraction(ones, many))))
     assert low <= claim["r"] / q + 1e-12 and high >= ones / many - 1e-12
-
-
-def _fraction(one, other):
-    from fractions import Fraction
-
-    return Fraction(one, other)
 
 
 @FEW
 @given(st.integers(0, 2**63), st.integers(1, 10**6))
-def test_blocks_are_all_streams_once(first, count):
+def test_blocks_are_all_streams_once(first: int, count: int) -> None:
     blocks = blocks_of(first, count, size_of(count))
     assert blocks[0][0] == first and sum(many for _, many in blocks) == count
     assert all(begin + many == other for (begin, many), (other, _) in zip(blocks, blocks[1:]))
@@ -228,7 +241,7 @@ def test_blocks_are_all_streams_once(first, count):
 
 @FEW
 @given(st.integers(1, 500), st.data())
-def test_a_share_without_unknown_ones_is_probability(many, data):
+def test_a_share_without_unknown_ones_is_probability(many: int, data: st.DataObject) -> None:
     count = data.draw(st.integers(0, many))
     unknown = data.draw(st.integers(0, many - count))
     found = share_of(count, many, unknown)

@@ -4,21 +4,30 @@ textbook has it, apart from the file, and solved; samples of the built program h
 import collections
 import math
 import re
+import types
+from collections.abc import Callable, Iterator
+from typing import Any
 
 import numpy
+import pandas
 import pytest
 from conftest import TOP
 from solving import law_of
 
 from psi_tools.model.networks import Network
 
+# A state of a model, what may come next with its rate, the model, and the state of the file that stands for one.
+State = Any
+Moves = Iterator[tuple[int, State]]
+Model = Callable[[State], Moves]
+Meant = Callable[[State], tuple[int, ...]]
 PART = re.compile(r"^## ([^\n]*)$|^```toml\n(.*?)^```\n", re.M | re.S)
 SAMPLES, CLOSED, ERRORS = 4_000, 200, 4
 
 
-def recipes():
+def recipes() -> Iterator[tuple[str, str]]:
     """The recipes of the document: the heading, and the file."""
-    heading = None
+    heading = ""
     for found in PART.finditer((TOP / "docs/RECIPES.md").read_text()):
         if found[2] is None:
             heading = found[1]
@@ -29,12 +38,12 @@ def recipes():
 # Each model: where it starts, and of each state what may come next, at which rate.
 
 
-def many_servers(n):
+def many_servers(n: int) -> Moves:
     yield 60, n + (n < 72)
     yield min(n, 67), max(n - 1, 0)
 
 
-def priority(state):
+def priority(state: State) -> Moves:
     urgent, other = state
     at_urgent = min(urgent, 3)
     at_other = min(other, 3 - at_urgent)
@@ -44,7 +53,7 @@ def priority(state):
     yield 2 * at_other, (urgent, other - 1)
 
 
-def shared(state):
+def shared(state: State) -> Moves:
     first, second = state
     if first + second < 8:
         yield 3, (first + 1, second)
@@ -54,7 +63,7 @@ def shared(state):
     yield 2 * (second > 0), (first, second - 1)
 
 
-def polling(state):
+def polling(state: State) -> Moves:
     """The state: both queues, where the server is or goes to, and whether it walks."""
     held, place, walks = state[:2], state[2], state[3]
     for queue, rate in enumerate((2, 1)):
@@ -72,7 +81,7 @@ def polling(state):
         yield 6, (*held, 1 - place, True)
 
 
-def retrial(state):
+def retrial(state: State) -> Moves:
     lines, orbit = state
     if lines < 2:
         yield 6, (lines + 1, orbit)
@@ -82,14 +91,14 @@ def retrial(state):
     yield 4 * lines, (lines - 1, orbit)
 
 
-def modulated(state):
+def modulated(state: State) -> Moves:
     is_busy, n = state
     yield 3 if is_busy else 1, (not is_busy, n)
     yield 8 if is_busy else 2, (is_busy, min(n + 1, 8))
     yield 5 * (n > 0), (is_busy, n - 1)
 
 
-def stock(state):
+def stock(state: State) -> Moves:
     """The state: what is there, and what is ordered."""
     here, ordered = state
     if here:
@@ -98,7 +107,7 @@ def stock(state):
         yield 1, (here + ordered, 0)
 
 
-def n_policy(state):
+def n_policy(state: State) -> Moves:
     is_on, jobs = state
     more = min(jobs + 1, 9)
     yield 3, (is_on or more == 4, more)
@@ -106,12 +115,12 @@ def n_policy(state):
         yield 4, (jobs > 1, jobs - 1)
 
 
-def repair(broken):
+def repair(broken: int) -> Moves:
     yield 6 - broken, broken + 1
     yield 4 * min(broken, 2), broken - 1
 
 
-def round_robin(state):
+def round_robin(state: State) -> Moves:
     first, second, is_seconds = state
     if is_seconds:
         yield 5, (first, min(second + 1, 5), False)
@@ -138,7 +147,7 @@ MODELS = [
 ]
 
 
-def solved(model, first):
+def solved(model: Model, first: State) -> dict[State, float]:
     """The law of a model: the probability of each state that is reached."""
     states, place = [first], {first: 0}
     moves = []
@@ -158,7 +167,7 @@ def solved(model, first):
     return dict(zip(states, law))
 
 
-def test_each_recipe_has_a_model():
+def test_each_recipe_has_a_model() -> None:
     assert len([*recipes()]) == len(MODELS)
 
 
@@ -167,9 +176,11 @@ NAMES = [f"{case[0]}-{case[2].__name__}-{case[5]}" for case in CASES]
 
 
 @pytest.mark.parametrize("name, text, model, first, meant, total", CASES, ids=NAMES)
-def test_the_law_is_that_of_the_model(psi, name, text, model, first, meant, total):
+def test_the_law_is_that_of_the_model(
+    psi: types.SimpleNamespace, name: str, text: str, model: Model, first: State, meant: Meant, total: int | None
+) -> None:
     net = Network.parse(text)
-    wanted = collections.Counter()
+    wanted: dict[tuple[int, ...], float] = collections.defaultdict(float)
     for state, probability in solved(model, first).items():
         wanted[meant(state)] += probability
     for state, probability in zip(*law_of(net, total)):
@@ -178,7 +189,9 @@ def test_the_law_is_that_of_the_model(psi, name, text, model, first, meant, tota
 
 
 @pytest.mark.parametrize("name, text, model, first, meant, total", CASES, ids=NAMES)
-def test_samples_have_the_means_of_the_model(psi, name, text, model, first, meant, total):
+def test_samples_have_the_means_of_the_model(
+    psi: types.SimpleNamespace, name: str, text: str, model: Model, first: State, meant: Meant, total: int | None
+) -> None:
     net = Network.parse(text)
     law = solved(model, first)
     states, weights = numpy.array([meant(state) for state in law]), numpy.array([*law.values()])
@@ -193,7 +206,7 @@ def test_samples_have_the_means_of_the_model(psi, name, text, model, first, mean
         assert abs(sampled - mean) <= ERRORS * error, (name, queue)
 
 
-def means_of_report(report, net, many):
+def means_of_report(report: pandas.DataFrame, net: Network, many: int) -> list[float]:
     """The mean of each queue in a report of streams that are all met."""
     value = report.set_index(["item", "name"])["value"]
     assert value["met", "-"] == many

@@ -1,15 +1,18 @@
 """Each file of the cases that psi refuses is refused by every tool that reads networks, by one
 line; and an answer that fits on no disk is told. The tools are called in this process."""
 
+import pathlib
 import re
 import resource
 import signal
 import subprocess
+from collections.abc import Iterator
 
-from generate import case_files
 import pytest
-from conftest import SECONDS, TOP
+from conftest import SECONDS, TOP, Tool
+from generate import case_files
 
+from psi_tools.cli.command import run
 from psi_tools.cli import closed_report, law, many, mean_values, page, plot, sweep, where, why
 
 NET = TOP / "examples/single-server.toml"
@@ -42,7 +45,9 @@ WRITES = {
 
 
 @pytest.fixture
-def here(environment, tmp_path, monkeypatch):
+def here(
+    environment: dict[str, str], tmp_path: pathlib.Path, monkeypatch: pytest.MonkeyPatch
+) -> Iterator[pathlib.Path]:
     """A folder of its own, with psi on the PATH; in the end signals are handled as before."""
     monkeypatch.chdir(tmp_path)
     monkeypatch.setenv("PATH", environment["PATH"])
@@ -53,7 +58,7 @@ def here(environment, tmp_path, monkeypatch):
         signal.signal(one, handler)
 
 
-def refused():
+def refused() -> list[bytes]:
     """The networks of the cases that psi refuses, each once."""
     found = {}
     for file in sorted(case_files.DATA.glob("*.cases")):
@@ -63,14 +68,15 @@ def refused():
     return list(found)
 
 
+@pytest.mark.slow
 @pytest.mark.parametrize("name", CALLS)
-def test_refused_files(here, capsys, name):
+def test_refused_files(here: pathlib.Path, capsys: pytest.CaptureFixture[str], name: str) -> None:
     tool, words = CALLS[name]
     files = refused()
     assert len(files) > 40
     for data in files:
         (here / "net.toml").write_bytes(data)
-        status = tool.main([word.format("net.toml") for word in words])
+        status = run(tool.COMMAND, tool.work, [word.format("net.toml") for word in words])
         out, error = capsys.readouterr()
         assert status == (2 if name == "psi-plot" else 3) and out == "", (data, status)
         line = rf"{name}: (net\.toml: )?network refused [^\n]*\n"
@@ -79,11 +85,11 @@ def test_refused_files(here, capsys, name):
 
 
 @pytest.mark.parametrize("name", WRITES)
-def test_an_answer_that_fits_on_no_disk(here, capsys, name):
+def test_an_answer_that_fits_on_no_disk(here: pathlib.Path, capsys: pytest.CaptureFixture[str], name: str) -> None:
     tool, words = WRITES[name]
     for ending in ("", ".svg"):
         (here / f"full{ending}").symlink_to("/dev/full")
-    status = tool.main([str(word).format("full") for word in words])
+    status = run(tool.COMMAND, tool.work, [str(word).format("full") for word in words])
     out, error = capsys.readouterr()
     assert (status, out) == (7, ""), error
     last = error.splitlines()[-1]
@@ -91,7 +97,7 @@ def test_an_answer_that_fits_on_no_disk(here, capsys, name):
 
 
 @pytest.mark.parametrize("name", ["psi-law", "psi-sweep", "psi-why", "psi-many"])
-def test_files_that_take_no_more(tool, environment, tmp_path, name):
+def test_files_that_take_no_more(tool: Tool, environment: dict[str, str], tmp_path: pathlib.Path, name: str) -> None:
     words = [str(word).format("answer") for word in WRITES[name][1]]
     done = subprocess.run(
         [TOP / "tools" / name, *words],

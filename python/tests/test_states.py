@@ -1,26 +1,35 @@
 """Tables of samples: psi.states, and what psi.samples and psi.closed take of them, beside psi itself."""
 
+import pathlib
 import re
 import shutil
 import subprocess
+import types
 import warnings
+from collections.abc import Callable
+from typing import Any
 
+import numpy
 import pandas
 import pytest
-from conftest import TOP
+from conftest import TOP, rows_in
 
 import psi as module
+from psi_tools.draw.law import Samples
 from psi_tools.draw.program import companion_of
-from psi_tools.draw.states import drawing, states_of
 from psi_tools.errors import PsiError
+from psi_tools.io.columns import Columns
 from psi_tools.io.samples import rows_of
+from psi_tools.io.terminal import Bar
 from psi_tools.model.networks import Network, header_of, values_of
 
 EXAMPLES = TOP / "examples"
 LAST = 2**64 - 1
 
 
-def sample_said(program, command, file, seed, stream, *total):
+def printed_sample(
+    program: str, command: str, file: pathlib.Path, seed: int, stream: int, *total: int
+) -> tuple[int, list[int]] | None:
     """The horizon and the state that psi prints of one stream; none where it isn't coupled."""
     words = [program, command, file, seed, stream, *total]
     done = subprocess.run([*map(str, words)], capture_output=True, text=True)
@@ -31,17 +40,14 @@ def sample_said(program, command, file, seed, stream, *total):
     return int(found[1]), [*map(int, found[2].split(","))]
 
 
-def rows_said(program, command, file, seed, streams, *total):
+def rows_said(
+    program: str, command: str, file: pathlib.Path, seed: int, streams: range, *total: int
+) -> list[list[int | None]]:
     """The rows of a table, by what psi prints of each stream and the guide's rules of rewards."""
     net = Network.read(file)
-    empty = [None] * (1 + len(net.queues) + len(net.rewards))
-    said = [sample_said(program, command, file, seed, stream, *total) for stream in streams]
-    return [[one[0], *one[1], *values_of(net, one[1])] if one else empty for one in said]
-
-
-def rows_in(table):
-    """The rows of a table without their streams, with None for what is missing."""
-    return [[None if value is pandas.NA else int(value) for value in row[1:]] for row in table.itertuples(index=False)]
+    empty: list[int | None] = [None] * (1 + len(net.queues) + len(net.rewards))
+    printed = [printed_sample(program, command, file, seed, stream, *total) for stream in streams]
+    return [[one[0], *one[1], *values_of(net, one[1])] if one else empty for one in printed]
 
 
 @pytest.mark.parametrize(
@@ -54,34 +60,36 @@ def rows_in(table):
         ("first", 1, 9, 1),
     ),
 )
-def test_rows_are_what_psi_samples(psi, program, name, seed, first, count):
+def test_rows_are_what_psi_samples(
+    psi: types.SimpleNamespace, program: str, name: str, seed: int, first: int, count: int
+) -> None:
     file, streams = EXAMPLES / f"{name}.toml", range(first, first + count)
     table, net = psi.states(file, seed, first, count), Network.read(file)
     wanted = rows_said(program, "sample", file, seed, streams)
     queues, rewards = [f"queue.{queue}" for queue in net.queues], [f"reward.{reward}" for reward in net.rewards]
     assert [*table.columns] == ["stream", "horizon", *queues, *rewards]
     assert table["stream"].tolist() == [*streams]
-    assert rows_in(table) == wanted
+    assert rows_in(table.iloc[:, 1:]) == wanted
     assert psi.samples(file, seed, first, count).tolist() == [row[1 : 1 + len(queues)] for row in wanted]
 
 
-def test_rows_are_what_psi_samples_of_a_closed_network(psi, program):
+def test_rows_are_what_psi_samples_of_a_closed_network(psi: types.SimpleNamespace, program: str) -> None:
     file = EXAMPLES / "central-server.toml"
     wanted = rows_said(program, "closed", file, 2, range(4, 16), 6)
     table = psi.states(file, 2, 4, 12, total=6)
-    assert rows_in(table) == wanted
+    assert rows_in(table.iloc[:, 1:]) == wanted
     assert (table[["queue.cpu", "queue.disk", "queue.drum"]].sum(axis=1) == 6).all()
     assert psi.closed(file, 6, 2, 4, 12).tolist() == [row[1:4] for row in wanted]
 
 
-def test_a_stream_that_is_not_coupled_keeps_its_row(psi, program):
+def test_a_stream_that_is_not_coupled_keeps_its_row(psi: types.SimpleNamespace, program: str) -> None:
     file = EXAMPLES / "short-past.toml"
     wanted = rows_said(program, "sample", file, 0, range(60))
     lost = [row[0] is None for row in wanted]
     assert 0 < sum(lost) < 60
     with pytest.warns(psi.Uncoupled, match=f"^{sum(lost)} of 60 streams weren't coupled"):
         table = psi.states(file, count=60)
-    assert rows_in(table) == wanted
+    assert rows_in(table.iloc[:, 1:]) == wanted
     assert table["stream"].tolist() == [*range(60)]
     assert [*table["queue.desk"].isna()] == [*table["reward.full"].isna()] == lost
     assert psi.samples(file, count=60, keep=True)[:, 0].tolist() == [-1 if row[0] is None else row[1] for row in wanted]
@@ -92,12 +100,12 @@ def test_a_stream_that_is_not_coupled_keeps_its_row(psi, program):
     met, unmet = lost.index(False), lost.index(True)
     with warnings.catch_warnings():
         warnings.simplefilter("error")
-        assert rows_in(psi.states(file, first=met, count=1)) == [wanted[met]]
+        assert rows_in(psi.states(file, first=met, count=1).iloc[:, 1:]) == [wanted[met]]
     with pytest.warns(psi.Uncoupled):
-        assert rows_in(psi.states(file, first=unmet, count=1)) == [wanted[unmet]]
+        assert rows_in(psi.states(file, first=unmet, count=1).iloc[:, 1:]) == [wanted[unmet]]
 
 
-def test_processes_make_no_difference(program):
+def test_processes_make_no_difference(program: str) -> None:
     with pytest.warns(module.Uncoupled):
         one, four = (
             module.states(EXAMPLES / "short-past.toml", 1, 3, 333, program=module.Program(program, jobs))
@@ -107,7 +115,7 @@ def test_processes_make_no_difference(program):
     assert len(one) == 333
 
 
-def test_types_are_as_narrow_as_capacities(psi):
+def test_types_are_as_narrow_as_capacities(psi: types.SimpleNamespace) -> None:
     net = psi.Network()
     capacities = {"a": 127, "b": 128, "c": 32_767, "d": 32_768}
     for name, capacity in capacities.items():
@@ -123,7 +131,7 @@ def test_types_are_as_narrow_as_capacities(psi):
     assert psi.samples(EXAMPLES / "tandem-blocking.toml", count=2).dtype == "int8"
 
 
-def test_what_is_refused(psi, tmp_path):
+def test_what_is_refused(psi: types.SimpleNamespace, tmp_path: pathlib.Path) -> None:
     net = psi.Network().queue("a", 0)
     with pytest.raises(psi.Refused) as fault:
         psi.states(net, count=1)
@@ -145,9 +153,12 @@ def test_what_is_refused(psi, tmp_path):
             psi.states(opened, **words)
 
 
-def test_the_program_is_looked_for_beside_psi_first(program, tmp_path, monkeypatch):
+def test_the_program_is_looked_for_beside_psi_first(
+    program: str, tmp_path: pathlib.Path, monkeypatch: pytest.MonkeyPatch
+) -> None:
     own, link = tmp_path / "own", tmp_path / "link"
-    own.mkdir(), link.mkdir()
+    own.mkdir()
+    link.mkdir()
     shutil.copy(program, own / "psi")
     (link / "psi").symlink_to(own / "psi")
     monkeypatch.setattr("psi_tools.draw.program.TOP", tmp_path)
@@ -163,7 +174,7 @@ def test_the_program_is_looked_for_beside_psi_first(program, tmp_path, monkeypat
         module.states(EXAMPLES / "first.toml", program=psi)
 
 
-def test_a_text_that_is_no_such_table():
+def test_a_text_that_is_no_such_table() -> None:
     net = Network.read(EXAMPLES / "short-past.toml")
     head = "stream,horizon,queue.desk,reward.full\n"
     assert head == ",".join(header_of(net)) + "\n"
@@ -176,25 +187,55 @@ def test_a_text_that_is_no_such_table():
         head + "7,64,2,0\n9,,,\n",
         head + "8,,,\n7,64,2,0\n",
         head + "7,64,2\n8,,,\n",
+        head + "7,64,2,0,8\n,,\n",
+        head + "07,64,2,0\n8,,,\n",
+        head + "7,64,2,0\n8,,,\n9",
         head + "7,64,2,0\n8,,,\n9,,,\n",
     ):
-        with pytest.raises(PsiError, match="^psi_states printed no "):
-            rows_of(header_of(net), text, 7, 2)
+        readers: tuple[Callable[..., object], ...] = (rows_of, Columns)
+        for reader in readers:
+            with pytest.raises(PsiError, match="^psi_states printed no "):
+                reader(header_of(net), text, 7, 2)
 
 
-def test_a_bar_is_told_of_each_block(program):
-    net, told = Network.read(EXAMPLES / "first.toml"), []
-    psi = module.Program(program, 2)
-    rows = states_of(psi, drawing(psi, net, 0), [(0, 3), (3, 2)], told.append)
-    assert told == [1, 2]
-    assert len(rows) == 5
+@pytest.mark.parametrize("first", [7, 10**18 - 1, 2**64 - 3])
+def test_columns_are_those_of_the_rows(first: int) -> None:
+    names = ["stream", "horizon", "queue.desk", "reward.full"]
+    lines = [f"{first},4194304,0,-9", f"{first + 1},,,", f"{first + 2},1,65535,{10**18 - 1}"]
+    table = Columns(names, "".join(f"{line}\n" for line in [",".join(names), *lines]), first, 3)
+    assert table.is_met.tolist() == [True, False, True]
+    assert [table.column(name).tolist() for name in names[1:]] == [[4194304, 1], [0, 65535], [-9, 10**18 - 1]]
 
 
-def test_states_without_psi_states(program, tmp_path, monkeypatch):
+@pytest.mark.parametrize("row", ["64,x,0", "64,,0", "64,2-,0", "64,-,0", "64, 2,0", f"64,{10**18},0", "64,²,0"])
+def test_what_is_no_number_is_refused(row: str) -> None:
+    table = Columns(
+        ["stream", "horizon", "queue.desk", "reward.full"], f"stream,horizon,queue.desk,reward.full\n7,{row}\n", 7, 1
+    )
+    assert table.column("horizon").tolist() == [64]
+    with pytest.raises(PsiError, match="^psi_states printed no numbers"):
+        table.column("queue.desk")
+
+
+def test_a_bar_is_told_of_each_block(program: str) -> None:
+    reported: list[int] = []
+
+    class Recorded(Bar):
+        """A bar that records what it is shown."""
+
+        def show(self, done: int) -> None:
+            reported.append(done)
+
+    net = Network.read(EXAMPLES / "single-server.toml")
+    law = Samples(module.Program(program, 2), net, count=8, progress=Recorded).law("desk")
+    assert reported == [1, 2, 3, 4] and law.known == 8
+
+
+def test_states_without_psi_states(program: str, tmp_path: pathlib.Path, monkeypatch: pytest.MonkeyPatch) -> None:
     """Where psi_states is not built, arrays are the same, and a table is refused."""
     alone = tmp_path / "psi"
     shutil.copy(program, alone)
-    draws = [
+    draws: list[Callable[[module.Program], numpy.ndarray[Any, Any]]] = [
         lambda one: module.samples(EXAMPLES / "tandem-blocking.toml", count=20, program=one),
         lambda one: module.closed(EXAMPLES / "central-server.toml", 2, count=20, program=one),
         lambda one: module.samples(EXAMPLES / "short-past.toml", count=9, keep=True, program=one),

@@ -1,50 +1,41 @@
 """psi-sweep: the same words choose the same events, and differences are told by few samples."""
 
 import json
+import pathlib
+from typing import Any
 
 import pytest
+from conftest import Tool
 from solving import means_of
 
 from psi_tools.model.designs import aligned, common_events, designs_of, check_bounds
 from psi_tools.model.networks import Network
 from psi_tools.errors import PsiError
 
-CALLS = """version = 1
-[[queue]]
-name = "calls"
-capacity = 12
-servers = 3
-[[event]]
-name = "ring"
-kind = "arrival"
-rate = 5
-to = ["calls"]
-[[event]]
-name = "answer"
-kind = "service"
-rate = 2
-from = "calls"
-[[reward]]
-name = "full"
-kind = "above"
-queues = ["calls"]
-level = 11
-"""
+CALLS = (
+    Network()
+    .queue("calls", 12, 3)
+    .event("ring", "arrival", 5, to=["calls"])
+    .event("answer", "service", 2, source="calls")
+    .reward("full", "above", ["calls"], level=11)
+    .toml()
+)
 
 
 @pytest.fixture
-def net(tmp_path):
+def net(tmp_path: pathlib.Path) -> str:
     (tmp_path / "calls.toml").write_text(CALLS)
     return "calls.toml"
 
 
-def rows_of(tool, net, *words):
+def rows_of(tool: Tool, net: str, *words: object) -> list[dict[str, Any]]:
     status, out, error = tool("psi-sweep", net, *words, "--format", "json")
     assert (status, error) == (0, "")
-    return json.loads(out)["rows"]
+    rows: list[dict[str, Any]] = json.loads(out)["rows"]
+    return rows
 
 
-def test_events_have_the_same_numbers_in_all_designs():
+def test_events_have_the_same_numbers_in_all_designs() -> None:
     words = ["ring.rate=5,6", "calls.servers=2,3"]
     keys, designs, scale, short = designs_of(words, Network.parse(CALLS))
     assert (keys, scale, short) == ([("ring", "rate"), ("calls", "servers")], 1, [])
@@ -58,7 +49,7 @@ def test_events_have_the_same_numbers_in_all_designs():
         assert (sum(total[:place]), sum(total[place:])) == (6, 6)
 
 
-def test_where_there_is_no_room_for_idle_events_it_says_why():
+def test_where_there_is_no_room_for_idle_events_it_says_why() -> None:
     net = Network.parse(CALLS)
     for number in range(15):
         net.event(f"more-{number}", "service", 2**20, source="calls")
@@ -73,14 +64,14 @@ def test_where_there_is_no_room_for_idle_events_it_says_why():
     assert why == "the rates of all designs together would add up to more than 16,777,216"
 
 
-def test_rates_with_a_point_are_made_whole():
+def test_rates_with_a_point_are_made_whole() -> None:
     _, designs, scale, _ = designs_of(["ring.rate=5,5.25"], Network.parse(CALLS))
     assert scale == 100
     rates = [[event["rate"] for event in design.net.table["event"]] for design in designs]
     assert rates == [[500, 200], [525, 200]]
 
 
-def test_tables_are_cut_and_rewards_without_a_value_left_out():
+def test_tables_are_cut_and_rewards_without_a_value_left_out() -> None:
     net = Network.parse(CALLS)
     net.reward("waiting", "table", ["calls"], table=[[max(0, n - 3) for n in range(13)]])
     words = ["calls.capacity=10,11", "full.level=9,10"]
@@ -93,11 +84,11 @@ def test_tables_are_cut_and_rewards_without_a_value_left_out():
     assert [design.net.rewards for design in designs] == [["full"]] * 2
 
 
-def test_an_index_without_a_value_is_refused():
+def test_an_index_without_a_value_is_refused() -> None:
     net = Network().queue("a", 2).queue("b", 2)
     net.event("in", "index", 1, to=["a", "b"], table=[[0, 1], [0, 1]])
     assert designs_of(["a.capacity=1,2"], net)[1][0].net.table["event"][0]["table"] == [[0], [0, 1]]
-    with pytest.raises(PsiError, match="in: its table has no index for so many customers in b"):
+    with pytest.raises(PsiError, match="in: its table has no index for that many customers in b"):
         designs_of(["b.capacity=2,3"], net)
 
 
@@ -113,12 +104,12 @@ def test_an_index_without_a_value_is_refused():
         "calls.servers=2,2",
     ],
 )
-def test_words_that_are_not_right(word):
+def test_words_that_are_not_right(word: str) -> None:
     with pytest.raises(PsiError):
         designs_of([word], Network.parse(CALLS))
 
 
-def test_means_are_those_of_each_design(tool, tmp_path, net):
+def test_means_are_those_of_each_design(tool: Tool, tmp_path: pathlib.Path, net: str) -> None:
     rows = rows_of(tool, net, "calls.servers=2,3", "--count", "20000", "--anyway")
     for row in rows:
         solved = Network.parse(CALLS)
@@ -129,7 +120,7 @@ def test_means_are_those_of_each_design(tool, tmp_path, net):
         assert abs(row["mean"] - wanted) < 2 * row["half"]
 
 
-def test_a_tenth_of_the_samples_that_two_seeds_need(tool, net):
+def test_a_tenth_of_the_samples_that_two_seeds_need(tool: Tool, net: str) -> None:
     words = ("ring.rate=5,5.1", "--of", "calls", "--count", "4000")
     first = rows_of(tool, net, *words)
     other = rows_of(tool, net, *words, "--seed", "1")
@@ -139,7 +130,7 @@ def test_a_tenth_of_the_samples_that_two_seeds_need(tool, net):
     assert (apart / together) ** 2 > 10
 
 
-def test_it_goes_on_where_it_was_stopped(tool, tmp_path, net):
+def test_it_goes_on_where_it_was_stopped(tool: Tool, tmp_path: pathlib.Path, net: str) -> None:
     kept = ("--count", "400", "--folder", "kept", "--anyway")
     rows_of(tool, net, "calls.capacity=10,12", *kept)
     before = {file: file.stat().st_mtime_ns for file in (tmp_path / "kept").rglob("*.csv")}
@@ -154,13 +145,13 @@ def test_it_goes_on_where_it_was_stopped(tool, tmp_path, net):
     assert len(after) == len(before) * 3 // 2
 
 
-def test_a_picture(tool, tmp_path, net):
+def test_a_picture(tool: Tool, tmp_path: pathlib.Path, net: str) -> None:
     words = ("calls.servers=2,3,4", "--count", "400", "--picture", "sweep.png", "--anyway")
     assert tool("psi-sweep", net, *words)[0] == 0
     assert (tmp_path / "sweep.png").read_bytes().startswith(b"\x89PNG")
 
 
-def test_more_streams_are_added(tool, tmp_path, net):
+def test_more_streams_are_added(tool: Tool, tmp_path: pathlib.Path, net: str) -> None:
     words = "calls.capacity=10,12", "--anyway", "--folder", "kept", "--count"
     rows_of(tool, net, *words, "400")
     before = {file: file.stat().st_mtime_ns for file in (tmp_path / "kept").rglob("*.csv")}
@@ -175,7 +166,7 @@ def test_more_streams_are_added(tool, tmp_path, net):
 ABANDONMENT = "--arrival 5 --service 2 --places 30 --patience 0.5".split()
 
 
-def solved_abandonment(servers):
+def solved_abandonment(servers: int) -> dict[str, float]:
     """The mean number of calls and of those who wait, by the formula for birth and death."""
     weights = [1.0]
     for number in range(1, 31):
@@ -187,7 +178,7 @@ def solved_abandonment(servers):
     return {"calls": calls, "waiting": waiting}
 
 
-def test_a_sweep_of_servers_is_refused_where_guards_go_by_them(tool, tmp_path):
+def test_a_sweep_of_servers_is_refused_where_guards_go_by_them(tool: Tool, tmp_path: pathlib.Path) -> None:
     for servers in (3, 4):
         words = ("abandonment", *ABANDONMENT, "--servers", servers, "-o", f"{servers}.toml")
         assert tool("psi-new", *words)[0] == 0
@@ -214,22 +205,13 @@ def test_a_sweep_of_servers_is_refused_where_guards_go_by_them(tool, tmp_path):
     assert gap["difference_half"] < apart / 2
 
 
-GUARDED = """version = 2
-[[queue]]
-name = "a"
-capacity = 6
-servers = 2
-[[event]]
-name = "in"
-kind = "arrival"
-rate = 3
-to = ["a"]
-[[event]]
-name = "out"
-kind = "service"
-rate = 2
-from = "a"
-"""
+GUARDED = (
+    Network(version=2)
+    .queue("a", 6, 2)
+    .event("in", "arrival", 3, to=["a"])
+    .event("out", "service", 2, source="a")
+    .toml()
+)
 PARTS = {
     "least": '[[event]]\nkind = "guarded"\nname = "g"\nrate = 1\npart = [{ queue = "a", least = 3, shift = -1 }]\n',
     "most": '[[event]]\nkind = "guarded"\nname = "g"\nrate = 1\npart = [{ queue = "a", most = 3, shift = 1 }]\n',
@@ -243,7 +225,7 @@ PARTS = {
 
 @pytest.mark.parametrize("key", ["servers", "capacity"])
 @pytest.mark.parametrize("part", PARTS)
-def test_what_goes_by_a_queue_is_named(tool, tmp_path, part, key):
+def test_what_goes_by_a_queue_is_named(tool: Tool, tmp_path: pathlib.Path, part: str, key: str) -> None:
     (tmp_path / "net.toml").write_text(GUARDED + PARTS[part])
     values = {"servers": "2,3", "capacity": "5,6"}[key]
     status, out, error = tool("psi-sweep", "net.toml", f"a.{key}={values}")
@@ -255,7 +237,7 @@ def test_what_goes_by_a_queue_is_named(tool, tmp_path, part, key):
     assert tool("psi-sweep", "net.toml", "in.rate=2,3", "--count", "40")[0] == 0
 
 
-def test_what_is_swept_together_is_not_refused():
+def test_what_is_swept_together_is_not_refused() -> None:
     net = Network.parse(GUARDED + PARTS["least"] + PARTS["level"])
     words = ["a.servers=2,3", "g.a.least=3,4", "full.level=4,5"]
     check_bounds(words, net, True, [])
@@ -268,7 +250,7 @@ def test_what_is_swept_together_is_not_refused():
     assert parts == [3, 4]
 
 
-def test_files_with_other_events_have_them_in_one_order():
+def test_files_with_other_events_have_them_in_one_order() -> None:
     nets = [Network().queue("a", 3) for _ in range(3)]
     for net, names in zip(nets, (["x", "z"], ["x", "y", "z"], ["w", "x", "v", "z", "u"])):
         for name in names:
@@ -280,7 +262,7 @@ def test_files_with_other_events_have_them_in_one_order():
         assert places == sorted(places)
 
 
-def test_files_that_are_not_to_be_compared(tool, tmp_path, net):
+def test_files_that_are_not_to_be_compared(tool: Tool, tmp_path: pathlib.Path, net: str) -> None:
     (tmp_path / "same.toml").write_text("# the same\n" + CALLS)
     status, out, error = tool("psi-sweep", net, "calls.capacity=10,12", "same.toml")
     assert (status, out) == (2, "") and "files are compared as they are" in error
@@ -296,7 +278,7 @@ def test_files_that_are_not_to_be_compared(tool, tmp_path, net):
     assert (status, out) == (2, "") and "absent.toml isn't NAME.KEY=VALUES" in error
 
 
-def test_a_folder_has_one_size_of_blocks(tool, tmp_path, net):
+def test_a_folder_has_one_size_of_blocks(tool: Tool, tmp_path: pathlib.Path, net: str) -> None:
     words = "--folder", "kept", "--anyway", "--format", "csv", "--count"
     first = tool("psi-sweep", net, "calls.capacity=10,12", *words, 40_000)
     assert first[0] == 0
@@ -325,7 +307,7 @@ def test_a_folder_has_one_size_of_blocks(tool, tmp_path, net):
     assert status == 2 and "of another call: seed 0, not 1" in error
 
 
-def test_both_ends_are_in_csv_and_text(tool, net):
+def test_both_ends_are_in_csv_and_text(tool: Tool, net: str) -> None:
     words = ("calls.capacity=11,12", "full.level=10,11", "--together", "--count", "400")
     status, out, error = tool("psi-sweep", net, *words, "--format", "csv")
     assert (status, error) == (0, "")
@@ -340,7 +322,7 @@ def test_both_ends_are_in_csv_and_text(tool, net):
     assert " to " in text and " ± " in text
 
 
-def test_rewards_that_are_not_told_may_go_by_the_queue(tool, net):
+def test_rewards_that_are_not_told_may_go_by_the_queue(tool: Tool, net: str) -> None:
     words = (net, "calls.capacity=11,12", "--count", "400")
     assert tool("psi-sweep", *words)[0] == 2
     assert tool("psi-sweep", *words, "--of", "calls")[0] == 0

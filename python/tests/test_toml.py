@@ -27,14 +27,14 @@ FAULTS = {
 
 
 @pytest.mark.skipif(ALONE, reason="the gallery stands beside this folder")
-def test_the_gallery_is_read_as_by_python():
+def test_the_gallery_is_read_as_by_python() -> None:
     files = sorted((TOP / "examples").glob("*.toml"))
     assert len(files) > 20
     for file in files:
         assert plain(toml.read(file.read_bytes())) == tomllib.loads(file.read_text())
 
 
-def test_what_version_1_1_has():
+def test_what_version_1_1_has() -> None:
     text = 'a = { b = 1, # one\n  c = [2,\n 3],\n}\nd = "\\e\\x41\\u00e9"\ne = """\\\n   x"""\n'
     found = toml.read(text.encode())
     assert plain(found) == {"a": {"b": 1, "c": [2, 3]}, "d": "\x1bAé", "e": "x"}
@@ -44,19 +44,19 @@ def test_what_version_1_1_has():
 
 
 @pytest.mark.parametrize("text", FAULTS)
-def test_a_fault_has_its_line(text):
+def test_a_fault_has_its_line(text: str) -> None:
     with pytest.raises(toml.TomlError) as fault:
         toml.read(text.encode())
     assert fault.value.line == FAULTS[text]
 
 
-def test_bytes_that_are_no_text():
+def test_bytes_that_are_no_text() -> None:
     with pytest.raises(toml.TomlError) as fault:
         toml.read(b"a = 1\nb = '\xff'\n")
     assert fault.value.line == 2
 
 
-def test_what_is_written_is_read_again():
+def test_what_is_written_is_read_again() -> None:
     for file in sorted((TOP / "examples").glob("*.toml")):
         net = Network.read(file)
         again = Network.parse(net.toml())

@@ -1,10 +1,12 @@
 """psi-where: the line of each faulty file, and the guide's sentences."""
 
+import pathlib
 import re
+from collections.abc import Iterator
 
-from generate import case_files
 import pytest
-from conftest import TOP
+from conftest import TOP, Tool
+from generate import case_files
 
 from psi_tools.model.refusals import SENTENCES
 from psi_tools.model.where import REFUSED, found_in
@@ -42,7 +44,7 @@ FAULTY = {
 
 
 @pytest.mark.parametrize("name", FAULTY)
-def test_the_line_of_a_fault(tool, tmp_path, name):
+def test_the_line_of_a_fault(tool: Tool, tmp_path: pathlib.Path, name: str) -> None:
     text, line = FAULTY[name]
     (tmp_path / "net.toml").write_text(text)
     status, out, error = tool("psi-where", "net.toml")
@@ -140,30 +142,30 @@ VALUES = {
     "a queue's name": (
         HEAD.replace('"b"', '"my desk"') + EVENT + 'to = ["a"]\n',
         6,
-        "name has 7 signs; 1 to 32 letters, digits, _ and - make a name",
+        "name has 7 characters; 1 to 32 letters, digits, _ and - make a name",
     ),
 }
 
 
 @pytest.mark.parametrize("name", VALUES)
-def test_the_value_of_a_fault_and_what_was_meant(tool, tmp_path, name):
-    text, line, said = VALUES[name]
+def test_the_value_of_a_fault_and_what_was_meant(tool: Tool, tmp_path: pathlib.Path, name: str) -> None:
+    text, line, printed = VALUES[name]
     (tmp_path / "net.toml").write_text(text)
     status, out, error = tool("psi-where", "net.toml")
     assert (status, error) == (3, "")
     lines = out.splitlines()
     assert lines[0] == f"net.toml:{line}: {text.splitlines()[line - 1].strip()}"
-    assert len(lines) == 3 and f"{said})" in lines[1] or f"{said};" in lines[1], out
+    assert len(lines) == 3 and f"{printed})" in lines[1] or f"{printed};" in lines[1], out
     assert lines[2] in SENTENCES.values()
 
 
-def test_a_network_that_is_taken(tool):
+def test_a_network_that_is_taken(tool: Tool) -> None:
     status, out, _ = tool("psi-where", TOP / "examples/first.toml")
     assert status == 0
-    assert out.endswith("first.toml: psi takes it\n")
+    assert out.endswith("first.toml: psi accepts it\n")
 
 
-def test_the_sentences_are_the_guides():
+def test_the_sentences_are_the_guides() -> None:
     guide = (TOP / "docs/FORMATS.md").read_text()
     items = re.findall(r"^- \*\*\d+ `(\w+)`\*\*: (.*?)(?=^- \*\*|^\(17)", guide, re.M | re.S)
     found = {name: " ".join(text.split()) for name, text in items}
@@ -172,17 +174,18 @@ def test_the_sentences_are_the_guides():
     }
 
 
-def faulty_cases():
+def faulty_cases() -> Iterator[tuple[bytes, str]]:
     """The bytes of each network that the cases refuse, and psi's line on it."""
     for file in sorted(case_files.DATA.glob("*.cases")):
         for case in case_files.cases(file.name):
-            said = case.err.decode().strip()
+            printed = case.err.decode().strip()
             # Where standard error takes no more, a case has a front of the line.
-            if REFUSED.fullmatch(said) and case.words[1] in case.files:
-                yield case.files[case.words[1]], said
+            if REFUSED.fullmatch(printed) and case.words[1] in case.files:
+                yield case.files[case.words[1]], printed
 
 
-def test_every_faulty_file_of_the_cases_has_its_line():
+@pytest.mark.slow
+def test_every_faulty_file_of_the_cases_has_its_line() -> None:
     many, without = 0, []
     for data, line in faulty_cases():
         found = found_in(data, line)

@@ -1,70 +1,52 @@
 """psi-why: what keeps states apart is found, and what doesn't isn't."""
 
 import json
+import pathlib
 import tomllib
+import types
 
-from oracle import plain_network
 import pytest
-from conftest import TOP
+from conftest import TOP, Tool
+from oracle import plain_network
 
 from psi_tools.model.classes import closed_classes
 from psi_tools.model.moves import Load, Moves, loads_of
 from psi_tools.model.networks import Network
 from psi_tools.draw.diagnosis import never_met
 
-PAIRS = """version = 2
-limit = 8
-[[queue]]
-name = "nuts"
-capacity = 2
-[[queue]]
-name = "bolts"
-capacity = 2
-[[event]]
-name = "pair"
-kind = "fork"
-rate = 1
-to = ["nuts", "bolts"]
-[[event]]
-name = "screw"
-kind = "join"
-rate = 1
-from = ["nuts", "bolts"]
-"""
-PARITY = """version = 2
-limit = 8
-[[queue]]
-name = "pairs"
-capacity = 5
-[[event]]
-name = "two"
-kind = "guarded"
-rate = 1
-part = [{ queue = "pairs", most = 3, shift = 2 }]
-[[event]]
-name = "gone"
-kind = "guarded"
-rate = 1
-part = [{ queue = "pairs", least = 2, shift = -2 }]
-"""
+PAIRS = (
+    Network(version=2, limit=8)
+    .queue("nuts", 2)
+    .queue("bolts", 2)
+    .event("pair", "fork", 1, to=["nuts", "bolts"])
+    .event("screw", "join", 1, source=["nuts", "bolts"])
+    .toml()
+)
+PARITY = (
+    Network(limit=8)
+    .queue("pairs", 5)
+    .event("two", "guarded", 1, part=[{"queue": "pairs", "most": 3, "shift": 2}])
+    .event("gone", "guarded", 1, part=[{"queue": "pairs", "least": 2, "shift": -2}])
+    .toml()
+)
 
 
-def never_of(text):
+def never_of(text: str) -> list[str]:
     net = Network.parse(text)
     return never_met(net, Moves(net))
 
 
-def test_a_sum_that_is_kept():
+def test_a_sum_that_is_kept() -> None:
     assert never_of(PAIRS) == ["no event changes the sum nuts - bolts: states with other sums never meet"]
 
 
-def test_numbers_that_are_not_left():
-    (said,) = never_of(PARITY)
+def test_numbers_that_are_not_left() -> None:
+    (printed,) = never_of(PARITY)
     wanted = "pairs has 2 sets of numbers that no event leaves, 0 to 4 (3 of them) and 1 to 5"
-    assert said.startswith(wanted)
+    assert printed.startswith(wanted)
 
 
-def test_the_gallery_is_free_but_for_the_closed_one():
+def test_the_gallery_is_free_but_for_the_closed_one() -> None:
     for file in sorted((TOP / "examples").glob("*.toml")):
         net = Network.read(file)
         found = never_met(net, Moves(net))
@@ -72,7 +54,7 @@ def test_the_gallery_is_free_but_for_the_closed_one():
 
 
 @pytest.mark.parametrize("text", [PAIRS, PARITY])
-def test_what_is_told_never_to_couple_does_not(tool, tmp_path, text):
+def test_what_is_told_never_to_couple_does_not(tool: Tool, tmp_path: pathlib.Path, text: str) -> None:
     (tmp_path / "net.toml").write_text(text)
     status, out, _ = tool("psi-why", "net.toml")
     assert status == 1
@@ -81,7 +63,7 @@ def test_what_is_told_never_to_couple_does_not(tool, tmp_path, text):
     assert "\nmet,-,0\n" in report
 
 
-def test_loads():
+def test_loads() -> None:
     net = Network.read(TOP / "examples/call-centre.toml")
     assert loads_of(net) == [Load(5, 6, 0)]
     net = Network.read(TOP / "examples/tandem-blocking.toml")
@@ -89,18 +71,20 @@ def test_loads():
 
 
 @pytest.mark.parametrize("servers, places, load", [(3, 30, 5 / 6), (100, 140, 150 / 200)])
-def test_the_load_counts_each_server_once_and_abandonment_apart(tool, tmp_path, servers, places, load):
+def test_the_load_counts_each_server_once_and_abandonment_apart(
+    tool: Tool, tmp_path: pathlib.Path, servers: int, places: int, load: float
+) -> None:
     arrival = 5 if servers == 3 else 150
     words = f"--arrival {arrival} --service 2 --servers {servers} --places {places} --patience 0.5"
     assert tool("psi-new", "abandonment", *words.split(), "-o", "net.toml")[0] == 0
     [found] = loads_of(Network.read(tmp_path / "net.toml"))
     assert found.load == pytest.approx(load)
     assert found.giving_up / found.arrivals == pytest.approx(0.5 * (places - servers) / arrival)
-    told = json.loads(tool("psi-why", "net.toml", "--format", "json", "--seconds", 1)[1])
-    assert told["loads"][0]["load"] == pytest.approx(load)
+    reported = json.loads(tool("psi-why", "net.toml", "--format", "json", "--seconds", 1)[1])
+    assert reported["loads"][0]["load"] == pytest.approx(load)
 
 
-def test_a_guarded_event_of_a_servers_rate_is_one_more_server():
+def test_a_guarded_event_of_a_servers_rate_is_one_more_server() -> None:
     net = Network(version=2).queue("a", 9, 2)
     net.event("in", "arrival", 5, to=["a"]).event("out", "service", 2, source="a")
     net.event("third", "guarded", 2, part=[{"queue": "a", "least": 3, "shift": -1}])
@@ -109,42 +93,25 @@ def test_a_guarded_event_of_a_servers_rate_is_one_more_server():
 
 # Two queues, and a switch that only turns where both are alike: each of their sums and numbers can
 # be left, and still there are two classes, that of an even and that of an odd state.
-SWAP = """version = 2
-limit = 6
-[[queue]]
-name = "a"
-capacity = 3
-[[queue]]
-name = "b"
-capacity = 3
-[[event]]
-name = "up"
-kind = "guarded"
-rate = 1
-part = [{ queue = "a", most = 2, shift = 1 }, { queue = "b", most = 2, shift = 1 }]
-[[event]]
-name = "down"
-kind = "guarded"
-rate = 1
-part = [{ queue = "a", least = 1, shift = -1 }, { queue = "b", least = 1, shift = -1 }]
-[[event]]
-name = "cross"
-kind = "guarded"
-rate = 1
-part = [{ queue = "a", least = 2, shift = -2 }, { queue = "b", most = 3, floor = 0 }]
-[[event]]
-name = "back"
-kind = "guarded"
-rate = 1
-part = [{ queue = "b", least = 2, shift = -2 }, { queue = "a", floor = 0 }]
-"""
+SWAP = (
+    Network(limit=6)
+    .queue("a", 3)
+    .queue("b", 3)
+    .event("up", "guarded", 1, part=[{"queue": "a", "most": 2, "shift": 1}, {"queue": "b", "most": 2, "shift": 1}])
+    .event(
+        "down", "guarded", 1, part=[{"queue": "a", "least": 1, "shift": -1}, {"queue": "b", "least": 1, "shift": -1}]
+    )
+    .event("cross", "guarded", 1, part=[{"queue": "a", "least": 2, "shift": -2}, {"queue": "b", "most": 3, "floor": 0}])
+    .event("back", "guarded", 1, part=[{"queue": "b", "least": 2, "shift": -2}, {"queue": "a", "floor": 0}])
+    .toml()
+)
 
 
-def test_closed_classes_of_small_networks_are_found(tool, tmp_path, program):
+def test_closed_classes_of_small_networks_are_found(tool: Tool, tmp_path: pathlib.Path, program: str) -> None:
     assert never_of(SWAP) == []
     (tmp_path / "net.toml").write_text(SWAP)
     classes = closed_classes(Network.parse(SWAP))
-    assert len(classes) == 2
+    assert classes is not None and len(classes) == 2
     # Each class is left by no event, as the plain program has them.
     plain = plain_network.Network(tomllib.loads(SWAP))
     for states in classes:
@@ -156,22 +123,22 @@ def test_closed_classes_of_small_networks_are_found(tool, tmp_path, program):
     assert "\nmet,-,0\n" in report
 
 
-def test_what_couples_has_one_closed_class():
+def test_what_couples_has_one_closed_class() -> None:
     for file in sorted((TOP / "examples").glob("*.toml")):
         found = closed_classes(Network.read(file))
         assert found is None or (len(found) == 1) == (file.stem != "central-server"), file
 
 
-def test_horizons_are_those_of_the_report(tool, psi):
-    told = json.loads(tool("psi-why", TOP / "examples/single-server.toml", "--format", "json")[1])
+def test_horizons_are_those_of_the_report(tool: Tool, psi: types.SimpleNamespace) -> None:
+    reported = json.loads(tool("psi-why", TOP / "examples/single-server.toml", "--format", "json")[1])
     report = psi.report(TOP / "examples/single-server.toml", 0, 0, 20)
     rows = report[report["item"] == "horizon"]
     wanted = [[int(name), value] for name, value in zip(rows["name"], rows["value"])]
-    assert told["horizons"][-1][1:] == [20, wanted]
-    assert told["never"] == [] and told["stopped"] is False
+    assert reported["horizons"][-1][1:] == [20, wanted]
+    assert reported["never"] == [] and reported["stopped"] is False
 
 
-def test_single_states_are_told_where_streams_are_not_met(tool, tmp_path):
+def test_single_states_are_told_where_streams_are_not_met(tool: Tool, tmp_path: pathlib.Path) -> None:
     text = (TOP / "examples/longest-queue.toml").read_text()
     (tmp_path / "net.toml").write_text(text.replace("\nsplit = 1\n", "\nsplit = 1\nlimit = 8\n"))
     status, out, _ = tool("psi-why", "net.toml", "--seconds", "60")
@@ -181,7 +148,7 @@ def test_single_states_are_told_where_streams_are_not_met(tool, tmp_path):
     assert "\nwhat may help: a greater limit: 20, or 22 in version 2; the file's is 8\n" in out
 
 
-def test_events_that_are_not_monotone(tool):
+def test_events_that_are_not_monotone(tool: Tool) -> None:
     status, out, _ = tool("psi-why", TOP / "examples/batch-arrivals.toml", "--seconds", "2")
     assert status == 0
     assert "isn't monotone" in out

@@ -5,9 +5,10 @@ import os
 import pathlib
 import re
 import subprocess
+from collections.abc import Sequence
 
 import pytest
-from conftest import SECONDS, TOP
+from conftest import SECONDS, TOP, Tool, match_in
 
 from psi_tools.cli.entry import NAMES
 from psi_tools.cli.completion import SHELLS, completion
@@ -28,17 +29,17 @@ RIGHT = {
 }
 
 
-def side_by_side(tool, name, calls):
+def side_by_side(tool: Tool, name: str, calls: Sequence[Sequence[object]]) -> list[tuple[int, str, str]]:
     """The answers of some calls of a tool, in their order."""
     with concurrent.futures.ThreadPoolExecutor(os.cpu_count()) as pool:
         return [*pool.map(lambda words: tool(name, *words), calls)]
 
 
-def is_one_line(name, error):
+def is_one_line(name: str, error: str) -> bool:
     return re.fullmatch(rf"psi-{name}: [^\n]+\n", error) is not None
 
 
-def files(room):
+def files(room: pathlib.Path) -> list[str]:
     """Files that are no network and no report, each with what it has."""
     found = {
         "empty": b"",
@@ -60,7 +61,7 @@ def files(room):
 
 
 @pytest.mark.parametrize("name", RIGHT)
-def test_files_that_are_not_what_they_should_be(tool, tmp_path, name):
+def test_files_that_are_not_what_they_should_be(tool: Tool, tmp_path: pathlib.Path, name: str) -> None:
     names = files(tmp_path)
     calls = [[word.format(file) for word in RIGHT[name]] for file in names]
     for file, (status, out, error) in zip(names, side_by_side(tool, f"psi-{name}", calls)):
@@ -72,19 +73,27 @@ def test_files_that_are_not_what_they_should_be(tool, tmp_path, name):
 
 
 @pytest.mark.parametrize("name", NAMES)
-def test_words_that_are_not_right(tool, name):
-    calls = [[], ["--no-such-option"], ["--seed"], ["a"] * 9, ["", ""], ["-"], ["--count", "x", "y"]]
+def test_words_that_are_not_right(tool: Tool, name: str) -> None:
+    calls: list[list[object]] = [
+        [],
+        ["--no-such-option"],
+        ["--seed"],
+        ["a"] * 9,
+        ["", ""],
+        ["-"],
+        ["--count", "x", "y"],
+    ]
     for words, (status, out, error) in zip(calls, side_by_side(tool, f"psi-{name}", calls)):
         assert status in (2, 6), (words, status)
         assert out == "" and is_one_line(name, error), (words, error)
 
 
 @pytest.mark.parametrize("name", NAMES)
-def test_help_and_version(tool, name):
+def test_help_and_version(tool: Tool, name: str) -> None:
     status, out, error = tool(f"psi-{name}", "--help")
     assert (status, error) == (0, "")
     assert out.startswith(f"usage: psi-{name} ") and "--version" in out
-    version = re.search(r'^version: "([^"]*)"', (TOP / "CITATION.cff").read_text(), re.M)[1]
+    version = match_in(r'^version: "([^"]*)"', (TOP / "CITATION.cff").read_text(), re.M)[1]
     assert tool(f"psi-{name}", "--version") == (0, f"psi-{name} {version}\n", "")
 
 
@@ -93,7 +102,9 @@ OTHERS = {"mean_values.py": ["{}", "6", "2"], "plotting/closed_report.py": ["{}"
 
 
 @pytest.mark.parametrize("name", OTHERS)
-def test_the_other_tools_end_with_one_line(tool, environment, tmp_path, name):
+def test_the_other_tools_end_with_one_line(
+    tool: Tool, environment: dict[str, str], tmp_path: pathlib.Path, name: str
+) -> None:
     command = pathlib.Path(name).stem
     status, out, error = tool(name, "-h")
     assert (status, error) == (0, "") and out.startswith(f"usage: {command} ")
@@ -115,7 +126,7 @@ def test_the_other_tools_end_with_one_line(tool, environment, tmp_path, name):
     assert done.returncode == 7 and "No space left on device" in done.stderr
 
 
-def test_each_option_says_what_it_does():
+def test_each_option_says_what_it_does() -> None:
     import importlib
 
     from psi_tools.cli.completion import kinds_of, options_of
@@ -123,12 +134,12 @@ def test_each_option_says_what_it_does():
     for name in NAMES:
         reader = importlib.import_module(f"psi_tools.cli.{name}").parser()
         for each in (reader, *(below for below, _ in kinds_of(reader).values())):
-            for options, _, _, said in options_of(each):
-                assert len(said) > 10, (name, options)
+            for options, _, _, printed in options_of(each):
+                assert len(printed) > 10, (name, options)
 
 
 @pytest.mark.parametrize("name", [*RIGHT, "new"])
-def test_a_full_disk(environment, tmp_path, name):
+def test_a_full_disk(environment: dict[str, str], tmp_path: pathlib.Path, name: str) -> None:
     words = [word.format(NET) for word in RIGHT.get(name, [])]
     words = {
         "new": ["mm1k", "--arrival", "1", "--service", "2", "--places", "3"],
@@ -152,7 +163,7 @@ def test_a_full_disk(environment, tmp_path, name):
 
 
 @pytest.mark.parametrize("name", ["many", "law", "sweep", "where", "why", "new", "means"])
-def test_where_it_is_written_is_looked_at_first(tool, tmp_path, name):
+def test_where_it_is_written_is_looked_at_first(tool: Tool, tmp_path: pathlib.Path, name: str) -> None:
     words = [word.format(NET) for word in RIGHT.get(name, [])]
     if name == "new":
         words = ["mm1k", "--arrival", "1", "--service", "2", "--places", "3"]
@@ -161,16 +172,16 @@ def test_where_it_is_written_is_looked_at_first(tool, tmp_path, name):
     assert [*pathlib.Path(tmp_path).iterdir()] == []
 
 
-def test_where_a_picture_is_written_is_looked_at_first(tool, tmp_path):
-    for words in (["forward", NET], ["report", "absent"], ["coupling", "absent"]):
+def test_where_a_picture_is_written_is_looked_at_first(tool: Tool, tmp_path: pathlib.Path) -> None:
+    for words in (("forward", NET), ("report", "absent"), ("coupling", "absent")):
         status, out, error = tool("psi-plot", *words, "-o", "none/picture.svg")
-        said = "-o none/picture.svg can't be written: No such file or directory"
-        assert (status, out, error) == (7, "", f"psi-plot: {said}\n")
+        printed = "-o none/picture.svg can't be written: No such file or directory"
+        assert (status, out, error) == (7, "", f"psi-plot: {printed}\n")
     assert [*tmp_path.iterdir()] == []
 
 
-def test_many_may_look_at_one_place(tmp_path):
-    def look(_):
+def test_many_may_look_at_one_place(tmp_path: pathlib.Path) -> None:
+    def look(_: int) -> None:
         check_writable(str(tmp_path / "answer"))
         assert not (tmp_path / "answer").exists()
 
@@ -180,7 +191,7 @@ def test_many_may_look_at_one_place(tmp_path):
 
 
 @pytest.mark.parametrize(
-    "name, said",
+    "name, printed",
     [
         ("", "No such file or directory"),
         ("new/", "Is a directory"),
@@ -193,18 +204,20 @@ def test_many_may_look_at_one_place(tmp_path):
         ("a\0b", "embedded null byte"),
     ],
 )
-def test_places_that_can_not_be_written(tmp_path, monkeypatch, name, said):
+def test_places_that_can_not_be_written(
+    tmp_path: pathlib.Path, monkeypatch: pytest.MonkeyPatch, name: str, printed: str
+) -> None:
     monkeypatch.chdir(tmp_path)
     (tmp_path / "file").write_text("kept")
     os.symlink("round", "round")
     os.symlink("absent/new", "far")
-    with pytest.raises(PsiError, match=said):
+    with pytest.raises(PsiError, match=printed):
         check_writable(name)
     assert (tmp_path / "file").read_text() == "kept"
     assert {file.name for file in tmp_path.iterdir()} == {"file", "round", "far"}
 
 
-def test_a_link_to_a_new_file_may_be_written(tmp_path):
+def test_a_link_to_a_new_file_may_be_written(tmp_path: pathlib.Path) -> None:
     os.symlink("new", tmp_path / "link")
     check_writable(str(tmp_path / "link"))
     assert [*tmp_path.iterdir()] == [tmp_path / "link"]
@@ -212,7 +225,7 @@ def test_a_link_to_a_new_file_may_be_written(tmp_path):
 
 @pytest.mark.parametrize("shell", SHELLS)
 @pytest.mark.parametrize("name", NAMES)
-def test_completion_is_of_its_shell(tmp_path, shell, name):
+def test_completion_is_of_its_shell(tmp_path: pathlib.Path, shell: str, name: str) -> None:
     text = completion(shell, name)
     assert "--help" in text or "-l help" in text
     (tmp_path / "completion").write_text(text)
@@ -223,7 +236,7 @@ def test_completion_is_of_its_shell(tmp_path, shell, name):
     assert (done.returncode, done.stderr) == (0, b"")
 
 
-def test_completion_in_bash(tmp_path):
+def test_completion_in_bash(tmp_path: pathlib.Path) -> None:
     (tmp_path / "completion").write_text(completion("bash", "law"))
     for words, wanted in (
         (["psi-law", str(TOP / "examples/breakdowns.toml"), ""], ["jobs", "broken", "cost", "full"]),

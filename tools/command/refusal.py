@@ -44,7 +44,7 @@ REJECTED = {
 CAUSES = {"refused": REFUSED, "rejected": REJECTED}
 
 
-def is_plain(path):
+def is_plain(path: str) -> bool:
     """Returns whether a file can be read a second time."""
     try:
         return stat.S_ISREG(pathlib.Path(path).stat().st_mode)
@@ -52,15 +52,17 @@ def is_plain(path):
         return False
 
 
-def of_network(line, path):
+def of_network(line: str, path: str) -> str:
     """Returns what there is to say of a network file."""
     data = read_file(path)
     return text_of(path, data, found_in(data, line))
 
 
-def of_log(line, path):
+def of_log(line: str, path: str) -> str:
     """Returns what there is to say of a log."""
     found = LOG.fullmatch(line)
+    if found is None:
+        raise LookupError(line)
     number, place = int(found[3]), printable(path)
     if number:
         with open(path, "rb") as file:
@@ -69,7 +71,7 @@ def of_log(line, path):
     return f"{place}\n{CAUSES[found[1]][found[2]]}\n"
 
 
-def main(line, *words):
+def main(line: str, *words: str) -> None:
     of = (of_log, words[2:3]) if line.startswith("psi: log ") else (of_network, words[1:2])
     if of[1] and is_plain(of[1][0]):
         sys.stdout.write(of[0](line, of[1][0]))

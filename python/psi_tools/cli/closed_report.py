@@ -1,7 +1,6 @@
 """closed_report.py NET TOTAL COUNT [PSI]: the report of the samples of a closed network."""
 
-from psi_tools.cli.command import run
-from psi_tools.cli.options import Parser, number
+from psi_tools.cli.options import Parser, closed_parser
 from psi_tools.draw.closed import MOST_COUNT, MOST_TOTAL, report_of_text, texts_of
 from psi_tools.draw.program import Program
 from psi_tools.errors import PsiError
@@ -15,16 +14,9 @@ and the seed 0. psi-many with --closed draws other seeds and streams too, and ke
 
 def parser() -> Parser:
     """The parser of the arguments."""
-    parser = Parser(COMMAND, ABOUT)
-    parser.add_argument("net", metavar="NET", help="the file of a closed network")
-    parser.add_argument(
-        "total", metavar="TOTAL", type=number(0, MOST_TOTAL), help=f"how many customers there are, 0 to {MOST_TOTAL}"
+    return closed_parser(
+        COMMAND, ABOUT, MOST_TOTAL, (1, MOST_COUNT), f"the number of streams that are drawn, 1 to {MOST_COUNT:,}"
     )
-    parser.add_argument(
-        "count", metavar="COUNT", type=number(1, MOST_COUNT), help=f"how many streams are drawn, 1 to {MOST_COUNT:,}"
-    )
-    parser.add_argument("psi", metavar="PSI", nargs="?", help="the built program")
-    return parser
 
 
 def work(arguments: list[str]) -> int:
@@ -37,7 +29,3 @@ def work(arguments: list[str]) -> int:
         raise PsiError("psi printed no whole samples", 1)
     write_answer(text.decode())
     return 0
-
-
-def main(arguments: list[str]) -> int:
-    return run(COMMAND, work, arguments)

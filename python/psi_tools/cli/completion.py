@@ -1,4 +1,4 @@
-"""Completion of the commands' words for bash, zsh and fish, made of the readers of their words.
+"""Completion of the commands' arguments for bash, zsh and fish, made from their parsers.
 
     python3 -m psi_tools.cli.completion SHELL COMMAND
 """
@@ -14,7 +14,7 @@ from psi_tools.cli.entry import NAMES
 from psi_tools.io.output import write_answer
 
 SHELLS = "bash", "zsh", "fish"
-# What of an option's or a word's name says that it is a file or a folder.
+# Parts of the names of options and arguments that stand for a file or a folder.
 FILES = ("FILE", "FOLDER", "NET", "REPORT", "PSI", "PROGRAM")
 # The names of the tables of a network file, of one section or several.
 NAMES_OF = (
@@ -32,7 +32,7 @@ SECTIONS = {"law": {2: "queue|reward"}, "sweep": {2: "queue|event"}}
 def options_of(
     parser: argparse.ArgumentParser,
 ) -> Iterator[tuple[Sequence[str], str | None, Iterable[Any] | None, str]]:
-    """The options of a reader: each its names, its value's name, choices, and what it says."""
+    """The options of a reader: each with its names, its value's name, its choices and its help."""
     for action in parser._actions:
         if action.option_strings and action.help is not argparse.SUPPRESS:
             takes = action.nargs != 0
@@ -43,7 +43,7 @@ def options_of(
 
 
 def kinds_of(parser: argparse.ArgumentParser) -> dict[str, tuple[argparse.ArgumentParser, str]]:
-    """The readers below a reader, by their kinds, with what they say."""
+    """The readers below a reader, by their kinds, with their help."""
     for action in parser._actions:
         if isinstance(action, argparse._SubParsersAction):
             description = {choice.dest: choice.help or "" for choice in action._choices_actions}

@@ -1,5 +1,6 @@
 """Where each command begins. This module is read in an instant, so that Ctrl-C is always one line."""
 
+import gc
 import importlib
 import os
 import signal
@@ -8,6 +9,8 @@ from collections.abc import Callable
 from types import FrameType
 
 NAMES = "many", "plot", "means", "law", "sweep", "where", "why", "new", "page"
+# The number of new objects after which the collector of cycles is called.
+SELDOM = 100_000
 
 
 def _stopped(name: str) -> Callable[[int, FrameType | None], None]:
@@ -27,14 +30,18 @@ def start(module: str, name: str) -> int:
     is_default = signal.getsignal(signal.SIGINT) is signal.default_int_handler
     if is_default:
         signal.signal(signal.SIGINT, _stopped(name))
+    # A command is over soon: it looks for cycles of what it no longer needs but seldom.
+    gc.set_threshold(SELDOM)
     try:
-        main = importlib.import_module(f"psi_tools.cli.{module}").main
+        from psi_tools.cli.command import run
+
+        work = importlib.import_module(f"psi_tools.cli.{module}").work
     except OSError as fault:
         os.write(2, f"{name}: {fault.filename}: {fault.strerror}\n".encode())
         return 1
     if is_default:
         signal.signal(signal.SIGINT, signal.default_int_handler)
-    status: int = main(sys.argv[1:])
+    status = run(name, work, sys.argv[1:])
     if is_default:
         signal.signal(signal.SIGINT, _stopped(name))
     return status

@@ -2,9 +2,8 @@
 
 import argparse
 import functools
-from collections.abc import Callable, Sequence
+from collections.abc import Callable
 
-from psi_tools.cli.command import run
 from psi_tools.cli.options import (
     Parser,
     add_form,
@@ -16,8 +15,7 @@ from psi_tools.cli.options import (
     check_picture,
     number,
 )
-from psi_tools.draw.blocks import digest_of
-from psi_tools.draw.law import COUNT, guaranteed_law_of, joint_law_of, law_of, share_where
+from psi_tools.draw.law import COUNT, Samples
 from psi_tools.draw.program import Program
 from psi_tools.errors import PsiError
 from psi_tools.io import tables
@@ -26,9 +24,10 @@ from psi_tools.io.tables import Record
 from psi_tools.io.terminal import Progress, print_note
 from psi_tools.model.networks import Network, checked
 from psi_tools.stats.law import RECORD, SHARED, Joint, Law, Share
+from psi_tools.stats.text import not_coupled
 
 COMMAND, BUILT_BY = "psi-law", "`rt run` in crates/psi_states builds it"
-# So many samples are drawn one by one without a word.
+# Up to this number samples are drawn one by one without a note.
 FEW = 1_000
 # What is found of samples.
 Found = Law | Joint | Share
@@ -45,8 +44,8 @@ the probability of a condition.
     psi-law shop.toml --where 'desk == 0 and till >= 3'
 
 The samples are drawn by psi_states; where that isn't built, one by one by psi sample, which takes
-longer. Where streams weren't coupled this is said first, and each interval is as wide as what they
-might hold makes it. With --guaranteed the coverage of each interval is a theorem."""
+longer. Streams that aren't coupled are reported first, and each interval is as wide as their possible
+values make it. With --guaranteed the coverage of each interval is a theorem."""
 
 
 def parser() -> Parser:
@@ -77,21 +76,15 @@ def parser() -> Parser:
         "--pilot",
         metavar="N",
         type=number(0, 2**20),
-        help="with --guaranteed, how many more streams are drawn that choose the stakes of the "
-        "mean's bets and aren't counted; a twentieth of --count, and 1,000 at most, where it isn't "
-        "given, and with 0 the stakes are those of the range",
+        help="with --guaranteed, the number of further streams that choose the stakes of the mean's bets and "
+        "aren't counted; by default a twentieth of --count, at most 1,000; with 0 the stakes are those of the range",
     )
     return parser
 
 
 def notes_of(found: Found) -> list[str]:
     """What has to be known before a probability is read."""
-    if not found.unknown:
-        return []
-    return [
-        f"NOT COUPLED: {found.unknown:,} of {found.many:,} streams; the probabilities are of the "
-        "others, and biased; the intervals hold what they may change"
-    ]
+    return not_coupled(found.unknown, found.many, "probabilities")
 
 
 def head_of(found: Found, what: str, args: argparse.Namespace) -> list[str]:
@@ -102,11 +95,6 @@ def head_of(found: Found, what: str, args: argparse.Namespace) -> list[str]:
     return [*notes_of(found), f"{head} of seed {args.seed}; {kind} of 95 %"]
 
 
-def ended(lines: list[str]) -> str:
-    """Lines as a text."""
-    return "".join(f"{line}\n" for line in lines)
-
-
 def text_of(law: Law, args: argparse.Namespace) -> str:
     """The answer for people."""
     lines = head_of(law, law.name, args)
@@ -114,35 +102,15 @@ def text_of(law: Law, args: argparse.Namespace) -> str:
     for each in law.records():
         shown = [law.shown(key, each[key]) for key in RECORD[2:]]
         rows.append((each["value"], each["count"], *shown))
-    lines.append(tables.aligned(rows, right=range(8)).rstrip("\n"))
+    lines += tables.aligned(rows, right=range(8))
     lines.append(law.mean_line())
     lines += [] if args.guaranteed else law.remarks()
     rows = [("quantile", law.what, "from", "to")]
     for share, *ends in law.quantiles():
         rows.append((f"{share * 100:g} %", *("-" if end is None else end for end in ends)))
-    lines.append(tables.aligned(rows, right=range(4)).rstrip("\n"))
+    lines += tables.aligned(rows, right=range(4))
     lines += law.remarks() if args.guaranteed else []
-    return ended(lines)
-
-
-def table_of(records: list[Record], columns: Sequence[str]) -> str:
-    """Probabilities for people, behind the values of some columns."""
-    rows: list[tuple[object, ...]] = [(*columns, "samples", "probability", "from", "to")]
-    for each in records:
-        shown = [f"{each[key]:.5f}" for key in SHARED[1:]]
-        rows.append((*(each[column] for column in columns), each["count"], *shown))
-    return tables.aligned(rows, right=range(len(rows[0]))).rstrip("\n")
-
-
-def joint_text_of(joint: Joint, args: argparse.Namespace) -> str:
-    """The answer on several numbers, for people."""
-    head = head_of(joint, ", ".join(joint.columns), args)
-    return ended([*head, table_of(joint.records(), joint.columns)])
-
-
-def share_text_of(share: Share, args: argparse.Namespace) -> str:
-    """The answer on a condition, for people."""
-    return ended([*head_of(share, share.condition, args), table_of([share.record()], ())])
+    return tables.ended(lines)
 
 
 def answer_of(law: Law, args: argparse.Namespace) -> str:
@@ -169,28 +137,29 @@ def answer_of(law: Law, args: argparse.Namespace) -> str:
     )
 
 
-def joint_answer_of(joint: Joint, args: argparse.Namespace) -> str:
-    """The answer on several numbers in the form that is asked."""
-    if args.format == "text":
-        return joint_text_of(joint, args)
+def counted_answer_of(found: Joint | Share, args: argparse.Namespace) -> str:
+    """The answer on several numbers, or on a condition, in the form that is asked for."""
+    named: Record
+    if isinstance(found, Joint):
+        records, columns, named = found.records(), found.columns, {"names": found.columns}
+    else:
+        records, columns, named = [found.record()], [], {"where": found.condition}
     if args.format == "csv":
-        return tables.as_csv(joint.records())
-    drawn: Record = {"samples": joint.many, "unknown": joint.unknown, "notes": notes_of(joint)}
-    return tables.as_json({"names": joint.columns, **drawn, "values": joint.records()})
-
-
-def share_answer_of(share: Share, args: argparse.Namespace) -> str:
-    """The answer on a condition in the form that is asked."""
-    if args.format == "text":
-        return share_text_of(share, args)
-    if args.format == "csv":
-        return tables.as_csv([share.record()])
-    drawn: Record = {"samples": share.many, "unknown": share.unknown, "notes": notes_of(share)}
-    return tables.as_json({"where": share.condition, **drawn, **share.record()})
+        return tables.as_csv(records)
+    if args.format == "json":
+        drawn: Record = {"samples": found.many, "unknown": found.unknown, "notes": notes_of(found)}
+        return tables.as_json({**named, **drawn, **({"values": records} if columns else records[0])})
+    rows: list[tuple[object, ...]] = [(*columns, "samples", "probability", "from", "to")]
+    for each in records:
+        shown = [f"{each[key]:.5f}" for key in SHARED[1:]]
+        rows.append((*(each[column] for column in columns), each["count"], *shown))
+    head = head_of(found, ", ".join(columns) or named["where"], args)
+    return tables.ended([*head, *tables.aligned(rows, right=range(len(rows[0])))])
 
 
 def certificates_of(net: Network, args: argparse.Namespace, law: Law) -> str:
     """The certificates of a guaranteed distribution, as JSON."""
+    from psi_tools.draw.blocks import digest_of
     from psi_tools.stats.guaranteed import file_of
     from psi_tools.stats.guaranteed_rows import GuaranteedLaw
 
@@ -201,10 +170,10 @@ def certificates_of(net: Network, args: argparse.Namespace, law: Law) -> str:
 
 
 def check_args(args: argparse.Namespace) -> None:
-    """Refuses words that don't fit together, and files that can't be written."""
+    """Refuses options that don't fit together, and files that can't be written."""
     check_last_stream(args)
     if not args.names and args.where is None:
-        raise PsiError("a queue or a reward is wanted, or --where with a condition")
+        raise PsiError("a queue or a reward is expected, or --where with a condition")
     if args.names and args.where is not None:
         raise PsiError("--where goes without a queue or a reward")
     for option in ("certificate", "pilot"):
@@ -221,7 +190,7 @@ def check_args(args: argparse.Namespace) -> None:
 def answered(found: Found, args: argparse.Namespace, answer: Callable[[], str]) -> None:
     """Writes an answer, where a stream is coupled."""
     if not found.known:
-        raise PsiError(f"none of {found.many:,} streams is coupled; psi-why tells what may help", 1)
+        raise PsiError(f"none of {found.many:,} streams is coupled; psi-why reports what may help", 1)
     write_answer(answer(), args.out)
     if notes_of(found) and args.format != "text":
         print_note(COMMAND, notes_of(found)[0])
@@ -240,33 +209,25 @@ def write_law(law: Law, net: Network, args: argparse.Namespace) -> str:
 
 
 def work(arguments: list[str]) -> int:
-    # Names may stand behind options, too.
+    # Names may follow options, too.
     args = parser().parse_intermixed_args(arguments)
     check_args(args)
     psi = Program(args.psi, args.jobs)
     net = checked(psi, args.net)
     if args.count > FEW and not psi.has_states():
         print_note(COMMAND, "psi_states isn't built, so psi draws each sample, which takes longer; " + BUILT_BY)
-    progress = functools.partial(Progress, COMMAND)
-    streams = args.seed, args.first, args.count
-    if args.where is not None:
-        share = share_where(psi, net, args.where, *streams, progress)
-        answered(share, args, lambda: share_answer_of(share, args))
-        return 0
-    if len(args.names) > 1:
-        joint = joint_law_of(psi, net, args.names, *streams, args.reward, progress)
-        answered(joint, args, lambda: joint_answer_of(joint, args))
+    samples = Samples(psi, net, args.seed, args.first, args.count, functools.partial(Progress, COMMAND))
+    if args.where is not None or len(args.names) > 1:
+        counted: Joint | Share
+        counted = samples.joint_law(args.names, args.reward) if args.names else samples.share_where(args.where)
+        answered(counted, args, lambda: counted_answer_of(counted, args))
         return 0
     law: Law
     if args.guaranteed:
-        law = guaranteed_law_of(psi, net, args.names[0], *streams, args.reward, progress, args.pilot)
+        law = samples.guaranteed_law(args.names[0], args.reward, args.pilot)
     else:
-        law = law_of(psi, net, args.names[0], *streams, args.reward, progress)
+        law = samples.law(args.names[0], args.reward)
     answered(law, args, lambda: write_law(law, net, args))
     if args.guaranteed and args.format == "csv":
         print_note(COMMAND, law.remarks()[-1])
     return 0
-
-
-def main(arguments: list[str]) -> int:
-    return run(COMMAND, work, arguments)

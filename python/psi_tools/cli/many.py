@@ -1,6 +1,6 @@
 """psi-many NET SEED FIRST COUNT [OPTION..]
 
-Prints the report of any number of streams, as `psi report` would if it took so many: of NET, the
+Prints the report of any number of streams, as `psi report` would if it accepted that many: of NET, the
 seed SEED, and the streams FIRST to FIRST + COUNT - 1. The streams are cut in blocks, which
 `psi report` draws side by side: on this machine or others by GNU parallel, or as a Slurm job array.
 Finished blocks are kept in a folder, so that the same call goes on where it was stopped. With
@@ -14,36 +14,33 @@ but 0 has a line on standard error.
 """
 
 import argparse
-import os
 import pathlib
-import re
 import shlex
 import signal
-import subprocess
 from collections.abc import Iterator
 from typing import NoReturn
 
 from psi_tools.arguments import GREATEST
-from psi_tools.cli.command import run
-from psi_tools.cli.options import Parser, number
+from psi_tools.cli.options import Parser, add_psi, number
 from psi_tools.draw.blocks import MOST_BLOCKS, Folder
+from psi_tools.draw.closed import MOST_TOTAL
 from psi_tools.draw.engines import SHARE, SSH, Here, Hosts, Slurm, Way, run_task
 from psi_tools.draw.many import COMMAND, draw_all, joined, merge
-from psi_tools.draw.program import built_program, companion_of, found_on_path
+from psi_tools.draw.program import Program, built_companion, built_program, companion_of, program_of
+from psi_tools.draw.streams import MOST_STREAMS
 from psi_tools.errors import PsiError
-from psi_tools.io.files import MOST_BYTES
+from psi_tools.io.files import read_file
 from psi_tools.io.output import check_writable, write_answer, write_pieces
+from psi_tools.io.reports import read
 from psi_tools.io.samples import uncoupled_in
 from psi_tools.io.terminal import print_note
 from psi_tools.model.networks import header_of
 from psi_tools.stats.intervals import LEAST_BATCHES
 
-MOST_STREAMS, MOST_TOTAL = 65_536, 256
 MOST_COUNT = MOST_BLOCKS * MOST_STREAMS
-UNCOUPLED = re.compile(rb"^uncoupled,-,(\d+)$", re.M)
-ABOUT = """Prints the report of any number of streams, as psi report would if it took so many. The
+ABOUT = """Prints the report of any number of streams, as psi report would if it accepted that many. The
 streams are cut in blocks, which are drawn side by side; finished blocks are kept in a folder, so
-the same call goes on where it was stopped. psi-means tells the means of such a folder with their
+the same call goes on where it was stopped. psi-means prints the means of such a folder with their
 intervals.
 
     psi-many desk.toml 0 0 1000000 --out desk.csv
@@ -52,7 +49,7 @@ intervals.
 
 
 def merger_of(args: argparse.Namespace, psi: str) -> str | None:
-    """The program that merges: the one that the call says; else psi_merge, which is proved, where
+    """The program that merges: the one that the call names; else psi_merge, which is proved, where
     it stands beside PSI or is built; else none, and merge_reports.py does it.
     """
     if args.merge:
@@ -77,8 +74,7 @@ def parser() -> Parser:
         "-o",
         "--out",
         metavar="FILE",
-        help="where the report is written, under another name until it is whole; standard output "
-        "where it isn't given",
+        help="where the report is written, under another name until it is whole; standard output by default",
     )
     parser.add_argument(
         "--closed",
@@ -96,61 +92,51 @@ def parser() -> Parser:
     parser.add_argument(
         "--merge",
         metavar="PROGRAM",
-        help="the program that merges reports; psi_merge where it is built, else merge_reports.py",
+        help="the program that merges reports; by default psi_merge where it is built, else merge_reports.py",
     )
     return parser
 
 
 def add_blocks(parser: argparse.ArgumentParser) -> None:
-    """The options that say how blocks are drawn and kept."""
+    """The options for how blocks are drawn and kept."""
     parser.add_argument(
-        "--folder",
-        metavar="FOLDER",
-        help="where finished blocks are kept; NET.SEED.FIRST.COUNT.many where it isn't given",
+        "--folder", metavar="FOLDER", help="where finished blocks are kept; NET.SEED.FIRST.COUNT.many by default"
     )
-    parser.add_argument(
-        "--psi",
-        metavar="PSI",
-        default=built_program(),
-        help="the built program; crates/psi/out/psi, or psi on the PATH, where it isn't given",
-    )
+    add_psi(parser, default=built_program())
     parser.add_argument(
         "--block",
         metavar="N",
         type=number(1, MOST_STREAMS),
-        help="streams in a block; such that there are 20 blocks or more where it isn't given",
+        help="the number of streams in a block; by default such that there are 20 blocks or more",
     )
     parser.add_argument(
         "--jobs",
         metavar="N",
         type=number(1, MOST_BLOCKS),
-        help="how many blocks are drawn at once, or how many tasks Slurm has; as many as there are "
-        "processors, or 100 tasks, where it isn't given",
+        help="the number of blocks that are drawn at the same time, or of tasks in Slurm; by default that of the "
+        "processors, or 100 tasks",
     )
 
 
 def add_ways(parser: argparse.ArgumentParser) -> None:
-    """The options that say where blocks are drawn."""
+    """The options for where blocks are drawn."""
     ways = parser.add_mutually_exclusive_group()
     ways.add_argument("--hosts", metavar="FILE", help="draw on the machines of this file, by ssh")
     ways.add_argument("--slurm", action="store_true", help="draw as a Slurm job array")
     parser.add_argument(
-        "--ssh",
-        metavar="COMMAND",
-        default=SSH,
-        help="how machines are reached; by ssh, which asks nothing, where it isn't given",
+        "--ssh", metavar="COMMAND", default=SSH, help="how machines are reached; by default ssh, without any question"
     )
-    parser.add_argument("--sbatch", metavar="OPTIONS", default="", help="more options of sbatch, as one word")
+    parser.add_argument("--sbatch", metavar="OPTIONS", default="", help="more options of sbatch, as one argument")
 
 
 def parse(arguments: list[str]) -> argparse.Namespace:
-    """The words by their meaning."""
+    """The parsed arguments."""
     args = parser().parse_args(arguments)
     for option in (args.ssh, args.sbatch):
         try:
             shlex.split(option)
         except ValueError as fault:
-            raise PsiError(f"{option} isn't a command's words: {fault}") from None
+            raise PsiError(f"{option} isn't a command with its arguments: {fault}") from None
     others = [option for option in ("hosts", "slurm", "merge") if args.states and getattr(args, option)]
     if others:
         raise PsiError(f"--{others[0]} goes without --states: samples are drawn on this machine, and not merged")
@@ -161,53 +147,21 @@ def parse(arguments: list[str]) -> argparse.Namespace:
     return args
 
 
-def read_network(psi: str, path: str) -> bytes:
-    """The bytes of a network that PSI takes; ends the program as PSI does where it doesn't."""
-    try:
-        with open(path, "rb") as file:
-            net = file.read(MOST_BYTES + 1)
-    except OSError:
-        raise PsiError("cannot read network", 6) from None
-    done = subprocess.run([psi, "check", "/dev/stdin"], input=net, capture_output=True)
-    if done.returncode:
-        line = done.stderr.decode(errors="replace").strip()
-        raise PsiError(line.removeprefix("psi: "), done.returncode)
+def network_of(psi: Program, args: argparse.Namespace) -> bytes:
+    """The bytes of a network that psi accepts, and with --closed psi closed, by its first stream."""
+    net = read_file(args.net)
+    psi.ask("check", net)
+    if args.closed is not None:
+        psi.ask("closed", net, args.seed, args.first, args.closed, statuses=(0, 1))
     return net
-
-
-def is_closed(psi: str, net: bytes, args: argparse.Namespace) -> None:
-    """Refuses a network that psi closed doesn't take, by its first stream."""
-    call = [psi, "closed", "/dev/stdin", args.seed, args.first, args.closed]
-    done = subprocess.run([*map(str, call)], input=net, capture_output=True)
-    if done.returncode not in (0, 1):
-        line = done.stderr.decode(errors="replace").strip()
-        raise PsiError(line.removeprefix("psi: "), done.returncode)
-
-
-def program_of(path: str) -> str:
-    """The path of a program, which is there."""
-    found = found_on_path(path)
-    if not found:
-        raise PsiError(f"there is no program {path}")
-    return os.path.abspath(found)
-
-
-def states_program(psi: str) -> str:
-    """The path of psi_states, which is built."""
-    found = companion_of(psi, "psi_states")
-    if not found:
-        raise PsiError("psi_states isn't built, and isn't beside psi; `rt run` in crates/psi_states builds it")
-    return found
 
 
 def blocks_of(args: argparse.Namespace, psi: str) -> tuple[Folder, list[pathlib.Path]]:
     """The folder of the arguments, and the files of all its blocks, once they are drawn."""
     program_of("sbatch" if args.slurm else "parallel")
-    net = read_network(psi, args.net)
-    if args.closed is not None:
-        is_closed(psi, net, args)
+    net = network_of(Program(psi), args)
     engine: type[Hosts] | type[Slurm] | type[Here] = Hosts if args.hosts else Slurm if args.slurm else Here
-    way: Way = engine(args, states_program(psi) if args.states else psi, net)
+    way: Way = engine(args, built_companion(psi, "psi_states") if args.states else psi, net)
     numbers = {"seed": args.seed, "first": args.first, "count": args.count}
     name = "{}.{seed}.{first}.{count}".format(pathlib.Path(args.net).name, **numbers)
     if args.closed is not None:
@@ -235,8 +189,8 @@ def write_report(args: argparse.Namespace, psi: str) -> None:
     folder, files = blocks_of(args, psi)
     text = merge(folder, files, program)
     write_answer(text.decode(), args.out)
-    found = UNCOUPLED.search(text)
-    report_uncoupled(int(found[1]) if found else 0, args, "sums and extremes are of the others, and biased")
+    report = read(text)
+    report_uncoupled(report.samples - report.met, args, "sums and extremes are of the others, and biased")
 
 
 def write_table(args: argparse.Namespace, psi: str) -> None:
@@ -256,7 +210,7 @@ def write_table(args: argparse.Namespace, psi: str) -> None:
 
 
 def report_uncoupled(lost: int, args: argparse.Namespace, more: str) -> None:
-    """Tells of streams that aren't coupled."""
+    """Reports streams that aren't coupled."""
     if lost:
         print_note(COMMAND, f"NOT COUPLED: {lost} of {args.count} streams; {more}")
 
@@ -278,7 +232,3 @@ def work(arguments: list[str]) -> int:
     else:
         write_report(args, psi)
     return 0
-
-
-def main(arguments: list[str]) -> int:
-    return run(COMMAND, work, arguments)

@@ -7,12 +7,12 @@ with half its interval of some 95 %: those of the streams from 0 on and the seed
 import math
 from collections.abc import Sequence
 
-from psi_tools.cli.command import run
-from psi_tools.cli.options import Parser, number
+from psi_tools.cli.options import Parser, closed_parser
 from psi_tools.draw.closed import samples_of, texts_of
 from psi_tools.draw.program import Program
 from psi_tools.errors import PsiError
 from psi_tools.io.output import write_answer
+from psi_tools.io.tables import ended
 from psi_tools.model.networks import checked
 from psi_tools.stats.mean_values import MOST_TOTAL, means_of, rates_of
 
@@ -38,20 +38,8 @@ def estimate(values: Sequence[int]) -> tuple[float, float]:
 
 def parser() -> Parser:
     """The parser of the arguments."""
-    parser = Parser(COMMAND, ABOUT)
-    parser.add_argument("net", metavar="NET", help="the file of a closed network")
-    total = number(0, MOST_TOTAL)
-    parser.add_argument("total", metavar="TOTAL", type=total, help="how many customers there are")
-    parser.add_argument(
-        "count",
-        metavar="COUNT",
-        type=number(0, 2**24),
-        nargs="?",
-        default=0,
-        help="how many samples are drawn; none where it isn't given",
-    )
-    parser.add_argument("psi", metavar="PSI", nargs="?", help="the built program")
-    return parser
+    help_of_count = "the number of samples that are drawn; none by default"
+    return closed_parser(COMMAND, ABOUT, MOST_TOTAL, (0, 2**24), help_of_count, nargs="?", default=0)
 
 
 def work(arguments: list[str]) -> int:
@@ -64,9 +52,5 @@ def work(arguments: list[str]) -> int:
         states = states_of(psi, net.data, args.total, args.count)
         for place, values in enumerate(zip(*states)):
             lines[place] += " {:.3f} ± {:.3f}".format(*estimate(values))
-    write_answer("".join(f"{line}\n" for line in lines))
+    write_answer(ended(lines))
     return 0
-
-
-def main(arguments: list[str]) -> int:
-    return run(COMMAND, work, arguments)

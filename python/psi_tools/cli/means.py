@@ -3,7 +3,6 @@
 import argparse
 
 from psi_tools.arguments import LEAST_LEVEL, MOST_LEVEL
-from psi_tools.cli.command import run
 from psi_tools.cli.options import Parser, add_form, add_guaranteed, add_program, add_streams, check_last_stream, number
 from psi_tools.draw.reports import read_any
 from psi_tools.errors import PsiError
@@ -29,21 +28,21 @@ all reports, so one is enough.
     psi-means desk.toml.0.0.100000.many
 
 With --paths a network is given instead of reports. From the sample of each stream the network runs
-on for so many steps, and the paths' means are the values to which Student's t applies. They are
+on for STEPS steps, and the paths' means are the values to which Student's t applies. They are
 drawn by psi_paths. Each state of a path counts, so a mean takes less time than by samples alone. The
 rates of events are printed, too: how often one changes the state, and how often it is chosen.
 
     psi-means desk.toml --paths 10000
 
-Where streams weren't coupled this is said first: the means are of the others, and biased. The
+Streams that aren't coupled are reported first: the means are of the others, and biased. The
 intervals are as wide as the least and the greatest values make them that these streams may have; a
-folder knows them, and of reports --net tells them."""
-# How many paths are drawn where the call doesn't say it.
+folder has these values, and for reports --net gives them."""
+# The default number of paths.
 PATHS = 100
 
 
 def parse(arguments: list[str]) -> argparse.Namespace:
-    """The words by their meaning."""
+    """The parsed arguments."""
     args = parser().parse_args(arguments)
     if not LEAST_LEVEL <= args.level / 100 <= MOST_LEVEL:
         raise PsiError(f"--level is from {100 * LEAST_LEVEL:g} to {100 * MOST_LEVEL:g}")
@@ -54,14 +53,14 @@ def parse(arguments: list[str]) -> argparse.Namespace:
 
 
 def check_paths(args: argparse.Namespace) -> None:
-    """Refuses words that don't go with --paths, or without it, and says what isn't given."""
+    """Refuses options that don't go with --paths, or without it, and fills in defaults."""
     if args.paths is None:
         for option in ("seed", "first", "count", "total", "pilot", "psi", "jobs"):
             if getattr(args, option) is not None:
                 raise PsiError(f"--{option} goes with --paths")
         return
     if len(args.reports) > 1 or args.net is not None:
-        raise PsiError("--paths is of one network, which is given in the place of reports")
+        raise PsiError("--paths is of one network, which is given instead of reports")
     if args.pilot is not None and not args.guaranteed:
         raise PsiError("--pilot goes with --guaranteed")
     args.seed, args.first = args.seed or 0, args.first or 0
@@ -83,12 +82,12 @@ def parser() -> Parser:
         metavar="PERCENT",
         type=float,
         default=95.0,
-        help="how often an interval holds its mean, in per cent; 95 where it isn't given",
+        help="the confidence level of the intervals, in per cent; 95 by default",
     )
     parser.add_argument(
         "--net",
         metavar="NET",
-        help="the network file of the reports, which tells what each row may be; a folder of psi-many has it",
+        help="the network file of the reports, which gives the range of each row; a folder of psi-many has it",
     )
     add_form(parser)
     add_guaranteed(parser)
@@ -96,7 +95,7 @@ def parser() -> Parser:
         "--paths",
         metavar="STEPS",
         type=number(0, 2**32 - 2**22),
-        help="draw paths of so many steps of the network NET that stands in the place of reports",
+        help="draw paths of this number of steps of the network NET, which is given instead of reports",
     )
     add_streams(parser, PATHS)
     parser.set_defaults(seed=None, first=None, count=None)
@@ -104,21 +103,21 @@ def parser() -> Parser:
         "--total",
         metavar="TOTAL",
         type=number(0, 256),
-        help="with --paths, how many customers there are in a closed network; an open one where it isn't given",
+        help="with --paths, the number of customers in a closed network; an open one by default",
     )
     parser.add_argument(
         "--pilot",
         metavar="N",
         type=number(0, 2**20),
-        help="with --paths and --guaranteed, how many more paths are drawn that choose the stakes of bets and "
-        "aren't counted; a twentieth of --count where it isn't given, and with 0 the stakes are those of the range",
+        help="with --paths and --guaranteed, the number of further paths that choose the stakes of bets and aren't "
+        "counted; a twentieth of --count by default; with 0 the stakes are those of the range",
     )
     add_program(parser)
     return parser
 
 
 def head_of(batches: Batches, level: float, kind: str = "intervals") -> str:
-    """The line of how many samples there are, and of what sort and level the intervals are."""
+    """The line with the number of samples, and with the kind and level of the intervals."""
     samples, count = sum(batches.samples), len(batches.samples)
     state = "all coupled" if not batches.uncoupled else f"{sum(batches.met):,} of them coupled"
     many = "1 batch" if count == 1 else f"{count} batches"
@@ -137,14 +136,14 @@ def text_of(batches: Batches, records: list[Record], notes: list[str], level: fl
         extremes = ["-" if each[end] is None else each[end] for end in ("least", "greatest")]
         shown = figures(mean.mean, mean.half), half_shown(mean), *ends_shown(mean)
         rows.append((kinds[each["item"]], each["name"], *shown, *extremes))
-    lines.append(tables.aligned(rows, right=(2, 4, 5, 6, 7)).rstrip("\n"))
+    lines += tables.aligned(rows, right=(2, 4, 5, 6, 7))
     lines.append("share of the samples that are met at a horizon, or not coupled")
     shares = [("met at", each["name"], share_of(each)) for each in records if is_horizon(each)]
     if batches.uncoupled:
         shares.append(("not coupled", "", share_of(records[0])))
-    lines.append(tables.aligned(shares, right=(1,)).rstrip("\n"))
+    lines += tables.aligned(shares, right=(1,))
     lines += remarks(batches)
-    return "".join(f"{line}\n" for line in lines)
+    return tables.ended(lines)
 
 
 def guaranteed_text_of(records: list[Record], notes: list[str], head: str, d: int) -> str:
@@ -158,14 +157,14 @@ def guaranteed_text_of(records: list[Record], notes: list[str], head: str, d: in
         extremes = ["-" if each[end] is None else each[end] for end in ("least", "greatest")]
         shown = figures(mean.mean, mean.half), *shown_out(mean)
         rows.append((kind, each["name"], *shown, *extremes))
-    table = tables.aligned(rows, right=(2, 3, 4, 5, 6)).rstrip("\n")
-    return "".join(f"{line}\n" for line in [*notes, head, table, misses(d), ASSUMED])
+    table = tables.aligned(rows, right=(2, 3, 4, 5, 6))
+    return tables.ended([*notes, head, *table, misses(d), ASSUMED])
 
 
 def check_guarantee(batches: Batches, wanted: int) -> None:
     """Refuses reports of which nothing is guaranteed."""
     if not batches.spans:
-        raise PsiError("--guaranteed goes by what a row may be in any state, which --net NET tells")
+        raise PsiError("--guaranteed needs the range of each row over all states, which --net NET gives")
     if len(batches.samples) < wanted:
         raise PsiError(
             f"{len(batches.samples)} of {wanted} blocks are finished, and --guaranteed wants a "
@@ -233,7 +232,3 @@ def work(arguments: list[str]) -> int:
     if notes:
         print_note(COMMAND, "; ".join(notes))
     return 0
-
-
-def main(arguments: list[str]) -> int:
-    return run(COMMAND, work, arguments)

@@ -1,4 +1,4 @@
-"""psi-new: a network file from a few words."""
+"""psi-new: a network file from a few arguments."""
 
 import argparse
 import os
@@ -8,7 +8,6 @@ from collections.abc import Callable
 from fractions import Fraction
 from typing import Any, TypeVar
 
-from psi_tools.cli.command import run
 from psi_tools.cli.options import Parser, number
 from psi_tools.draw.program import Program
 from psi_tools.errors import PsiError
@@ -19,7 +18,7 @@ from psi_tools.model import catalog as models
 Value = TypeVar("Value")
 
 COMMAND = "psi-new"
-ABOUT = """Writes a network file from a few words. Rates may be whole numbers, have places behind a
+ABOUT = """Writes a network file from a few arguments. Rates may be whole numbers, have places behind a
 point, or be fractions such as 1/3: they are made whole by a common factor, and how far they are off
 by that, if at all, is told and stands in the file's comment; where one would be off by more than
 1 %, nothing is written. Lists have commas between.
@@ -27,12 +26,12 @@ by that, if at all, is told and stands in the file's comment; where one would be
     psi-new mmck --arrival 190 --service 1 --servers 200 --places 260 -o calls.toml
     psi-new line --arrival 0.8 --service 1,1.2,1 --places 4 -o line.toml
 
-`psi-new KIND --help` tells the options of a kind."""
+`psi-new KIND --help` lists the options of a kind."""
 RATE = re.compile(r"\d{1,9}(?:\.\d{1,9})?(?:/[1-9]\d{0,8})?|\.\d{1,9}")
 WIDTH = 98
 # What the file is called in its comment where its own name isn't of this form, or isn't known.
 NAME, UNNAMED = re.compile(r"[A-Za-z0-9_.-]{1,60}\.toml"), "net.toml"
-# A report of so many streams is shown where the first one is met at such a horizon.
+# A report of this number of streams is shown where the first one coalesces within this horizon.
 SHOWN, MOST_STEPS = 1_000, 8_192
 # By so much of itself a rate may be off without being asked for.
 MOST_OFF = Fraction(1, 100)
@@ -80,7 +79,7 @@ def some(read: Callable[[str], Value]) -> Callable[[str], list[Value]]:
 
 
 PLACES = number(1, 65_535)
-# Of each option its type and what it says.
+# For each option its type, its form and its help.
 OPTIONS: dict[str, tuple[Callable[[str], Any], str, str]] = {
     "arrival": (rate, "R", "the rate at which customers come"),
     "arrivals": (some(rate), "R,R", "the rates at which the classes come; one stands for both"),
@@ -101,7 +100,7 @@ OPTIONS: dict[str, tuple[Callable[[str], Any], str, str]] = {
     "quick": (share, "P", "the probability of a quick service"),
     "again": (share, "P", "the probability that a part goes back"),
 }
-# What an option is called on the command line, where it has another type than its name says.
+# What an option is called on the command line, where its type differs from that of its name.
 CALLED = {
     "arrivals": "arrival",
     "services": "service",
@@ -137,9 +136,7 @@ def parser() -> Parser:
         kind = kinds.add_parser(name, help=model.__doc__)
         for option in options:
             add(kind, option)
-        kind.add_argument(
-            "-o", "--out", metavar="FILE", help="the file that is written; standard output where it isn't given"
-        )
+        kind.add_argument("-o", "--out", metavar="FILE", help="the file that is written; standard output by default")
         kind.add_argument("--psi", metavar="PSI", help="the built program, which has to take the file")
         kind.add_argument(
             "--anyway", action="store_true", help="write the file though a rate is off by more than 1 %% of itself"
@@ -174,7 +171,7 @@ def add(kind: argparse.ArgumentParser, option: str) -> None:
         type=read,
         metavar=form,
         required=is_wanted,
-        help=message + ("" if is_wanted else "; one where it isn't given"),
+        help=message + ("" if is_wanted else "; one by default"),
         **keys,
     )
 
@@ -212,11 +209,11 @@ def shown(args: argparse.Namespace, data: bytes) -> str:
     except PsiError:
         if args.psi:
             raise
-        print_note(COMMAND, "there is no psi that looks at the file; --psi says where it is")
+        print_note(COMMAND, "there is no psi that checks the file; --psi names it")
         return ""
     answer = psi.call("check", data)
     if answer.status:
-        raise PsiError(f"psi doesn't take it: {answer.line.removeprefix('psi: ')}", answer.status)
+        raise PsiError(f"psi refuses it: {answer.line.removeprefix('psi: ')}", answer.status)
     if args.kind == "closed":
         return run_of(psi, args, data, "closed", 0, 0, args.customers)
     sample = run_of(psi, args, data, "sample", 0, 0)
@@ -239,14 +236,10 @@ def run_of(psi: Program, args: argparse.Namespace, data: bytes, command: str, *n
 def work(arguments: list[str]) -> int:
     args = parser().parse_args(arguments)
     if args.kind is None:
-        raise PsiError(f"a kind is wanted: {', '.join(KINDS)}; `psi-new --help` tells more")
+        raise PsiError(f"a kind is expected: {', '.join(KINDS)}; `psi-new --help` lists them")
     check_writable(args.out)
     text, off = text_of(args)
     write_answer(text, args.out)
     if off:
         print_note(COMMAND, f"the rates are rounded: one is off by at most {float(off):.1e} of itself")
     return 0
-
-
-def main(arguments: list[str]) -> int:
-    return run(COMMAND, work, arguments)

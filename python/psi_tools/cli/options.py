@@ -29,7 +29,7 @@ USAGE = 2
 
 
 class Parser(argparse.ArgumentParser):
-    """The reader of a command's words, which tells by one line what is wrong."""
+    """The parser of a command's arguments, which reports in one line what is wrong."""
 
     def __init__(self, command: str, about: str | None, **more: Any) -> None:
         form = argparse.RawDescriptionHelpFormatter
@@ -38,71 +38,83 @@ class Parser(argparse.ArgumentParser):
         self.add_argument("--version", action="version", version=version, help="print the version")
 
     def error(self, message: str) -> NoReturn:
-        raise PsiError(f"{message}; `{self.prog} --help` tells the words", USAGE)
+        raise PsiError(f"{message}; `{self.prog} --help` lists the arguments", USAGE)
 
 
 def number(least: int, most: int) -> Callable[[str], int]:
-    """The type of a word that is a number from `least` to `most`, written as psi takes it."""
+    """The type of an argument that is a number from `least` to `most`, written as psi accepts it."""
 
     def read(word: str) -> int:
         if not NUMBER.fullmatch(word) or len(word) > 20 or not least <= int(word) <= most:
-            raise argparse.ArgumentTypeError(f"a number from {least} to {most} is wanted")
+            raise argparse.ArgumentTypeError(f"a number from {least} to {most} is expected")
         return int(word)
 
     return read
 
 
 def add_streams(parser: argparse.ArgumentParser, count: int) -> None:
-    """The options that say which samples are drawn; `count` is how many where that isn't said."""
+    """The options that choose the samples; `count` is the default number of them."""
     parser.add_argument(
         "--seed",
         metavar="SEED",
         type=number(0, GREATEST),
         default=0,
-        help="the seed of the words, 0 to 2^64 - 1; 0 where it isn't given",
+        help="the seed of the random words, 0 to 2^64 - 1; 0 by default",
     )
     parser.add_argument(
         "--first",
         metavar="STREAM",
         type=number(0, GREATEST),
         default=0,
-        help="the first stream, 0 to 2^64 - 1; 0 where it isn't given",
+        help="the first stream, 0 to 2^64 - 1; 0 by default",
     )
     parser.add_argument(
         "--count",
         metavar="N",
         type=number(1, 2**36),
         default=count,
-        help=f"how many streams are drawn, from the first on; {count:,} where it isn't given",
+        help=f"the number of streams that are drawn, from the first on; {count:,} by default",
     )
+
+
+def add_psi(parser: argparse.ArgumentParser, more: str = "", default: str | None = None) -> None:
+    """The option that names the program psi; `more` states what it is for."""
+    help_of_count = f"the built program; crates/psi/out/psi, or psi on the PATH, by default{more}"
+    parser.add_argument("--psi", metavar="PSI", default=default, help=help_of_count)
 
 
 def add_program(parser: argparse.ArgumentParser) -> None:
-    """The options that say which psi draws, and on how many processors."""
-    parser.add_argument(
-        "--psi", metavar="PSI", help="the built program; crates/psi/out/psi, or psi on the PATH, where it isn't given"
-    )
+    """The options that name the program psi, and the number of processes."""
+    add_psi(parser)
     parser.add_argument(
         "--jobs",
         metavar="N",
         type=number(1, 1024),
-        help="how many processes draw at once; as many as there are processors where it isn't given",
+        help="the number of processes that draw at the same time; that of the processors by default",
     )
+
+
+def closed_parser(
+    command: str, about: str, totals: int, counts: tuple[int, int], help_of_count: str, **more: Any
+) -> Parser:
+    """The parser of NET TOTAL COUNT [PSI], of a tool of closed networks; `told` and `more` are of COUNT."""
+    parser = Parser(command, about)
+    parser.add_argument("net", metavar="NET", help="the file of a closed network")
+    parser.add_argument(
+        "total", metavar="TOTAL", type=number(0, totals), help=f"the number of customers, 0 to {totals}"
+    )
+    parser.add_argument("count", metavar="COUNT", type=number(*counts), help=help_of_count, **more)
+    parser.add_argument("psi", metavar="PSI", nargs="?", help="the built program")
+    return parser
 
 
 def add_form(parser: argparse.ArgumentParser, forms: Sequence[str] = ("text", "csv", "json")) -> None:
-    """The options that say in which form the answer is written, and where."""
+    """The options for the form of the answer, and for where it is written."""
     parser.add_argument(
-        "--format",
-        choices=forms,
-        default="text",
-        help="text for people, csv or json for programs; text where it isn't given",
+        "--format", choices=forms, default="text", help="text for people, csv or json for programs; text by default"
     )
     parser.add_argument(
-        "-o",
-        "--out",
-        metavar="FILE",
-        help="the file that the answer is written to; standard output where it isn't given",
+        "-o", "--out", metavar="FILE", help="the file that the answer is written to; standard output by default"
     )
 
 

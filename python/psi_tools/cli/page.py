@@ -7,8 +7,7 @@ import tempfile
 from typing import Any
 
 from psi_tools.arguments import GREATEST, NUMBER
-from psi_tools.cli.command import run
-from psi_tools.cli.options import Parser
+from psi_tools.cli.options import Parser, add_psi
 from psi_tools.draw.program import Program
 from psi_tools.errors import PsiError, reason
 from psi_tools.io.output import check_writable, write
@@ -40,9 +39,7 @@ def parser() -> Parser:
     )
     parser.add_argument("-o", "--out", metavar="FILE", required=True, help="the page that is written, one HTML file")
     parser.add_argument("-t", "--title", metavar="TITLE", default="", help="a title instead of the file's name")
-    parser.add_argument(
-        "--psi", metavar="PSI", help="the built program; crates/psi/out/psi, or psi on the PATH, if not given"
-    )
+    add_psi(parser)
     return parser
 
 
@@ -90,7 +87,3 @@ def work(arguments: list[str]) -> None:
     accept(psi, net, log, args.log or args.net)
     title = args.title or pathlib.Path(args.net).stem
     write(args.out, page_of(runs_of(net, log, title)).encode())
-
-
-def main(arguments: list[str]) -> int:
-    return run(COMMAND, work, arguments)

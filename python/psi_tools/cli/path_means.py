@@ -6,45 +6,42 @@ from psi_tools.arguments import GREATEST
 from psi_tools.draw.blocks import digest_of
 from psi_tools.draw.paths import paths_of
 from psi_tools.draw.program import Program
-from psi_tools.draw.reports import blocks_of, size_of
+from psi_tools.draw.streams import blocks_of, table_size
 from psi_tools.errors import PsiError
 from psi_tools.io import tables
 from psi_tools.io.output import write
 from psi_tools.io.tables import Record
 from psi_tools.io.terminal import Progress
 from psi_tools.model.networks import Network, checked
-from psi_tools.stats.intervals import LEAST_BATCHES, read_ahead
+from psi_tools.stats.intervals import LEAST_BATCHES, reading_ahead
 from psi_tools.stats.means import mean_of
 from psi_tools.stats.paths import Paths, paths_of_rows, records_of
-from psi_tools.stats.text import ends_shown, figures, half_shown
+from psi_tools.stats.text import ends_shown, figures, half_shown, not_coupled
 
 COMMAND = "psi-means"
-SORTS = {"mean": "queue", "reward-mean": "reward", "moved-rate": "moved", "chosen-rate": "chosen"}
+KINDS = {"mean": "queue", "reward-mean": "reward", "moved-rate": "moved", "chosen-rate": "chosen"}
 RATES = "rates of events, in the unit of the file: how often one changes the state, and how often it is chosen"
 
 
 def drawn(psi: Program, net: Network, args: argparse.Namespace, first: int, count: int) -> Paths:
     """The paths of some streams, drawn in blocks."""
-    blocks = blocks_of(first, count, size_of(count))
+    blocks = blocks_of(first, count, table_size(count, psi.jobs))
     bar = Progress(COMMAND, len(blocks), "blocks")
     try:
-        return paths_of_rows(net, args.paths, paths_of(psi, net, args.seed, blocks, args.paths, args.total, bar.show))
+        with reading_ahead():
+            rows = paths_of(psi, net, args.seed, blocks, args.paths, args.total, bar.show)
+        return paths_of_rows(net, args.paths, rows)
     finally:
         bar.end()
 
 
 def notes_of(paths: Paths) -> list[str]:
     """What has to be known before a mean is read."""
-    if not paths.lost:
-        return []
-    return [
-        f"NOT COUPLED: {paths.lost:,} of {paths.count:,} streams; the means are of the others, and biased; "
-        "the intervals hold what they may change"
-    ]
+    return not_coupled(paths.lost, paths.count, "means")
 
 
 def head_of(paths: Paths, level: float, kind: str = "intervals") -> str:
-    """The line of how many paths there are, and of what sort and level the intervals are."""
+    """The line with the number of paths, and with the kind and level of the intervals."""
     state = f"{paths.count - paths.lost:,} of them coupled" if paths.lost else "all coupled"
     return f"{paths.count:,} paths of {paths.steps:,} steps, {state}; {kind} of {level:g} %"
 
@@ -58,13 +55,13 @@ def text_of(paths: Paths, records: list[Record], level: float) -> str:
         mean = mean_of(each)
         rows = rates if each["item"].endswith("rate") else means
         rows.append(
-            (SORTS[each["item"]], each["name"], figures(mean.mean, mean.half), half_shown(mean), *ends_shown(mean))
+            (KINDS[each["item"]], each["name"], figures(mean.mean, mean.half), half_shown(mean), *ends_shown(mean))
         )
-    lines.append(tables.aligned(means, right=(2, 4, 5)).rstrip("\n"))
+    lines += tables.aligned(means, right=(2, 4, 5))
     if paths.steps:
-        lines += [RATES, tables.aligned(rates, right=(2, 4, 5)).rstrip("\n")]
+        lines += [RATES, *tables.aligned(rates, right=(2, 4, 5))]
     lines += paths.carried()
-    return "".join(f"{line}\n" for line in lines)
+    return tables.ended(lines)
 
 
 def guaranteed_text_of(paths: Paths, records: list[Record], level: float, remarks: list[str]) -> str:
@@ -74,10 +71,10 @@ def guaranteed_text_of(paths: Paths, records: list[Record], level: float, remark
     rows: list[tuple[object, ...]] = [("", "", "mean", "from", "to")]
     for each in records:
         mean = mean_of(each)
-        rows.append((SORTS[each["item"]], each["name"], figures(mean.mean, mean.half), *shown_out(mean)))
-    table = tables.aligned(rows, right=(2, 3, 4)).rstrip("\n")
-    lines = [*notes_of(paths), head_of(paths, level, "guaranteed intervals"), table, *remarks]
-    return "".join(f"{line}\n" for line in lines)
+        rows.append((KINDS[each["item"]], each["name"], figures(mean.mean, mean.half), *shown_out(mean)))
+    table = tables.aligned(rows, right=(2, 3, 4))
+    lines = [*notes_of(paths), head_of(paths, level, "guaranteed intervals"), *table, *remarks]
+    return tables.ended(lines)
 
 
 def guaranteed_answer(psi: Program, net: Network, args: argparse.Namespace, paths: Paths) -> tuple[str, list[str]]:
@@ -116,12 +113,11 @@ def answer(args: argparse.Namespace) -> tuple[str, list[str]]:
     """The text of the answer, and what is to be noted beside it."""
     if args.count < LEAST_BATCHES and not args.guaranteed:
         raise PsiError(f"{args.count} paths are drawn, and {LEAST_BATCHES} are wanted for an interval")
-    read_ahead()
     psi = Program(args.psi, args.jobs)
     net = checked(psi, args.reports[0])
     paths = drawn(psi, net, args, args.first, args.count)
     if not paths.horizons:
-        raise PsiError(f"none of {paths.count:,} streams is coupled; psi-why tells what may help", 1)
+        raise PsiError(f"none of {paths.count:,} streams is coupled; psi-why reports what may help", 1)
     if args.guaranteed:
         return guaranteed_answer(psi, net, args, paths)
     records = records_of(paths, args.level / 100)

@@ -8,15 +8,14 @@ from collections.abc import Callable
 from typing import TYPE_CHECKING, Any, TypeVar
 
 from psi_tools.arguments import GREATEST, NUMBER
-from psi_tools.cli.command import run
-from psi_tools.cli.options import Parser, number
+from psi_tools.cli.options import Parser, add_psi, number
 from psi_tools.draw.program import Program
-from psi_tools.draw.reports import as_printed, read_folder
+from psi_tools.draw.reports import as_printed, read_folder, read_report
 from psi_tools.errors import InputError, PsiError, reason, require
 from psi_tools.io.output import check_writable, write
 from psi_tools.model.networks import checked
-from psi_tools.plot.read_report import Report, Spread, read_report
-from psi_tools.stats.batches import interval_or_none
+from psi_tools.plot.report import Report, report_of
+from psi_tools.stats.batches import batches_of
 from psi_tools.stats.intervals import LEAST_BATCHES
 
 # Each kind of picture imports its own modules.
@@ -43,7 +42,7 @@ psi-plot coupling LOG [NET] -o FILE    a log of `psi sample NET SEED STREAM log`
 psi-plot report CSV.. -o FILE          reports of `psi report`, at most eight, side by side; of a
                                        folder of psi-many the 95 % intervals of the means, too
 psi-plot exact TEXT -o FILE            what `psi exact` prints: how the image of all states shrinks
-psi-plot forward NET [STEPS..] -o FILE a network of one queue: where forward runs of so many steps
+psi-plot forward NET [STEPS..] -o FILE a network of one queue: where forward runs of STEPS steps
                                        end, from each state, and where all of them meet, computed
                                        and beside the law of a sample; 8, 32 and 128 steps where
                                        they aren't given
@@ -54,8 +53,8 @@ psi-plot path NET SEED STREAM [--steps N] -o FILE
                                        the run that led to the sample
 psi-plot network NET -o FILE           the network: queues, servers, and events as arrows
 
-The exit status is 0 where the picture is drawn; 2 where a word or an input isn't what it should be,
-as one line on standard error tells; 7 where the picture can't be written; 1 where it can't be
+The exit status is 0 where the picture is drawn; 2 where an argument or an input isn't what it should
+be, with one line on standard error; 7 where the picture can't be written; 1 where it can't be
 drawn."""
 
 
@@ -66,12 +65,7 @@ def parser() -> Parser:
         "-o", "--out", metavar="FILE", default="", help="the picture: SVG, PNG or PDF, by the ending of its name"
     )
     parser.add_argument("-t", "--title", metavar="TITLE", default="", help="a title in place of the picture's own")
-    parser.add_argument(
-        "--psi",
-        metavar="PSI",
-        help="the built program; crates/psi/out/psi, or psi on the PATH, where it isn't given, of "
-        "which forward, past, path and network ask",
-    )
+    add_psi(parser, ", of which forward, past, path and network ask")
     parser.add_argument("--legend", action="store_true", help="of network: explain the arrows below the picture")
     parser.add_argument("--tables", action="store_true", help="of network: print the tables of choices by an index")
     parser.add_argument(
@@ -101,10 +95,10 @@ def parser() -> Parser:
 
 
 def parse(arguments: list[str]) -> argparse.Namespace:
-    """The words by their meaning."""
+    """The parsed arguments."""
     args = parser().parse_intermixed_args(arguments)
-    require(args.what in DRAWN, f"the first word is one of {', '.join(DRAWN)}")
-    require(args.files, f"{args.what} is told no file")
+    require(args.what in DRAWN, f"the first argument is one of {', '.join(DRAWN)}")
+    require(args.files, f"{args.what} needs a file")
     require(args.out.rpartition(".")[2].lower() in FORMATS, "-o names no .svg, .png or .pdf")
     require(args.what == "network" or not (args.legend or args.tables), "--legend and --tables are network's")
     require(args.what == "past" or not args.new_words, "--new-words is past's")
@@ -129,7 +123,7 @@ def coupling(args: argparse.Namespace, path: str, *net: str) -> "Coupling":
     """The log, named by the network file if there is one."""
     from psi_tools.plot.read_log import names_of, read_log
 
-    require(len(net) <= 1, "coupling is told one LOG, and one NET at most")
+    require(len(net) <= 1, "coupling takes one LOG, and at most one NET")
     log = read(read_log, path)
     for file in net:
         log.names = read(lambda data: names_of(data, log), file)
@@ -138,36 +132,25 @@ def coupling(args: argparse.Namespace, path: str, *net: str) -> "Coupling":
 
 def reports(args: argparse.Namespace, *paths: str) -> list[tuple[str, Report]]:
     """The reports, each with the name of its file."""
-    require(len(paths) <= MOST_REPORTS, f"report is told more than {MOST_REPORTS} files")
-    return [(path, report_of(path)) for path in paths]
+    require(len(paths) <= MOST_REPORTS, f"report takes at most {MOST_REPORTS} files")
+    return [(path, report_at(path)) for path in paths]
 
 
-def report_of(path: str) -> Report:
+def report_at(path: str) -> Report:
     """The report of a file, or of all blocks of a folder of psi-many, with intervals where there
     are enough of them."""
     if not os.path.isdir(path):
-        return read(lambda data: read_report(as_printed(data)), path)
+        return read(lambda data: report_of(batches_of([read_report(as_printed(data), path)])), path)
     batches, wanted = read_folder(path)
     require(len(batches.samples) == wanted, f"{path}: not all of its blocks are finished")
-    horizons: dict[int, int] = {}
-    for some in batches.horizons:
-        for horizon, count in some.items():
-            horizons[horizon] = horizons.get(horizon, 0) + count
-    has_intervals = wanted >= LEAST_BATCHES
-    spreads: dict[str, list[Spread]] = {"": [], "reward-": []}
-    for row in batches.rows:
-        interval = interval_or_none(batches, row) if has_intervals else None
-        mean = batches.mean(row).mean
-        spreads[row.kind].append(Spread(row.name, mean, row.least, row.greatest, interval))
-    horizons = dict(sorted(horizons.items()))
-    return Report(sum(batches.samples), batches.uncoupled, horizons, *spreads.values())
+    return report_of(batches, wanted >= LEAST_BATCHES)
 
 
 def exact(args: argparse.Namespace, path: str, *others: str) -> "Shrinking":
     """The text of exact."""
     from psi_tools.io.exact import read_exact
 
-    require(not others, "exact is told more than one file")
+    require(not others, "exact takes one file")
     return read(read_exact, path)
 
 
@@ -187,7 +170,7 @@ def network(args: argparse.Namespace, path: str, *others: str) -> "NetworkPictur
     """The network of a file that psi accepts, and what is to stand below its picture."""
     from psi_tools.plot.network_scene import NetworkPicture
 
-    require(not others, "network is given more than one file")
+    require(not others, "network takes one file")
     try:
         net = checked(Program(args.psi), path)
     except PsiError as error:
@@ -255,7 +238,3 @@ def draw(args: argparse.Namespace) -> bytes:
 def work(arguments: list[str]) -> None:
     args = parse(arguments)
     write(args.out, draw(args))
-
-
-def main(arguments: list[str]) -> int:
-    return run(COMMAND, work, arguments)

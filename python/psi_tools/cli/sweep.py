@@ -1,11 +1,10 @@
 """psi-sweep: designs of one network, or networks of several files, side by side under the same
-words, and their differences."""
+random words, and their differences."""
 
 import argparse
 import os
 import pathlib
 
-from psi_tools.cli.command import run
 from psi_tools.cli.options import (
     Parser,
     add_form,
@@ -34,7 +33,7 @@ RecordOfDesign = tuple[Record, Mean, Mean]
 COMMAND, COUNT = "psi-sweep", 10_000
 ABOUT = """Draws the same network with other numbers, all under the same seed and streams, and
 prints the mean of each queue and reward in each design with an interval of 95 %, and its difference
-to the first design, with an interval of its own. That is narrower by far, since the same words
+to the first design, with an interval of its own. That is narrower by far, since the same random words
 choose the same events in all designs (common random numbers): each event has the same numbers in
 all of them, and where a design needs fewer an idle event has the others.
 
@@ -44,11 +43,11 @@ all of them, and where a design needs fewer an idle event has the others.
 
 NAME.KEY is the rate, size or amount of an event, the capacity or servers of a queue, or the level
 of a reward; EVENT.QUEUE.KEY is least, most, floor or ceiling of an event's part. VALUES are numbers
-with commas between, or FIRST..LAST, or FIRST..LAST..STEP; a rate may have places behind a point,
+with commas between, or FIRST..LAST, or FIRST..LAST..STEP; a rate may have decimal places,
 and all rates are multiplied then. The first design is that of the first values.
 
 Where something else in the file goes by the servers or the capacity that differ, as a guard, a
-table, or the level of a reward that is told, it would stay as it is: that is refused, unless it is
+table, or the level of a reward that is printed, it would stay as it is: that is refused, unless it is
 swept as well, with --together, or --anyway is given. Several files are compared as they are.
 
 What is drawn is kept in a folder, so the same call, or one with more values, goes on with it."""
@@ -75,19 +74,17 @@ def parser() -> Parser:
         help="sweep servers or a capacity though a guard, a table or a level that goes by it stays",
     )
     parser.add_argument(
-        "--of", metavar="NAME", action="append", help="tell of this queue or reward alone; may be given again"
+        "--of", metavar="NAME", action="append", help="print this queue or reward alone; may be given again"
     )
     parser.add_argument(
         "--base",
         metavar="N",
         type=number(1, 256),
         default=1,
-        help="the design with which the others are compared; the first, 1, where it isn't given",
+        help="the design with which the others are compared; by default 1, the first",
     )
     parser.add_argument(
-        "--folder",
-        metavar="FOLDER",
-        help="where finished blocks are kept; NET.SEED.FIRST.COUNT.sweep where it isn't given",
+        "--folder", metavar="FOLDER", help="where finished blocks are kept; NET.SEED.FIRST.COUNT.sweep by default"
     )
     add_streams(parser, COUNT)
     add_program(parser)
@@ -125,8 +122,8 @@ def text_of(
         name = "" if design else record["name"]
         shown = figures(mean.mean, mean.half), interval_shown(mean)
         rows.append((name, compared.labels[design], *shown, *change))
-    lines.append(tables.aligned(rows, right=(2, 4)).rstrip("\n"))
-    return "".join(f"{line}\n" for line in [*lines, *lines_below])
+    lines += tables.aligned(rows, right=(2, 4))
+    return tables.ended([*lines, *lines_below])
 
 
 def answer_of(
@@ -193,7 +190,7 @@ def prepared(args: argparse.Namespace) -> tuple[Program, Comparison]:
         answer = psi.call("check", net.data)
         if answer.status:
             message = answer.line.removeprefix("psi: ")
-            raise PsiError(f"{label}: {message}; psi-where tells what that means", answer.status)
+            raise PsiError(f"{label}: {message}; psi-where explains it", answer.status)
     return psi, compared
 
 
@@ -217,7 +214,3 @@ def work(arguments: list[str]) -> int:
     if args.format != "text" and (notes or below):
         print_note(COMMAND, "; ".join([*notes, *below]))
     return 0
-
-
-def main(arguments: list[str]) -> int:
-    return run(COMMAND, work, arguments)

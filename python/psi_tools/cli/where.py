@@ -1,7 +1,6 @@
 """psi-where: the line of a network file that psi refuses, with the guide's sentence on it."""
 
-from psi_tools.cli.command import run
-from psi_tools.cli.options import Parser, add_form
+from psi_tools.cli.options import Parser, add_form, add_psi
 from psi_tools.draw.program import Program
 from psi_tools.errors import PsiError, printable
 from psi_tools.io import tables
@@ -11,22 +10,20 @@ from psi_tools.model.refusals import SENTENCES
 from psi_tools.model.where import found_in, text_of, text_of_line
 
 COMMAND = "psi-where"
-ABOUT = """Tells what psi check refuses of a network file: the file, the line, the line's text, the
+ABOUT = """Prints what psi check refuses in a network file: the file, the line, the line's text, the
 value at fault with the bound that it passes or the name that was meant, and the guide's sentence on
-what is wrong and what helps. Where the file is no TOML it tells what is wrong with it as such.
+what is wrong and what helps. Where the file is no TOML it prints what is wrong with it as such.
 
     psi-where desk.toml
 
-The status is 0 where psi takes the file, and 3, as that of psi check, where it refuses it."""
+The status is 0 where psi accepts the file, and 3, as that of psi check, where it refuses it."""
 
 
 def parser() -> Parser:
     """The parser of the arguments."""
     parser = Parser(COMMAND, ABOUT)
     parser.add_argument("net", metavar="NET", help="a network file")
-    parser.add_argument(
-        "--psi", metavar="PSI", help="the built program; crates/psi/out/psi, or psi on the PATH, where it isn't given"
-    )
+    add_psi(parser)
     add_form(parser, ("text", "json"))
     return parser
 
@@ -38,7 +35,7 @@ def work(arguments: list[str]) -> int:
     data = read_file(args.net)
     answer = psi.call("check", data)
     if answer.status == 0:
-        message = "null" if args.format == "json" else f"{printable(args.net)}: psi takes it"
+        message = "null" if args.format == "json" else f"{printable(args.net)}: psi accepts it"
         write_answer(f"{message}\n", args.out)
         return 0
     if answer.status != 3:
@@ -52,7 +49,3 @@ def work(arguments: list[str]) -> int:
     else:
         write_answer(text_of(args.net, data, found), args.out)
     return 3
-
-
-def main(arguments: list[str]) -> int:
-    return run(COMMAND, work, arguments)

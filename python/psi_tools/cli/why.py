@@ -3,15 +3,14 @@
 import argparse
 
 from psi_tools.arguments import GREATEST
-from psi_tools.cli.command import run
-from psi_tools.cli.options import Parser, add_form, number
+from psi_tools.cli.options import Parser, add_form, add_psi, number
 from psi_tools.draw.diagnosis import Findings, findings_of
 from psi_tools.draw.program import Program
 from psi_tools.io import tables
 from psi_tools.io.output import check_writable, write_answer
 
 COMMAND, STREAMS, SECONDS = "psi-why", 20, 10
-ABOUT = """Tells what may keep samples of a network from coupling, and how far back they have to
+ABOUT = """Reports what may keep samples of a network from coupling, and how far back they have to
 begin:
 
 - sums of customers that no event changes, so states with other sums never meet;
@@ -24,8 +23,8 @@ begin:
 
     psi-why desk.toml
 
-What it says of sums, numbers and states that can't be left holds for certain, and the status is 1
-then: no stream couples. All else is what helps to see why."""
+What it reports of sums, numbers and states that can't be left is certain, and the status is 1 then:
+no stream couples. All else helps to see why."""
 BALANCE = 0.9, 1.1
 
 
@@ -38,25 +37,23 @@ def parser() -> Parser:
         metavar="SEED",
         type=number(0, GREATEST),
         default=0,
-        help="the seed of the streams that are tried; 0 where it isn't given",
+        help="the seed of the streams that are tried; 0 by default",
     )
     parser.add_argument(
         "--count",
         metavar="N",
         type=number(1, 65_536),
         default=STREAMS,
-        help=f"how many streams are tried, from 0 on; {STREAMS} where it isn't given",
+        help=f"the number of streams that are tried, from 0 on; {STREAMS} by default",
     )
     parser.add_argument(
         "--seconds",
         metavar="N",
         type=number(1, 86_400),
         default=SECONDS,
-        help=f"after how many seconds no longer limit is tried; {SECONDS} where it isn't given",
+        help=f"the number of seconds after which no longer limit is tried; {SECONDS} by default",
     )
-    parser.add_argument(
-        "--psi", metavar="PSI", help="the built program; crates/psi/out/psi, or psi on the PATH, where it isn't given"
-    )
+    add_psi(parser)
     add_form(parser, ("text", "json"))
     return parser
 
@@ -78,7 +75,7 @@ def text_of(args: argparse.Namespace, found: Findings) -> str:
             remark = "in balance: twice the places, four times the past"
         shown = "-" if load is None else f"{load:.3f}"
         rows.append((row["queue"], f"{row['in']:g}", f"{row['out']:g}", shown, remark))
-    lines += tables.aligned(rows, right=(1, 2, 3)).splitlines()
+    lines += tables.aligned(rows, right=(1, 2, 3))
     for power, met, shares in found["horizons"]:
         of = ", ".join(f"{count} at {horizon}" for horizon, count in shares)
         line = f"limit {power}: {met} of {args.count} streams are met"
@@ -88,7 +85,7 @@ def text_of(args: argparse.Namespace, found: Findings) -> str:
         limit = found["limit"]
         lines.append(f"longer limits, up to the file's {limit}, take more time than was given")
     lines += [f"what may help: {line}" for line in found["advice"]]
-    return "".join(f"{line}\n" for line in lines)
+    return tables.ended(lines)
 
 
 def work(arguments: list[str]) -> int:
@@ -97,7 +94,3 @@ def work(arguments: list[str]) -> int:
     found = findings_of(Program(args.psi), args)
     write_answer(tables.as_json(found) if args.format == "json" else text_of(args, found), args.out)
     return 1 if found["never"] else 0
-
-
-def main(arguments: list[str]) -> int:
-    return run(COMMAND, work, arguments)

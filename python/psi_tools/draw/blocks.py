@@ -6,10 +6,12 @@ import os
 import pathlib
 import re
 import stat
+from collections.abc import Iterable
 from typing import Any, NamedTuple
 
 from psi_tools.errors import PsiError, reason
 from psi_tools.io import files
+from psi_tools.io.reports import ReportError, read
 from psi_tools.io.samples import is_table
 from psi_tools.model.networks import Network, header_of
 
@@ -21,11 +23,8 @@ MARK, NUMBERS = b"a folder of psi-many\n", ("seed", "first", "count", "block", "
 BEGUN = {"lock", "blocks", "net.toml"}
 MOST_BLOCKS = 1_048_576
 FILE = re.compile(r"([0-9]{7,})\.([0-9a-f]{16})\.csv")
-REPORT = re.compile(
-    rb"item,name,value\nsamples,-,(\d+)\nmet,-,(\d+)\nuncoupled,-,(\d+)\n((?:horizon,\d+,\d+\n)*)"
-    rb"((?:sum,[\w-]+,-?\d+\n(?:least,[\w-]+,-?\d+\ngreatest,[\w-]+,-?\d+\n)?)+"
-    rb"(?:reward-sum,[\w-]+,-?\d+\n(?:reward-(?:least|greatest),[\w-]+,-?\d+\n){0,2})*)"
-)
+# The names of the queues and rewards of a block's text, in their order.
+Names = tuple[object, ...]
 
 
 class Block(NamedTuple):
@@ -40,20 +39,13 @@ def digest_of(text: bytes) -> str:
     return hashlib.sha256(text).hexdigest()
 
 
-def names_of(text: bytes, count: int) -> tuple[bytes, ...] | None:
-    """The queues and rewards of a whole report of so many samples, in which the counts add up, as
-    the fronts of the records of their sums; none where a text is anything else.
-    """
-    found = REPORT.fullmatch(text)
-    if not found:
+def names_of(text: bytes, count: int) -> Names | None:
+    """The queues and rewards of a whole report of this number of samples; none where a text is anything else."""
+    try:
+        report = read(text)
+    except ReportError:
         return None
-    samples, met, uncoupled = (int(found[place]) for place in (1, 2, 3))
-    horizons = sum(int(row.split(b",")[2]) for row in found[4].splitlines())
-    if samples != count or samples != met + uncoupled or met != horizons:
-        return None
-    rows = [row.rpartition(b",")[0] for row in found[5].splitlines()]
-    names = tuple(row for row in rows if row.startswith((b"sum,", b"reward-sum,")))
-    return names if len(rows) == len(names) * (3 if met else 1) else None
+    return (*report.sums(),) if report.samples == count else None
 
 
 def digest_in(file: pathlib.Path) -> str | None:
@@ -84,12 +76,12 @@ def is_left(name: str) -> bool:
 
 
 def sealed(lines: str) -> str:
-    """What a folder is bound to, with a last line that tells whether it is as it was written."""
+    """What a folder is bound to, with a last line that shows whether it is as it was written."""
     return f"{lines}digest {digest_of(lines.encode())[:16]}\n"
 
 
 def read_sealed(path: pathlib.Path) -> dict[str, str] | None:
-    """What a file says that a folder is bound to; none where it isn't as it was written. A file of
+    """What a folder is bound to according to a file; none where it isn't as it was written. A file of
     an earlier version has no line `digest`."""
     try:
         text = path.read_bytes().decode()
@@ -101,6 +93,13 @@ def read_sealed(path: pathlib.Path) -> dict[str, str] | None:
     if mark and sealed(lines) != text or not text.endswith("\n") or len(bound) < len(pairs):
         return None
     return bound if all(bound[key].isdigit() for key in NUMBERS if key in bound) else None
+
+
+def refuse_links(entries: Iterable[os.DirEntry[str]], command: str) -> None:
+    """Refuses a folder with a link, which none that a command writes has."""
+    links = [entry.path for entry in entries if entry.is_symlink()]
+    if links:
+        raise PsiError(f"{links[0]} is a link, which a folder of {command} has none of")
 
 
 def bound_in(folder: pathlib.Path) -> tuple[dict[str, str] | None, bool]:
@@ -118,7 +117,7 @@ def bound_in(folder: pathlib.Path) -> tuple[dict[str, str] | None, bool]:
 class Folder:
     """The folder of a call: what it is bound to, a copy of the network, and the finished blocks.
 
-    The name of a block's file has its number and the digest of its text, which tells whether the
+    The name of a block's file has its number and the digest of its text, which show whether the
     text is as it was written.
     """
 
@@ -173,9 +172,7 @@ class Folder:
             return
         except OSError as fault:
             raise PsiError(f"{self.path} is no folder: {reason(fault)}") from None
-        links = [entry.path for entry in entries if entry.is_symlink()]
-        if links:
-            raise PsiError(f"{links[0]} is a link, which a folder of psi-many has none of")
+        refuse_links(entries, "psi-many")
         names = {entry.name for entry in entries if os.path.dirname(entry.path) == str(self.path)}
         if names and not self.is_own(names):
             raise PsiError(f"{self.path} isn't a folder of psi-many, and isn't empty")
@@ -194,7 +191,7 @@ class Folder:
         return mark is not None and MARK.startswith(mark) and names == {"lock"}
 
     def is_bound(self) -> bool:
-        """Whether a file says what the folder is bound to."""
+        """Whether a file has what the folder is bound to."""
         return any((self.path / name).exists() for name in ("bound", "bound.copy"))
 
     def bind(self, net: bytes, wanted: dict[str, int], size: int | None, fitting: int) -> int:
@@ -247,7 +244,7 @@ class Folder:
         self.has_samples = "states" in bound
 
     def network(self) -> Network:
-        """The network, as its copy says it."""
+        """The network, read from its copy."""
         if not hasattr(self, "read"):
             self.read = Network.read(self.net)
         return self.read
@@ -268,7 +265,7 @@ class Folder:
         begin = number * self.size
         return Block(number, self.first + begin, min(self.size, self.count - begin))
 
-    def names_in(self, number: int, text: bytes) -> tuple[bytes, ...] | None:
+    def names_in(self, number: int, text: bytes) -> Names | None:
         """The queues and rewards of a block's text: of its report, or of the table of its samples; none
         where it isn't whole."""
         _, first, count = self.block(number)
@@ -313,7 +310,7 @@ class Folder:
         kept in `removed`, by number.
         """
         whole: dict[int, list[pathlib.Path]] = {}
-        names: dict[int, tuple[bytes, ...]] = {}
+        names: dict[int, Names] = {}
         self.removed: dict[int, str] = {}
         for number, same in sorted(self.listed().items()):
             text = same[0].read_bytes()

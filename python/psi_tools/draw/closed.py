@@ -7,9 +7,9 @@ states are taken in its form, and the values of rewards by the guide's rules.
 import collections
 import functools
 import re
-from collections.abc import Iterator, Sequence
 
 from psi_tools.draw.program import Program
+from psi_tools.io.reports import Figure, Report
 from psi_tools.model.networks import Network, values_of
 
 # The horizon and the state of a sample; none where it is not coupled.
@@ -42,7 +42,7 @@ def texts_of(psi: Program, data: bytes, total: int, count: int) -> bytes:
 
 
 def report_of_text(net: Network, text: bytes, count: int) -> bytes | None:
-    """The report of what psi closed printed of so many streams; none where it isn't whole."""
+    """The report of what psi closed printed of this number of streams; none where it isn't whole."""
     found = samples_of(text)
     if found is None or len(found) != count:
         return None
@@ -53,27 +53,15 @@ def report_of_text(net: Network, text: bytes, count: int) -> bytes | None:
 
 def report_of(net: Network, found: list[Sample]) -> bytes:
     """The report of some samples, each a horizon and a state or none, in psi report's form."""
-    lines = [",".join(map(str, record)) + "\n" for record in records(net, found)]
-    return "".join(["item,name,value\n", *lines]).encode()
-
-
-def records(net: Network, found: list[Sample]) -> Iterator[tuple[str, str | int, int]]:
-    """The records of a report."""
-    met = [sample for sample in found if sample]
-    yield "samples", "-", len(found)
-    yield "met", "-", len(met)
-    yield "uncoupled", "-", len(found) - len(met)
-    for horizon, count in sorted(collections.Counter(horizon for horizon, _ in met).items()):
-        yield "horizon", horizon, count
-    yield from figures("", net.queues, [state for _, state in met])
-    yield from figures("reward-", net.rewards, [values_of(net, state) for _, state in met])
-
-
-def figures(kind: str, names: list[str], rows: Sequence[Sequence[int]]) -> Iterator[tuple[str, str, int]]:
-    """The sums and extremes of the columns of some rows."""
-    for place, name in enumerate(names):
-        numbers = [row[place] for row in rows]
-        yield f"{kind}sum", name, sum(numbers)
-        if numbers:
-            yield f"{kind}least", name, min(numbers)
-            yield f"{kind}greatest", name, max(numbers)
+    met, report = [sample for sample in found if sample], Report()
+    report.samples, report.met = len(found), len(met)
+    report.horizons = sorted(collections.Counter(horizon for horizon, _ in met).items())
+    states = [state for _, state in met]
+    values = [values_of(net, state) for state in states]
+    for kind, names, rows in ((b"", net.queues, states), (b"reward-", net.rewards, values)):
+        for place, name in enumerate(names):
+            numbers = [row[place] for row in rows]
+            ends = {b"least": min(numbers), b"greatest": max(numbers)} if numbers else {}
+            for word, value in {b"sum": sum(numbers), **ends}.items():
+                report.figures.append(Figure(kind, word, name.encode(), value))
+    return report.text()

@@ -111,8 +111,8 @@ def horizons_of(psi: Program, net: Network, args: argparse.Namespace, limit: int
 
 
 def single_states(psi: Program, net: Network, args: argparse.Namespace) -> list[str]:
-    """What all states of a small network become by themselves, as `exact` tells of the first
-    stream, in words; nothing where there are too many states, or it takes too long."""
+    """What all states of a small network become by themselves, as `exact` prints it for the
+    first stream, as sentences; nothing where there are too many states, or it takes too long."""
     try:
         done = psi.call("exact", net.data, args.seed, 0, EXPONENT, seconds=args.seconds)
     except subprocess.TimeoutExpired:
@@ -157,7 +157,7 @@ def advice(
 ) -> Iterator[str]:
     """What may help, each as one sentence."""
     if kept and all(map(is_move, net.table["event"])):
-        yield "the network is closed: psi closed is told how many customers there are"
+        yield "the network is closed: psi closed is given the number of customers"
     if kept:
         return
     tried = found[-1] if found else None

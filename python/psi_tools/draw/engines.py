@@ -18,12 +18,13 @@ from psi_tools.draw.program import found_on_path
 from psi_tools.errors import PsiError, printable, reason
 from psi_tools.io.terminal import Pulse, clock, is_terminal, print_error
 
-# How many blocks a host draws at once, where it is said, and its name.
+# How many blocks a host draws at the same time, where that is given, and its name.
 Host = tuple[int | None, str]
 
-# So many blocks for each processor, and so many tasks in Slurm, where the call doesn't say.
+# The default numbers of blocks for each processor, and of tasks in Slurm.
 SHARE, TASKS = 4, 100
-# A failed block is tried so often in a round; after so many rounds that finish none it is over.
+# How often a failed block is tried in a round; after how many rounds that finish none the call ends; and the seconds
+# of rest.
 TRIES, ROUNDS, REST = 3, 3, 5
 POLL, TELL = 1, 10
 SSH = "ssh -o BatchMode=yes -o ConnectTimeout=10 -o ServerAliveInterval=5 -o ServerAliveCountMax=3"
@@ -33,7 +34,7 @@ SET_UP = """set -e; cd; umask 077; mkdir -p .psi-many/{digest}; cd .psi-many
 part=part.$(uname -n).$$; mkdir "$part"; tar -xf - -C "$part"
 mv -f "$part/net.toml" "$part/psi" {digest}/; rmdir "$part"
 {digest}/psi check {digest}/net.toml >/dev/null; nproc"""
-# Tells that a block is begun, by its place among those of the round, so that it is known which are
+# Notes that a block is begun, by its place among those of the round, so that it is known which are
 # begun twice. On a host this is done before ssh, since there are none of these variables there.
 BEGIN = 'echo "$PARALLEL_SEQ" >>"$PSI_MANY_BEGUN"; '
 BEGIN_HERE = f'[ -z "$PSI_MANY_BEGUN" ] || {BEGIN}'
@@ -59,7 +60,7 @@ class Way(Protocol):
 
 
 class Progress:
-    """Tells on standard error how far a call is, and how long the rest will take."""
+    """Shows on standard error the progress of a call, and the time that is left."""
 
     def __init__(self, folder: Folder, streams: int) -> None:
         self.folder, self.before, self.streams = folder, streams, streams
@@ -287,7 +288,7 @@ class Slurm:
                 break
 
     def submit(self, folder: Folder, blocks: list[Block]) -> str:
-        """Submits tasks, each of which draws every so many-th of the blocks."""
+        """Submits tasks, each of which draws its share of the blocks."""
         tasks = min(self.slots, len(blocks))
         room = folder.path / "slurm"
         waiting, script = room / "waiting", room / "script"
@@ -303,7 +304,7 @@ class Slurm:
         return done.stdout.split(";")[0].strip()
 
     def is_queued(self, job: str) -> bool:
-        """Whether tasks of the job still wait or run; it is taken for so where Slurm can't tell."""
+        """Whether tasks of the job still wait or run; true where Slurm has no answer."""
         call = ["squeue", "--noheader", f"--jobs={job}", f"--name={self.name}", "--format=%T"]
         done = subprocess.run(call, capture_output=True, text=True)
         if done.returncode:

@@ -4,7 +4,7 @@ import os
 import pathlib
 import re
 
-from psi_tools.draw.blocks import bound_in, read_sealed, sealed, write_whole
+from psi_tools.draw.blocks import bound_in, read_sealed, refuse_links, sealed, write_whole
 from psi_tools.errors import PsiError, reason
 
 # The file that marks a folder as psi-sweep's own, and the folder of a design.
@@ -30,9 +30,7 @@ class Kept:
             entries = [*os.scandir(self.path)] if self.path.exists() else []
         except OSError as fault:
             raise PsiError(f"{self.path} is no folder: {reason(fault)}") from None
-        links = [entry.path for entry in entries if entry.is_symlink()]
-        if links:
-            raise PsiError(f"{links[0]} is a link, which a folder of psi-sweep has none of")
+        refuse_links(entries, "psi-sweep")
         names = {entry.name for entry in entries if not entry.name.startswith("part.")}
         bound = read_sealed(self.path / MARK) if MARK in names else None
         if bound is None or "block" not in bound:
@@ -69,5 +67,5 @@ class Kept:
             raise PsiError(f"{fault.filename or self.path} can't be written: {reason(fault)}", 7) from None
         lines = "".join(f"{key} {bound[key]}\n" for key in (*self.wanted, "block"))
         if not (self.path / MARK).exists() or read_sealed(self.path / MARK) is None:
-            # Where it is lost, the folders of the designs say the same.
+            # Where it is lost, the folders of the designs have the same.
             write_whole(self.path / MARK, sealed(lines).encode(), is_synced=False)

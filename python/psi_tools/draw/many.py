@@ -40,7 +40,7 @@ def draw_all(folder: Folder, way: Way) -> list[pathlib.Path]:
 
 
 def report_removed(folder: Folder, blocks: list[Block]) -> None:
-    """Tells which files of blocks weren't as they should be, and are removed."""
+    """Reports which files of blocks weren't as they should be, and are removed."""
     for number, why in [*folder.removed.items()][:MOST_TOLD]:
         if number < len(blocks):
             streams = streams_of(blocks[number])
@@ -56,7 +56,7 @@ def streams_of(block: Block) -> str:
 
 
 def last_line(folder: Folder) -> str:
-    """What was last said of a block that failed."""
+    """The last line that a block that failed has printed."""
     logs = sorted(folder.path.glob("slurm/*.log"), key=os.path.getmtime)
     last = [folder.path / "said"] if (folder.path / "said").exists() else []
     lines = [line for file in logs + last for line in file.read_text(errors="replace").split("\n")]
@@ -79,7 +79,7 @@ def merged_once(files: list[pathlib.Path], program: str | None) -> bytes:
 
 
 def merge(folder: Folder, files: list[pathlib.Path], program: str | None) -> bytes:
-    """The report of all blocks, which are merged step by step, so many at once."""
+    """The report of all blocks, which are merged step by step, a thousand at a time."""
     made: list[pathlib.Path] = []
     while True:
         parts = [files[at : at + MERGED_AT_ONCE] for at in range(0, len(files), MERGED_AT_ONCE)]

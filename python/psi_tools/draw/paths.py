@@ -1,10 +1,10 @@
 """Tables of paths, as psi_paths prints them, drawn side by side on this machine in blocks."""
 
+import functools
 from collections.abc import Callable, Sequence
 
 from psi_tools.draw.program import Program
-from psi_tools.draw.reports import Streams
-from psi_tools.draw.states import Draw, states_of
+from psi_tools.draw.streams import Streams
 from psi_tools.io.samples import Rows, rows_of
 from psi_tools.model.networks import Network
 
@@ -31,19 +31,6 @@ def header_of(net: Network) -> list[str]:
     return ["stream", "horizon", "steps", *queues, *rewards, *counts]
 
 
-def drawing(psi: Program, net: Network, seed: int, steps: int, total: int | None = None) -> Draw:
-    """What draws rows of paths of a seed by psi_paths, each without its stream; with a total, of a closed
-    network."""
-    data = net.data
-
-    def rows(block: Streams) -> Rows:
-        # A network that psi refuses may have no such header.
-        text = psi.paths(data, seed, *block, steps, total)
-        return rows_of(header_of(net), text, *block, program="psi_paths")
-
-    return rows
-
-
 def paths_of(
     psi: Program,
     net: Network,
@@ -53,6 +40,14 @@ def paths_of(
     total: int | None = None,
     done: Callable[[int], None] | None = None,
 ) -> Rows:
-    """The rows of the tables of some blocks, in their order, none where a stream isn't coupled. `done` is
-    called with how many blocks are there."""
-    return states_of(psi, drawing(psi, net, seed, steps, total), blocks, done)
+    """The rows of the tables of some blocks that psi_paths prints, in their order and without their streams, none
+    where a stream isn't coupled; with a total, of a closed network. `done` is called with how many blocks are there."""
+    data = net.data
+
+    def rows(block: Streams) -> Rows:
+        # A network that psi refuses may have no such header.
+        text = psi.paths(data, seed, *block, steps, total)
+        return rows_of(header_of(net), text, *block, program="psi_paths")
+
+    found = psi.all([functools.partial(rows, block) for block in blocks], done)
+    return [row for some in found for row in some]

@@ -28,7 +28,7 @@ class Answer:
 
 
 def built_program() -> str:
-    """psi where nobody says which: the one that `./psi` builds, else the one on the PATH."""
+    """The default program psi: the one that `./psi` builds, else the one on the PATH."""
     built = TOP / "crates/psi/out/psi"
     return str(built) if built.exists() else "psi"
 
@@ -46,7 +46,7 @@ def program_of(path: str | os.PathLike[str] | None = None) -> str:
     """The path of psi, which is there."""
     found = found_on_path(os.fspath(path or built_program()))
     if not found and path is None:
-        raise PsiError("psi isn't built, and isn't on the PATH; --psi says where it is")
+        raise PsiError("psi isn't built, and isn't on the PATH; --psi names it")
     if not found:
         raise PsiError(f"there is no program {path}")
     return os.path.abspath(found)
@@ -59,6 +59,14 @@ def companion_of(path: str, name: str) -> str | None:
     files = [place / each for place in places for each in (name, name.replace("_", "-"))]
     files.append(TOP / "crates" / name / "out" / name)
     return next((os.path.abspath(file) for file in files if os.access(file, os.X_OK)), None)
+
+
+def built_companion(path: str, name: str) -> str:
+    """As companion_of, of a program that has to be built."""
+    found = companion_of(path, name)
+    if found is None:
+        raise PsiError(f"{name} isn't built, and isn't beside psi; `rt run` in crates/{name} builds it")
+    return found
 
 
 class Guard:
@@ -185,10 +193,8 @@ class Program:
         return self.table("psi_paths", net, (seed, first, count, steps), total)
 
     def table(self, name: str, net: bytes, numbers: Iterable[int], total: int | None) -> str:
-        """The table that a program of this name prints of the streams that some numbers tell."""
-        path = companion_of(self.path, name)
-        if path is None:
-            raise PsiError(f"{name} isn't built, and isn't beside psi; `rt run` in crates/{name} builds it")
+        """The table that a program of this name prints for these numbers of streams."""
+        path = built_companion(self.path, name)
         closed = [] if total is None else ["closed", str(total)]
         answer = self.run([path, "/dev/stdin", *map(str, numbers), *closed], net)
         answer.line = re.sub(f"^{name}: ", "psi: ", answer.line)

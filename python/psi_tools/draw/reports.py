@@ -5,14 +5,12 @@ from collections.abc import Callable, Sequence
 
 from psi_tools.draw.blocks import Folder, digest_in, digest_of
 from psi_tools.draw.program import Program
+from psi_tools.draw.streams import Streams
 from psi_tools.errors import PsiError, reason
 from psi_tools.io.reports import MOST_BYTES, Report, ReportError
 from psi_tools.io.reports import read as parse_report
 from psi_tools.model.networks import Network
 from psi_tools.stats.batches import REWARD, Batches, batches_of
-
-# A block: its first stream, and how many streams it has.
-Streams = tuple[int, int]
 
 
 def as_printed(data: bytes) -> bytes:
@@ -98,22 +96,6 @@ def read_any(paths: list[str], net: Network | None = None) -> tuple[Batches, int
     if rows != [*(("", name) for name in net.queues), *((REWARD, name) for name in net.rewards)]:
         raise PsiError("the reports aren't of this network: its queues or rewards differ")
     return batches.of_network(net), wanted
-
-
-# As many streams as one call of psi report takes, and how many blocks there are while they allow
-# it. On every machine there are as many, since an interval goes by its batches.
-MOST_STREAMS, BLOCKS = 65_536, 40
-
-
-def size_of(count: int) -> int:
-    """How many streams a block has."""
-    return max(1, min(MOST_STREAMS, count // BLOCKS))
-
-
-def blocks_of(first: int, count: int, size: int) -> list[Streams]:
-    """The blocks, each its first stream and how many streams it has."""
-    ends = range(first, first + count, size)
-    return [(begin, min(size, first + count - begin)) for begin in ends]
 
 
 def report_of(psi: Program, data: bytes, seed: int, block: Streams) -> bytes:

@@ -7,20 +7,21 @@ from typing import Any
 from psi_tools.draw.blocks import Block, Folder, digest_of
 from psi_tools.draw.kept import Kept
 from psi_tools.draw.program import Program
-from psi_tools.draw.reports import read_report, report_of, size_of
+from psi_tools.draw.reports import read_report, report_of
+from psi_tools.draw.streams import size_of
 from psi_tools.errors import PsiError
 from psi_tools.io.tables import Record
 from psi_tools.io.terminal import Progress
 from psi_tools.model.designs import Design
 from psi_tools.model.networks import Network
 from psi_tools.stats.batches import REWARD, Batches, batches_of
-from psi_tools.stats.intervals import LEVEL, NO_MEAN, Mean, difference_of_batches, read_ahead
+from psi_tools.stats.intervals import LEVEL, NO_MEAN, Mean, difference_of_batches, reading_ahead
 from psi_tools.stats.spans import Row
 
 
 @dataclasses.dataclass
 class Comparison:
-    """What is compared: the designs, what each is called, and the columns that tell them apart;
+    """What is compared: the designs, what each is called, and the columns in which they differ;
     `why` the same words don't choose the same events, by how much rates are multiplied, and which
     rewards are left out."""
 
@@ -59,10 +60,10 @@ class Work:
             waiting += [(folder, block) for block in folder.all_blocks() if block.number not in finished[-1]]
         # The first blocks of all designs come first, so a call that is stopped has whole ones.
         waiting.sort(key=lambda each: each[1].number)
-        read_ahead()
         progress = Progress(command, len(waiting), "blocks")
         calls = [lambda each=each: self.keep(*each) for each in waiting]
-        self.psi.all(calls, progress.show)
+        with reading_ahead():
+            self.psi.all(calls, progress.show)
         progress.end()
         return [self.batches(folder, net) for folder, net in zip(self.folders, self.nets)]
 
@@ -127,13 +128,13 @@ def notes_of(compared: Comparison, batches: list[Batches]) -> list[str]:
         if own.uncoupled
     ]
     if compared.why:
-        notes.append(f"the same words don't choose the same events: {compared.why}")
+        notes.append(f"the same random words don't choose the same events: {compared.why}")
     if compared.short:
         names = ", ".join(compared.short)
-        notes.append(f"left out, as their tables have no value for so many: {names}")
+        notes.append(f"left out, as their tables are too short for these capacities: {names}")
     return notes
 
 
 def carried_in(compared: Comparison, batches: list[Batches], names: list[str] | None) -> list[str]:
-    """The lines that tell which means few samples carry."""
+    """The lines on means that few samples carry."""
     return [f"{label}: {line}" for label, own in zip(compared.labels, batches) for line in own.carried(names)]

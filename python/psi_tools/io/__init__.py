@@ -1,1 +1,1 @@
-"""Files and texts: TOML, reports, tables, answers, and what is said on a terminal."""
+"""Files and texts: TOML, reports, tables, answers, and lines on a terminal."""

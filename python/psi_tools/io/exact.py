@@ -23,7 +23,7 @@ class Shrinking:
     images : dict of int to int
         The number of states that are left, by the number of steps: 1, 2, 4, and so on.
     constant : int or None
-        The least horizon, in steps, at which all states have coalesced; none where there isn't one.
+        The least horizon, in steps, at which all states have coalesced; none where there is not one.
     state : str or None
         The state at which they coalesce, its numbers with commas between.
     region : int or None

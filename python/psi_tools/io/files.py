@@ -52,7 +52,7 @@ def is_stream(path: str) -> bool:
 
 
 def write_stream(path: str, pieces: Iterable[bytes]) -> None:
-    """Writes pieces to a stream, behind what was written there; nothing is cut off."""
+    """Writes pieces to a stream, after what was written there; nothing is truncated."""
     own = descriptor_of(path)
     if own and own[0] == os.getpid():
         file = os.fdopen(os.dup(own[1]), "wb")
@@ -123,7 +123,7 @@ def try_to_write(path: str) -> None:
             os.stat(path)
     if is_stream(path):
         if not os.access(path, os.W_OK):
-            # To open a pipe and to close it again would tell its reader that all is over.
+            # To open a pipe and to close it again would end its reader.
             raise OSError(0, os.strerror(errno.EACCES))
         return
     target = os.path.realpath(path)

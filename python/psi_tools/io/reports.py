@@ -29,7 +29,7 @@ FIGURE = re.compile(rb"(reward-)?(sum|least|greatest)")
 
 
 class ReportError(Exception):
-    """Why a file isn't merged: the exit status, and what is said before its name."""
+    """Why a file isn't merged: the exit status, and the message before its name."""
 
     def __init__(self, status: int, message: str) -> None:
         super().__init__(message)
@@ -51,7 +51,7 @@ class Figure:
 
 
 class Report:
-    """What a report says: how many samples there are, how many are met and at which horizons, and
+    """What a report has: how many samples there are, how many are met and at which horizons, and
     the figures of the queues and the rewards.
     """
 
@@ -83,7 +83,7 @@ def number(word: bytes, least: int, most: int) -> int | None:
 
 
 def take(report: Report, item: bytes, name: bytes, value: bytes) -> bool:
-    """Takes what a row tells, and says whether it is one."""
+    """Takes in a row; whether it is one."""
     if item in (b"item", b"uncoupled"):
         return True
     if item in (b"samples", b"met"):
@@ -132,7 +132,7 @@ def wrong_in(figures: list[Figure], met: int, steady: bool) -> int | None:
 
 
 def flaw_in_figures(figures: list[Figure], met: int) -> int | None:
-    """The place of the first figure that may not stand there, that behind all where figures are
+    """The place of the first figure that may not stand there, that after all where figures are
     missing, or none.
     """
     names: dict[bytes, set[bytes]] = {b"": set(), b"reward-": set()}

@@ -15,10 +15,11 @@ def rows_of(header: Sequence[str], text: str, first: int, count: int, program: s
     lines = text.split("\n")
     if lines[0] != ",".join(header) or len(lines) != count + 2 or lines[-1]:
         raise PsiError(f"{program} printed no table of these streams")
-    empty, rows = "," * (len(header) - 2), []
+    empty, commas = "," * (len(header) - 2), len(header) - 2
+    rows: Rows = []
     for stream, line in enumerate(lines[1:-1], first):
-        name, _, row = line.partition(",")
-        if name != str(stream) or row.count(",") != len(empty):
+        row = line.removeprefix(f"{stream},")
+        if row is line or row.count(",") != commas:
             raise PsiError(f"{program} printed no row of stream {stream}")
         rows.append(None if row == empty else row)
     return rows

@@ -10,8 +10,8 @@ from typing import Any
 Record = dict[str, Any]
 
 
-def aligned(rows: Iterable[Iterable[object]], right: Container[int] = ()) -> str:
-    """Rows of texts in columns, parted by two blanks; those in `right` end below one another."""
+def aligned(rows: Iterable[Iterable[object]], right: Container[int] = ()) -> list[str]:
+    """The lines of rows of texts in columns, two blanks apart; those in `right` are aligned at their ends."""
     texts = [[*map(str, row)] for row in rows]
     widths = [max(map(len, column)) for column in zip(*texts)]
     lines = []
@@ -21,6 +21,11 @@ def aligned(rows: Iterable[Iterable[object]], right: Container[int] = ()) -> str
             for place, (cell, width) in enumerate(zip(row, widths))
         ]
         lines.append("  ".join(cells).rstrip())
+    return lines
+
+
+def ended(lines: Iterable[str]) -> str:
+    """Lines as a text."""
     return "".join(f"{line}\n" for line in lines)
 
 

@@ -1,4 +1,4 @@
-"""What a command says on standard error: one line, and how far its work is."""
+"""What a command prints on standard error: one line, and its progress."""
 
 import os
 import sys
@@ -9,12 +9,12 @@ from typing import IO, Any
 
 from psi_tools.errors import printable
 
-# From how many seconds on a work tells on a terminal how far it is, and how often.
+# From how many seconds on progress is shown on a terminal, and how often.
 QUIET, OFTEN = 2, 0.2
 
 
 def print_error(line: str, end: str = "\n") -> None:
-    """Tells something on standard error, as far as it can be written; where it can't, nothing more
+    """Prints a line on standard error, as far as it can be written; where it can't, nothing more
     is written."""
     if sys.stderr is None:
         return
@@ -30,8 +30,8 @@ def is_terminal() -> bool:
 
 
 class Pulse:
-    """Tells on a terminal each second that a command is at work, from the second second on, until
-    something else tells how far it is."""
+    """Shows on a terminal each second that a command is at work, from the second second on, until
+    progress is shown."""
 
     own = None
 
@@ -40,7 +40,7 @@ class Pulse:
         self.thread = threading.Thread(target=self.beat, daemon=True)
 
     def beat(self) -> None:
-        """Tells until it is over."""
+        """Shows it until the work is over."""
         wait, has_shown = QUIET, False
         while not self.is_over.wait(wait):
             line = f"{self.command}: at work, {clock(time.monotonic() - self.begun)}"
@@ -51,14 +51,14 @@ class Pulse:
 
     @classmethod
     def begin(cls, command: str) -> None:
-        """Begins to tell, where there is a terminal."""
+        """Begins, where there is a terminal."""
         if is_terminal():
             cls.own = cls(command)
             cls.own.thread.start()
 
     @classmethod
     def end(cls) -> None:
-        """Tells nothing more."""
+        """Ends."""
         if cls.own is not None:
             cls.own.is_over.set()
             cls.own.thread.join()
@@ -66,13 +66,13 @@ class Pulse:
 
 
 class Bar:
-    """How far a work is, which this one tells nobody; `before` is what other parts of it have done."""
+    """The progress of some work, which this class does not show; `before` is what other parts of it have done."""
 
     def __init__(self, whole: int, what: str = "samples") -> None:
         self.whole, self.what, self.before = whole, what, 0
 
     def show(self, done: int) -> None:
-        """Tells that so much is done, beside what was before this part."""
+        """Shows how much is done, in addition to what was done before this part."""
 
     def end(self) -> None:
         """Removes what was shown."""
@@ -83,7 +83,7 @@ Meter = Callable[[int, str], Bar]
 
 
 class Progress(Bar):
-    """Tells on a terminal how far a command is, from the second second on."""
+    """Shows the progress of a command on a terminal, from the second second on."""
 
     def __init__(self, command: str, whole: int, what: str = "samples") -> None:
         super().__init__(whole, what)
@@ -92,7 +92,7 @@ class Progress(Bar):
         self.is_shown = is_terminal()
 
     def show(self, done: int) -> None:
-        """Tells that so much is done, beside what was before this part."""
+        """Shows how much is done, in addition to what was done before this part."""
         now, done = time.monotonic(), self.before + done
         if not self.is_shown or now - self.begun < QUIET or now - self.last < OFTEN:
             return
@@ -121,7 +121,7 @@ def print_note(command: str, why: object) -> None:
 
 
 def silence(stream: IO[Any] | None) -> None:
-    """What wasn't written to a stream is given up, so that nothing is said of it again."""
+    """Gives up what wasn't written to a stream, so that it is not reported again."""
     try:
         with open(os.devnull, "wb") as nowhere:
             if stream is not None:

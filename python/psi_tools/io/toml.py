@@ -1,7 +1,7 @@
-"""Reads TOML 1.1, with the line of each key and value: what tells where in a file something stands.
+"""Reads TOML 1.1, with the line of each key and value, so that a message can name it.
 
 Python's own reader knows TOML 1.0 alone, and keeps no lines. A table in braces may go over several
-lines here, with a comma behind its last entry; strings may have the escapes \\e and \\xHH.
+lines here, with a comma after its last entry; strings may have the escapes \\e and \\xHH.
 """
 
 import re
@@ -67,7 +67,7 @@ def read(data: bytes) -> Table:
 
 
 class Reader:
-    """Reads a text from its front to its end."""
+    """Reads a text from its beginning to its end."""
 
     def __init__(self, text: str) -> None:
         self.text, self.at, self.depth = text, 0, 0
@@ -117,7 +117,7 @@ class Reader:
         text = self.text[self.at : end].removesuffix("\r")
         wrong = CONTROLS.search(text)
         if wrong:
-            self.fail("a comment has a character that can't stand in one")
+            self.fail("a comment has a character that is not allowed there")
         self.at += len(text)
 
     def document(self) -> Table:
@@ -136,7 +136,7 @@ class Reader:
             if self.peek() == "#":
                 self.comment()
             if self.at < len(self.text) and not self.end_of_line():
-                self.fail("something stands behind what ends here")
+                self.fail("more text follows on the line")
 
     def header(self, root: Table) -> Table:
         """The table that a header begins."""
@@ -156,7 +156,7 @@ class Reader:
             if type(table) is Array and table.of_tables:
                 table = table[-1]
             if type(table) is not Table or table.kind == "braces":
-                raise TomlError(line, f"{key} is no table that can be gone on with")
+                raise TomlError(line, f"{key} is no table that can be extended")
         return self.headed(table, keys[-1], line, is_array)
 
     def headed(self, table: Table, key: str, line: int, is_array: bool) -> Table:
@@ -201,7 +201,7 @@ class Reader:
             return self.string()
         bare = self.take(BARE)
         if not bare:
-            self.fail("a key is wanted here")
+            self.fail("a key is expected here")
         return bare[0]
 
     def pair(self, table: Table) -> None:
@@ -209,7 +209,7 @@ class Reader:
         line = self.line()
         keys = self.keys()
         if self.peek() != "=":
-            self.fail("behind a key `=` is wanted")
+            self.fail("`=` is expected after a key")
         self.at += 1
         self.take(BLANK)
         value = self.value()
@@ -218,7 +218,7 @@ class Reader:
                 table[key], table.places[key] = Table(line, "dotted"), line
             table = table[key]
             if type(table) is not Table or table.kind not in ("dotted",):
-                raise TomlError(line, f"{key} is no table that can be gone on with")
+                raise TomlError(line, f"{key} is no table that can be extended")
         if keys[-1] in table:
             raise TomlError(line, f"{keys[-1]} is given a second time")
         table[keys[-1]], table.places[keys[-1]] = value, line
@@ -252,13 +252,13 @@ class Reader:
             self.at = moment.end()
             return Moment(moment[0])
         if not text:
-            self.fail("a value is wanted here")
+            self.fail("a value is expected here")
         begin, self.at = self.at, self.at + len(text)
         if text in ("true", "false"):
             return text == "true"
         if re.fullmatch(FLOAT, text):
             return float(text.replace("_", ""))
-        self.fail(f"{text} is no value; a text stands in quotes", begin)
+        self.fail(f"{text} is no value; a string needs quotes", begin)
 
     def array(self) -> Array:
         found = Array(self.line())
@@ -274,7 +274,7 @@ class Reader:
             if self.peek() == ",":
                 self.at += 1
             elif self.peek() != "]":
-                self.fail("in an array `,` or `]` is wanted here")
+                self.fail("in an array `,` or `]` is expected here")
 
     def braces(self) -> Table:
         found = Table(self.line(), "dotted")
@@ -290,7 +290,7 @@ class Reader:
             if self.peek() == ",":
                 self.at += 1
             elif self.peek() != "}":
-                self.fail("in a table in braces `,` or `}` is wanted here")
+                self.fail("in a table in braces `,` or `}` is expected here")
 
     def string(self) -> str:
         """A text in quotes of any of the four forms."""
@@ -313,7 +313,7 @@ class Reader:
                 self.fail("the text in quotes doesn't end on its line")
             is_end = char == "\r" and self.peek(2) == "\r\n"
             if CONTROLS.match(char) and not is_end:
-                self.fail("the text in quotes has a character that can't stand in one")
+                self.fail("the text in quotes has a character that is not allowed there")
             parts.append(char)
             self.at += 1
 
@@ -349,7 +349,7 @@ class Reader:
                 while self.take(BLANK) and self.end_of_line():
                     pass
                 return ""
-        self.fail("a backslash begins an escape that there isn't", begin)
+        self.fail("a backslash begins an unknown escape", begin)
 
 
 def seal(table: Table) -> None:

@@ -1,4 +1,4 @@
-"""The models of psi-new: each makes a network of a few numbers, and says what it models."""
+"""The models of psi-new: each makes a network of a few numbers, and describes what it models."""
 
 import argparse
 import dataclasses
@@ -14,13 +14,13 @@ from psi_tools.stats.mean_values import means_of
 Rate = Fraction
 Value = TypeVar("Value")
 
-# A queue of the format has at most so many servers; more are events of their own.
+# The most servers that a queue of the format has; more are events of their own.
 MOST_SERVERS = 64
 
 
 @dataclasses.dataclass
 class Made:
-    """A network whose rates are fractions yet, and what its file's comment says."""
+    """A network whose rates are fractions yet, and the comment of its file."""
 
     net: Network
     comment: str
@@ -37,7 +37,7 @@ def add_arrival(made: Made, name: str, rate: Rate, *to: str) -> None:
 
 def add_servers(made: Made, queue: str, rate: Rate, servers: int, name: str = "serve", **keys: Any) -> None:
     """The service of a queue by some servers. Above 64 each is an event of its own, which takes a
-    customer where at least so many are there: such a service ends outside."""
+    customer where at least as many are there: such a service ends outside."""
     table = next(table for table in made.net.table["queue"] if table["name"] == queue)
     if servers <= MOST_SERVERS:
         if servers > 1:
@@ -50,7 +50,7 @@ def add_servers(made: Made, queue: str, rate: Rate, servers: int, name: str = "s
 
 
 def add_full(made: Made, name: str, queue: str, capacity: int) -> None:
-    """The reward that tells whether a queue is full."""
+    """The reward that is 1 where a queue is full."""
     made.net.reward(name, "above", [queue], level=capacity - 1)
 
 
@@ -60,7 +60,7 @@ def waiting(servers: int, places: int) -> list[int]:
 
 
 def by_formula(arrival: Rate, deaths: Sequence[Rate]) -> str:
-    """What the formula for birth and death says of a queue, as a sentence: how many are there on
+    """The values of a queue by the formula for birth and death, as a sentence: how many are there on
     average, and how often it is full. `deaths` has the rate at which it loses one, from 1 customer
     to as many as there are places."""
     logs = [0.0]

@@ -6,40 +6,34 @@ meet, whatever the random words are.
 """
 
 import itertools
+import math
+
+import numpy
 
 from psi_tools.check_log import Network as Plain
+from psi_tools.model.moves import closed_parts
 from psi_tools.model.networks import Network
 
-# At most so many states are followed, and so many steps from them.
+# The most states that are followed, and the most steps from them.
 MOST_STATES, MOST_STEPS = 20_000, 400_000
 State = tuple[int, ...]
 
 
 def closed_classes(net: Network) -> list[list[State]] | None:
     """The closed classes of the states of a network; none where there are too many states."""
-    many = 1
-    for capacity in net.capacities:
-        many *= capacity + 1
+    many = math.prod(capacity + 1 for capacity in net.capacities)
     events = [*Plain({"version": 2, **net.heads, **net.table}).events]
     if many > MOST_STATES or many * len(events) > MOST_STEPS:
         return None
-    # Both take a while to be read.
-    import numpy
-    import scipy.sparse.csgraph
-
     states = [*itertools.product(*(range(capacity + 1) for capacity in net.capacities))]
     place = {state: number for number, state in enumerate(states)}
     begins = numpy.repeat(numpy.arange(many), len(events))
     ends = numpy.array([place[tuple(event.after(x))] for x in states for event in events])
-    graph = scipy.sparse.coo_matrix((numpy.ones(len(ends)), (begins, ends)), (many, many))
-    count, labels = scipy.sparse.csgraph.connected_components(graph, connection="strong")
-    is_left = numpy.zeros(count, bool)
-    is_left[labels[begins[labels[begins] != labels[ends]]]] = True
-    return [[states[number] for number in numpy.flatnonzero(labels == label)] for label in numpy.flatnonzero(~is_left)]
+    return [[states[number] for number in part] for part in closed_parts(begins, ends, many)]
 
 
 def describe_classes(net: Network) -> list[str]:
-    """What is said of a network with several closed classes, which never couples."""
+    """The line on a network with several closed classes, which never couples."""
     found = closed_classes(net)
     if found is None or len(found) < 2:
         return []

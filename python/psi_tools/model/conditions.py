@@ -55,7 +55,7 @@ def column_of(net: Network, name: str, is_reward: bool = False) -> str:
 class Condition:
     """A condition on a sample of a network.
 
-    `columns` has the columns of a table of samples that it names, each once; `holds` says whether values of these
+    `columns` has the columns of a table of samples that it names, each once; `holds` decides whether values of these
     columns, in this order, meet it. Raises PsiError where the text is no condition.
     """
 
@@ -106,7 +106,7 @@ class Condition:
         return self.quantity(node)
 
     def quantity(self, node: ast.expr) -> Number:
-        """What a name means, which is in quotes where it has a hyphen, say."""
+        """What a name means; it is in quotes where it has a hyphen, for example."""
         if isinstance(node, ast.Name):
             name = node.id
         elif isinstance(node, ast.Constant) and type(node.value) is str:
@@ -126,7 +126,7 @@ def parsed(text: str) -> ast.expr:
         raise PsiError(f"the condition has more than {MOST_CHARACTERS:,} characters")
     # Other characters may stand for ASCII ones in Python's names.
     if not text.isascii() or not text.replace("\t", " ").isprintable():
-        raise PsiError("the condition has characters that no name, number or sign has")
+        raise PsiError("the condition has characters that no name, number or operator has")
     try:
         with warnings.catch_warnings():
             warnings.simplefilter("ignore")

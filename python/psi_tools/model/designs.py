@@ -1,4 +1,4 @@
-"""Designs: networks that differ in some numbers, in which the same words choose the same events."""
+"""Designs: networks that differ in some numbers, in which the same random words choose the same events."""
 
 import copy
 import dataclasses
@@ -169,14 +169,14 @@ def designs_of(
 
 def fit_tables(net: Network) -> Iterator[str]:
     """Cuts the tables of a network whose capacities are less than they were. Gives the names of the
-    rewards whose tables have no value for so many customers; an index that lacks is refused."""
+    rewards whose tables have no value for that many customers; an index table that is too short is refused."""
     capacity = dict(zip(net.queues, net.capacities))
     for event in net.table["event"]:
         if event["kind"] == "index":
             cut_rows(event["table"], [capacity[name] for name in event["to"]])
             for name, row in zip(event["to"], event["table"]):
                 if len(row) < capacity[name]:
-                    message = f"its table has no index for so many customers in {name}"
+                    message = f"its table has no index for that many customers in {name}"
                     raise PsiError(f"{event['name']}: {message}")
     for reward in net.table["reward"]:
         if reward["kind"] == "table":
@@ -212,10 +212,10 @@ def aligned(designs: list[Design]) -> tuple[list[Design], str | None]:
     """The same designs with idle events, so that each event has the same numbers in all of them, as
     far as its rate goes; and why that can't be, or none.
 
-    The word of a step chooses an event by its number: an event of rate r has r numbers in a row. So
-    where a rate differs, each event behind it would be chosen by other words. Here each event has
+    The random word of a step chooses an event by its number: an event of rate r has r numbers in a row. So
+    where a rate differs, each event after it would be chosen by other random words. Here each event has
     as many numbers as it needs in any design, and what a design doesn't need of them is idle: so
-    all have the same modulus, too, and the same words choose the same events but where a rate is
+    all have the same modulus, too, and the same random words choose the same events but where a rate is
     less. Events of one name are the same event; one that a design doesn't have is idle there.
     """
     nets = [design.net for design in designs]
@@ -238,7 +238,7 @@ def aligned(designs: list[Design]) -> tuple[list[Design], str | None]:
 
 def common_events(nets: list[Network]) -> list[str]:
     """The names of the events of all networks, in an order that is near that of each: a name that
-    is new stands behind the one that it follows in its own network."""
+    is new stands after the one that it follows in its own network."""
     names: list[str] = []
     for net in nets:
         place = 0

@@ -18,7 +18,7 @@ RANGES = {
     "split": (1, 4_096),
     "shift": (-65_535, 65_535),
 }
-# How like a word has to be, as difflib tells it, for it to be what was meant.
+# The least similarity, by difflib, of a word that may have been meant.
 LIKE = 0.6
 
 
@@ -81,7 +81,7 @@ def table_at(document: Table, found: Finding) -> Table | None:
 
 
 def remark_on_value(document: Table, found: Finding) -> str | None:
-    """What there is to say of the value that psi refuses, beside the guide's sentence; none where
+    """The remark on the value that psi refuses, beside the guide's sentence; none where
     there is nothing."""
     table = table_at(document, found)
     if table is None or found["name"] not in REMARKS:
@@ -132,7 +132,7 @@ def on_unknown_queue(document: Table, table: Table, key: str, found: Finding) ->
 
 
 def on_version(document: Table, table: Table, key: str, found: Finding) -> str | None:
-    """The version that the file says."""
+    """The version in the file."""
     return f"version is {table['version']}" if type(table.get("version")) is int else None
 
 
@@ -152,7 +152,7 @@ def on_range(document: Table, table: Table, key: str, found: Finding) -> str | N
     if key == "full" and isinstance(value, str):
         return "; ".join(filter(None, [f"full is {value}", meant(value, ("lost", "stay"))]))
     if isinstance(value, str) and not (value and len(value) <= 32 and {*value} <= NAME):
-        return f"{key} has {len(value)} signs; 1 to 32 letters, digits, _ and - make a name"
+        return f"{key} has {len(value)} characters; 1 to 32 letters, digits, _ and - make a name"
     return None
 
 

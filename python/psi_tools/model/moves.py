@@ -1,6 +1,6 @@
 """What events may do to the numbers of customers: the changes that are possible, and their bounds.
 
-The rules of the guide's kinds, as far as they tell what may happen to a queue at some number of
+The rules of the guide's kinds, as far as they determine what may happen to a queue at some number of
 customers whatever the other queues hold. Nothing is sampled here.
 """
 
@@ -47,10 +47,8 @@ class Moves:
             return self.changes_of_parts(event["part"])
         targets = self.targets(event)
         taken = {place: -1 for place in sources}
-        if kind == "fork":
-            return [{**taken, **{place: 1 for place in targets}}]
-        if kind == "join":
-            return [{**taken, **{place: 1 for place in targets}}]
+        if kind in ("fork", "join"):
+            return [{**taken, **dict.fromkeys(targets, 1)}]
         if kind == "negative":
             on = self.place[event["on"]]
             most = min(event.get("amount", 1), self.capacities[on])
@@ -115,23 +113,25 @@ class Moves:
     def traps(self, place: int) -> list[tuple[int, int, int]]:
         """The sets of numbers of a queue that can't be left, each as its least, its greatest and
         how many numbers it has: where there are two, states that never meet."""
-        # Both take a while to be read.
-        import scipy.sparse
-        import scipy.sparse.csgraph
-
         count = self.capacities[place] + 1
         pairs = self.steps(place)
         begins = numpy.concatenate([[0], *(begin for begin, _ in pairs)]).astype(int)
         ends = numpy.concatenate([[0], *(end for _, end in pairs)]).astype(int)
-        graph = scipy.sparse.coo_matrix((numpy.ones(len(begins)), (begins, ends)), (count, count))
-        many, labels = scipy.sparse.csgraph.connected_components(graph, connection="strong")
-        left = numpy.zeros(many, bool)
-        left[labels[begins[labels[begins] != labels[ends]]]] = True
-        found = []
-        for label in numpy.flatnonzero(~left):
-            numbers = numpy.flatnonzero(labels == label)
-            found.append((int(numbers[0]), int(numbers[-1]), len(numbers)))
-        return sorted(found)
+        return sorted((int(own[0]), int(own[-1]), len(own)) for own in closed_parts(begins, ends, count))
+
+
+def closed_parts(begins: Any, ends: Any, count: int) -> list[Any]:
+    """The strongly connected parts of a graph that no edge leaves, each by its places, ascending. The edges lead
+    from `begins` to `ends`, which are places below `count`."""
+    # Both take a while to be read.
+    import scipy.sparse
+    import scipy.sparse.csgraph
+
+    graph = scipy.sparse.coo_matrix((numpy.ones(len(begins)), (begins, ends)), (count, count))
+    many, labels = scipy.sparse.csgraph.connected_components(graph, connection="strong")
+    is_left = numpy.zeros(many, bool)
+    is_left[labels[begins[labels[begins] != labels[ends]]]] = True
+    return [numpy.flatnonzero(labels == label) for label in numpy.flatnonzero(~is_left)]
 
 
 def ends_of(part: Table, capacity: int) -> tuple[int, int]:
@@ -203,7 +203,7 @@ class Rows:
 @dataclasses.dataclass
 class Load:
     """The flow of a queue, as rates: of customers that come, of the service of all its servers, and
-    at which customers who wait give up at most, where so many wait as there can."""
+    at which customers who wait give up at most, where as many wait as can."""
 
     arrivals: float
     service: float

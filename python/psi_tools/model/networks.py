@@ -52,7 +52,7 @@ def escaped(char: str) -> str:
 
 
 def written(value: object, where: str = "the value") -> str:
-    """A value in TOML; `where` says in messages what it is."""
+    """A value in TOML; `where` names it in messages."""
     if isinstance(value, dict):
         items = (f"{key} = {written(item, f'{key} in {where}')}" for key, item in value.items())
         return "{ " + ", ".join(items) + " }"
@@ -139,7 +139,7 @@ class Network:
         Raises
         ------
         PsiError
-            The file can't be read, or is no TOML.
+            The file cannot be read, or is no TOML.
         """
         return cls.parse(read_file(path), path)
 
@@ -290,7 +290,7 @@ class Network:
         return 1
 
     def version(self) -> int:
-        """The version that the file says, or else the least that has what stands in it."""
+        """The version in the file, or else the least that allows what stands in it."""
         is_second = self.heads.get("limit", 0) > 20
         is_second |= any(event.get("kind") == "guarded" for event in self.table["event"])
         return int(self.heads.get("version", 2 if is_second else 1))
@@ -357,12 +357,12 @@ def data_of(net: Source) -> bytes:
 
 
 def checked(psi: "Program", path: Path) -> Network:
-    """The network of a file that psi takes; raises psi's own refusal where it doesn't."""
+    """The network of a file that psi takes; raises psi's own refusal where it does not."""
     data = read_file(path)
     try:
         psi.ask("check", data)
     except Refused as refused:
-        hint = "; psi-where tells the line" if refused.status == 3 else ""
+        hint = "; psi-where prints the line" if refused.status == 3 else ""
         raise Refused(f"{refused}{hint}", refused.status, refused.line) from None
     return Network.parse(data, path)
 

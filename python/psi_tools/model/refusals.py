@@ -134,7 +134,7 @@ def place_in_parts(document: Table, event: Table, name: str, key: str) -> Place:
 
 
 def offends(part: Table, name: str, key: str, capacities: dict[str, int], seen: set[Any]) -> bool:
-    """Whether a part is the one that is refused, by what its refusal says."""
+    """Whether a part is the one that is refused, by its refusal."""
     value, capacity = part.get(key), capacities.get(part.get("queue", ""))
     if name == "UnknownKey":
         return place_odd(part) if key == "-" else key in part and key not in OF_PARTS

@@ -1,4 +1,4 @@
-"""The line of a network file that psi refuses, and what there is to say of it."""
+"""The line of a network file that psi refuses, and a remark on it."""
 
 import re
 
@@ -13,11 +13,11 @@ LONGEST = 160
 
 
 def found_in(data: bytes, line: str) -> Finding:
-    """What psi's line says of a file: the code, its name, the section, the number and the key of
+    """What psi's line has on a file: the code, its name, the section, the number and the key of
     what is refused, and the line and a remark on it; the line is none where it isn't known."""
     message = REFUSED.fullmatch(line)
     if not message:
-        raise PsiError(printable(line) or "psi told nothing", 3)
+        raise PsiError(printable(line) or "psi printed nothing", 3)
     code, name, section, number, key = message.groups()
     found = {"code": int(code), "name": name, "section": section, "number": int(number), "key": key}
     found["line"], found["remark"] = line_of(data, found)
@@ -25,15 +25,15 @@ def found_in(data: bytes, line: str) -> Finding:
 
 
 def line_of(data: bytes, found: Finding) -> Place:
-    """The line of what is refused, and what there is to say of it beside the guide's sentence."""
+    """The line of what is refused, and a remark beside the guide's sentence."""
     if found["name"] == "TooLong":
-        return data.count(b"\n", 0, MOST_BYTES) + 1, "here the bytes that a file may have are over"
+        return data.count(b"\n", 0, MOST_BYTES) + 1, "here the file has the most bytes that it may have"
     try:
         document = toml.read(data)
     except toml.TomlError as fault:
         return fault.line, fault.what
     if found["name"] == "NotToml":
-        return None, "the line can't be told"
+        return None, "the line is not known"
     line, remark = place_of(document, found)
     own = remark_on_value(document, found)
     table = table_at(document, found)

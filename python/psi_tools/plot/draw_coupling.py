@@ -57,7 +57,7 @@ def draw_coupling(log: Coupling, title: str) -> style.Figure:
 
 
 def caption(log: Coupling) -> str:
-    """What the title says of a log."""
+    """The caption of a log."""
     text = f"seed {log.seed}, stream {log.stream}, from time {style.whole(-log.horizon)} on"
     text += f"; one state from {style.whole(log.met)} on"
     if len(log.names) <= MOST_QUEUES_IN_TITLE:

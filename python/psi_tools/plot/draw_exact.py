@@ -40,7 +40,7 @@ def top(found: Shrinking) -> float:
 
 
 def caption(found: Shrinking) -> str:
-    """What the title says of a text."""
+    """The caption of a text."""
     states, longest = style.whole(found.states), style.whole(found.longest())
     if found.constant is None:
         left = style.whole(found.images[found.longest()])

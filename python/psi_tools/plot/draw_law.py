@@ -9,7 +9,7 @@ from psi_tools.io.tables import Record
 from psi_tools.plot import style
 from psi_tools.stats.law import Law
 
-# From so many values on they are drawn as a line, since bars would be too thin.
+# From this number of values on they are drawn as a line, since bars would be too thin.
 MANY = 120
 
 
@@ -81,4 +81,4 @@ def draw_shares(axes: Any, law: Law, records: list[Record], values: Any) -> None
     message = ", ".join(f"{share * 100:g} % at most {value}" for share, value, *_ in quantiles)
     axes.set_title(message, loc="left", pad=3)
     axes.set_ylim(0, 1.03)
-    axes.set_ylabel("at most so many")
+    axes.set_ylabel("probability of at most this value")

@@ -23,7 +23,7 @@ MOST_LETTERS = 17
 
 @style.styled
 def draw_past(picture: tuple[Past, int | None], title: str) -> Any:
-    """The figure of all runs; the second part says which queue is drawn, or none for all customers."""
+    """The figure of all runs; the second part is the queue that is drawn, or none for all customers."""
     past, queue = picture
     rows, longest = len(past.runs), past.runs[-1].horizon
     named = NAMES_HEIGHT if longest <= MOST_NAMED else 0.0

@@ -7,11 +7,11 @@ import matplotlib.patches
 import matplotlib.ticker
 
 from psi_tools.plot import style
-from psi_tools.plot.read_report import Report, Spread
+from psi_tools.plot.report import Report, Spread
 
 Named = Sequence[tuple[str, Report]]
 
-# Each report has a colour, and a hatch and a mark for those who can't tell colours.
+# Each report has a colour, and a hatch and a mark for those who can't distinguish colours.
 COLOURS = (style.BLUE, style.ORANGE, style.GREEN, style.VERMILION, style.SKY, style.PURPLE, style.BLACK, style.YELLOW)
 HATCHES = "", "////", "\\\\\\\\", "xxxx", "----", "||||", "++++", "//"
 MARKS = "osD^vPX*"
@@ -95,7 +95,7 @@ def stems_of(named: Named) -> list[str]:
 
 
 def caption(stems: list[str], reports: list[Report]) -> str:
-    """What the title says of all reports: which samples aren't met."""
+    """The caption of all reports: which samples aren't coupled."""
     lost = [
         f"{style.whole(report.uncoupled)} of {style.whole(report.samples)} samples of {stem}"
         for stem, report in zip(stems, reports)

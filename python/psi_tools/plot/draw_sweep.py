@@ -25,7 +25,7 @@ def draw_sweep(
         left.set_title(f"{group[0]['name']}{reward}: mean", loc="left", pad=3)
         draw_points(right, places, group, "difference", "difference_", style.VERMILION)
         right.axhline(0, color=style.GREY, lw=0.6, zorder=1)
-        right.set_title("difference, by the same words", loc="left", pad=3)
+        right.set_title("difference, under common random numbers", loc="left", pad=3)
     for axes in panels[-1]:
         axes.set_xlabel(name)
         axes.set_xticks(places, ticks, rotation=0 if max(map(len, ticks)) < 8 else 30)

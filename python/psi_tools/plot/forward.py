@@ -37,7 +37,7 @@ class Forward:
     met: numpy.ndarray[Any, Any]
 
     def distance(self, steps: int) -> float:
-        """How far the law after so many steps is from the stationary one at most, as half the sum
+        """How far the distribution after some steps is from the stationary one at most, as half the sum
         of the differences: no event's probability differs more."""
         return float(abs(self.after[steps] - self.law).sum(axis=1).max() / 2)
 
@@ -45,9 +45,9 @@ class Forward:
 def maps_of(net: Network) -> list[Map]:
     """What each event makes of each number of customers, and its share of the random words; that of idle
     is among them."""
-    require(len(net.queues) == 1, "forward is told a network of one queue")
+    require(len(net.queues) == 1, "forward takes a network of one queue")
     [capacity] = net.capacities
-    require(capacity <= MOST_PLACES, f"forward is told a queue with room for {MOST_PLACES} at most")
+    require(capacity <= MOST_PLACES, f"forward takes a queue of a capacity of at most {MOST_PLACES}")
     numbers, found = numpy.arange(capacity + 1), []
     for event in net.table["event"]:
         require(
@@ -74,7 +74,7 @@ def map_of(event: Table, capacity: int, numbers: Numbers, server: int) -> Number
 
 
 def matrix_of(maps: list[Map], count: int) -> Numbers:
-    """The step of the chain on so many states, by the rows."""
+    """The step of the chain on this number of states, by the rows."""
     matrix = numpy.zeros((count, count))
     for share, after in maps:
         numpy.add.at(matrix, (numpy.arange(count), after), share)
@@ -96,7 +96,7 @@ def met_of(maps: list[Map], count: int) -> Numbers:
     pairs of the least and the greatest of them, which all others stand between."""
     for _, after in maps:
         is_monotone = bool((numpy.diff(after) >= 0).all())
-        require(is_monotone, "forward is told a network whose events are all monotone")
+        require(is_monotone, "forward takes a network whose events are all monotone")
     place = {(low, high): low * count + high for low in range(count) for high in range(count)}
     step = numpy.zeros((count * count, count * count))
     for share, after in maps:
@@ -118,7 +118,7 @@ def numbers_of(words: Sequence[str]) -> list[int]:
             bool(NUMBER.fullmatch(word)) and len(word) < 9 and 0 < int(word) <= MOST_STEPS,
             f"{word} isn't a number of steps from 1 to {MOST_STEPS}",
         )
-    require(len(words) <= MOST_PARTS, f"forward is told at most {MOST_PARTS} numbers of steps")
+    require(len(words) <= MOST_PARTS, f"forward takes at most {MOST_PARTS} numbers of steps")
     return sorted({int(word) for word in words}) or [*STEPS]
 
 

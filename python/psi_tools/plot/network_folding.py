@@ -8,7 +8,7 @@ import math
 from psi_tools.plot.network_layout import Curve, Layout, Point, size_of
 from psi_tools.plot.network_scene import Scene, SceneArrow
 
-# From this width on, in inches, a layout is folded where it is more than so many times as wide as it is high.
+# From this width on, in inches, a layout is folded where it is more than this many times as wide as it is high.
 WIDEST, SHAPE = 11.0, 3.0
 # The shape that rows together should have, the room between them, and how far an arrow to another row reaches out.
 WANTED_SHAPE, GAP, REACH = 1.9, 0.4, 0.4

@@ -11,7 +11,6 @@ import pathlib
 import re
 import tomllib
 import xml.etree.ElementTree
-from collections.abc import Iterator
 from typing import Any
 
 from psi_tools import check_log
@@ -49,18 +48,9 @@ def runs_of(net: Network, log: bytes, title: str) -> Runs:
     random = [check_log.block(seed, stream, place // 16)[place % 16] for place in range(horizon)]
     numbers = [follower.net.event_of(seed, stream, time) for time in range(1, horizon + 1)]
     lengths = [1 << power for power in range((horizon - 1).bit_length())]
-    regions = [[*regions_of(follower, numbers[length - 1 :: -1])] for length in lengths]
+    regions = [[*follower.regions(numbers[length - 1 :: -1])] for length in lengths]
     regions.append([first, *(step[2] for step in steps)])
     return Runs(net, title, seed, stream, random, numbers, regions)
-
-
-def regions_of(follower: Follower, numbers: list[int]) -> Iterator[Region]:
-    """The regions of a run under these events, from all states on."""
-    region: Region = follower.whole
-    yield region
-    for number in numbers:
-        region = follower.after(follower.net.events[number], region)
-        yield region
 
 
 def change_of(before: Region | None, after: Region) -> Any:

@@ -9,13 +9,14 @@ from __future__ import annotations
 
 import dataclasses
 import tomllib
-from collections.abc import Iterable
+from collections.abc import Iterable, Iterator
 from typing import Any
 
 from psi_tools import check_log
 from psi_tools.draw.program import Program
 from psi_tools.errors import InputError, require
 from psi_tools.model.networks import checked
+from psi_tools.plot.read_log import ends_of
 
 State = tuple[int, ...]
 Region = check_log.Region
@@ -70,16 +71,20 @@ class Follower:
         self.is_small = check_log.count(self.whole) <= MOST_PATHS
 
     def run(self, seed: int, stream: int, horizon: int) -> Run:
-        """The run that begins so many steps before time zero: as a box, and as a set once it has few states."""
+        """The run that begins `horizon` steps before time zero: as a box, and as a set once it has few states."""
         numbers = [self.net.event_of(seed, stream, time) for time in range(horizon, 0, -1)]
-        region: Region = self.whole
-        regions = [region]
-        for number in numbers:
-            region = self.after(self.net.events[number], region)
-            regions.append(region)
-        low, high = [list(some) for some in zip(*map(bounds_of_region, regions))]
+        regions = [*self.regions(numbers)]
+        low, high = [[tuple(end) for end in ends] for ends in zip(*map(ends_of, regions))]
         paths = self.paths(numbers) if self.is_small else None
         return Run(horizon, low, high, [check_log.count(each) for each in regions], paths)
+
+    def regions(self, numbers: Iterable[int]) -> Iterator[Region]:
+        """The regions of a run under these events, from all states on."""
+        region: Region = self.whole
+        yield region
+        for number in numbers:
+            region = self.after(self.net.events[number], region)
+            yield region
 
     def paths(self, numbers: list[int]) -> list[list[State]]:
         """The paths from all states under these events."""
@@ -94,19 +99,6 @@ class Follower:
         if isinstance(region, check_log.Box) and check_log.count(region) > self.split:
             return check_log.Box(*event.hull(region.low, region.high))
         return {event.after(state) for state in region}
-
-
-def bounds_of(states: Iterable[State]) -> tuple[State, State]:
-    """The least and the greatest number in each queue among some states."""
-    columns = list(zip(*states))
-    return tuple(map(min, columns)), tuple(map(max, columns))
-
-
-def bounds_of_region(region: Region) -> tuple[State, State]:
-    """As `bounds_of`, for a box or a set."""
-    if isinstance(region, check_log.Box):
-        return tuple(region.low), tuple(region.high)
-    return bounds_of(region)
 
 
 def names_of_events(table: dict[str, Any], net: check_log.Network) -> list[str]:

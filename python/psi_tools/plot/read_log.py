@@ -73,7 +73,7 @@ class Coupling:
 
 
 def columns_of(queues: int) -> int:
-    """In how many columns the pictures of so many queues stand."""
+    """In how many columns the pictures of this number of queues stand."""
     return 1 if queues <= 4 else 2 if queues <= 10 else 4
 
 

@@ -41,7 +41,7 @@ with quiet():
     import matplotlib.font_manager
     import matplotlib.textpath
     import matplotlib.ticker
-# Eight colours that those who don't see all colours can tell apart (Okabe and Ito 2008).
+# Eight colours that those who don't see all colours can distinguish (Okabe and Ito 2008).
 BLACK, ORANGE, SKY, GREEN = "#000000", "#E69F00", "#56B4E9", "#009E73"
 YELLOW, BLUE, VERMILION, PURPLE = "#F0E442", "#0072B2", "#D55E00", "#CC79A7"
 GREY = "#666666"
@@ -77,8 +77,8 @@ STYLE = {
 
 
 def styled(draw: Callable[Arguments, Drawn]) -> Callable[Arguments, Drawn]:
-    """Makes a function draw in the style of the pictures: what matplotlib is set to, and what is
-    told of warnings, is for its caller as it was before."""
+    """Makes a function draw in the style of the pictures: what matplotlib is set to, and the
+    filters of warnings, are for its caller as they were before."""
 
     @functools.wraps(draw)
     def drawn(*words: Arguments.args, **named: Arguments.kwargs) -> Drawn:
@@ -99,7 +99,7 @@ def new_figure(height: float, title: str) -> Figure:
 
 
 def head(axes: Any, text: str, handles: list[Any], labels: list[str], columns: int) -> None:
-    """What stands below the title, in axes of its own: what it tells, and a legend."""
+    """What stands below the title, in axes of its own: the caption, and a legend."""
     axes.axis("off")
     axes.set_title("\n".join(textwrap.wrap(text, 96)), pad=3, parse_math=False)
     # A label that begins with '_' would be left out.
@@ -154,7 +154,7 @@ def printable(text: str, most: int = 60) -> str:
 
 
 def fitted(name: str, points: float, size: float) -> tuple[str, float]:
-    """A name, and the size at which it isn't wider than so many points; it is cut where that would
+    """A name, and the size at which it isn't wider than this number of points; it is cut where that would
     be too small to read."""
     font = matplotlib.font_manager.FontProperties(size=size)
     for most in (60, 24, 16, 10):

@@ -80,7 +80,7 @@ class Batches:
         return share_of(sum(counts), sum(self.samples), level=level)
 
     def carried(self, names: list[str] | None = None) -> list[str]:
-        """The lines that tell which means few samples carry, of all rows or of some."""
+        """The lines on means that few samples carry, of all rows or of some."""
         lines = []
         for row in self.rows:
             spread, span = spread_of(row.sums, self.met), self.span(row)
@@ -118,7 +118,7 @@ def figures_of(report: Report, place: int) -> tuple[int, int | None, int | None]
 
 
 def interval_or_none(batches: Batches, row: Row) -> tuple[float, float] | None:
-    """The interval of a row, none where there are too few batches to say one."""
+    """The interval of a row, none where there are too few batches for one."""
     mean = batches.mean(row)
     low, high = mean.low, mean.high
     return None if low is None or high is None else (low, high)

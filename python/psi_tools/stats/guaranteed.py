@@ -52,7 +52,7 @@ def parts_of(samples: int) -> int:
 
 
 def pilots_of(count: int) -> int:
-    """How many pilot streams there are where nobody says it."""
+    """The default number of pilot streams."""
     return min(MOST_PILOTS, -(-count // PILOTS))
 
 
@@ -355,7 +355,7 @@ def of_batches(batches: "Batches", level: float) -> list[Guarantee]:
 
 
 def file_of(rows: Sequence[Guarantee], drawn: dict[str, Any]) -> dict[str, Any]:
-    """The file of certificates of some rows; `drawn` says of which samples they are."""
+    """The file of certificates of some rows; `drawn` names the samples."""
     return {"format": "psi certificates 1", "drawn": drawn, "d": rows[0].d, "rows": [row.record() for row in rows]}
 
 
@@ -392,5 +392,5 @@ def shown_out(mean: Mean) -> tuple[str, str]:
 
 
 def misses(d: int) -> str:
-    """The line of what a guarantee says."""
+    """The line on what is guaranteed."""
     return f"each interval misses for at most 2 in {d:,} lists of the streams' random words"

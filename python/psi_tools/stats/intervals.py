@@ -20,18 +20,20 @@ import functools
 import importlib
 import math
 import threading
-from collections.abc import Callable, Sequence
+from collections.abc import Callable, Iterator, Sequence
 from typing import Any
 
-# So many batches are asked for at least, and what an interval holds of all repetitions.
+# The least number of batches, and the default confidence level.
 LEAST_BATCHES, LEVEL = 20, 0.95
-# Steps of a bisection and of a false position, and of the rule by which the exponential part is
-# integrated, and how near a probability, and a quantile, have to be met.
-HALVINGS, STEPS, NODES, NEAR, NEAREST = 60, 40, 64, 2e-6, 1e-9
+# Steps of a bisection, and of the rule by which the exponential part is integrated, and how near the
+# logarithm of a probability, and a quantile, have to be met.
+HALVINGS, NODES, NEAR, NEAREST = 60, 64, 1e-6, 1e-9
 # A quantile of the standard normal distribution that no level reaches.
 FARTHEST = 10.0
-# A mean is carried by few samples where its sum is that of fewer than so many of equal size.
+# A mean is carried by few samples where its sum is that of fewer than this number of equal size.
 FEW = 30
+# Samples that are drawn within this number of seconds are waited for.
+AT_ONCE = 0.1
 # Both halves of an interval are equal for a reader where they differ by less than this share.
 EVEN = 0.1
 
@@ -42,14 +44,21 @@ def special() -> Any:
     return importlib.import_module("scipy.special")
 
 
-def read_ahead() -> None:
-    """Imports scipy while samples are drawn. A fault is reported where it is needed."""
+@contextlib.contextmanager
+def reading_ahead() -> Iterator[None]:
+    """Imports scipy while samples are drawn, where that takes a while. A fault is reported where it is needed."""
 
     def read() -> None:
         with contextlib.suppress(Exception):
             special()
 
-    threading.Thread(target=read).start()
+    # Processes that are started beside an import come later, and both take longer.
+    timer = threading.Timer(AT_ONCE, read)
+    timer.start()
+    try:
+        yield
+    finally:
+        timer.cancel()
 
 
 @dataclasses.dataclass(frozen=True)
@@ -100,7 +109,7 @@ def between(mean: float, low: float, high: float) -> Mean:
 class Span:
     """The values of a row: `least` and `greatest` are the ends of what it may have at all, none
     where that isn't known; `low` and `high` are the ends of what a sample is reckoned with that
-    did not come. `two` says that it has no other values than the least and the greatest."""
+    did not come. `two` is true where it has no other values than the least and the greatest."""
 
     least: int | None
     greatest: int | None
@@ -145,20 +154,19 @@ def bisected(is_below: Callable[[float], bool], low: float, high: float) -> floa
     return (low + high) / 2
 
 
-def crossing(rise: Callable[[float], float], low: float, high: float) -> float:
-    """Where a rising function is 0, between a place where it is below and one where it is above, by
-    false position (Illinois)."""
-    below, above = rise(low), rise(high)
-    for _ in range(STEPS):
-        middle = (low * above - high * below) / (above - below)
-        value = rise(middle)
-        if abs(value) < NEAR:
+def crossing(tail: Callable[[float], tuple[float, float]], wanted: float, x: float, low: float, high: float) -> float:
+    """Where a probability that falls is a wanted one, between two places; `tail` returns it with how
+    fast it falls. Newton's method finds it from x on, for the logarithm, which is nearly a line; a step
+    that leaves the two places is a halving instead."""
+    for _ in range(HALVINGS):
+        found, slope = tail(x)
+        miss = math.log(found / wanted) if found > 0 else -math.inf
+        if abs(miss) < NEAR:
             break
-        if value > 0:
-            high, above, below = middle, value, below / 2
-        else:
-            low, below, above = middle, value, above / 2
-    return middle
+        low, high = (x, high) if miss > 0 else (low, x)
+        after = x + miss * found / slope if found > 0 and slope > 0 else low
+        x = after if low < after < high else (low + high) / 2
+    return x
 
 
 @functools.cache
@@ -176,17 +184,20 @@ def student_and_unseen(degrees: int, ratio: float, level: float = LEVEL) -> floa
     end is from the mean, in standard errors, where the value that did not come would add `ratio`
     of them, had it come once. For a ratio of 0 it is Student's t; for rare values 0 and 1 the end
     is close to that of Clopper and Pearson."""
-    share = (1 + level) / 2
-    middle = float(special().stdtrit(degrees, share))
+    wanted, middle = (1 - level) / 2, student(degrees, level)
     if ratio <= 0:
         return middle
     logs, weights = exponential_nodes()
     parts, stdtr = ratio * logs, special().stdtr
+    factor = math.exp(math.lgamma((degrees + 1) / 2) - math.lgamma(degrees / 2)) / math.sqrt(degrees * math.pi)
 
-    def rise(x: float) -> float:
-        return float(weights @ stdtr(degrees, x - parts)) - share
+    def tail(x: float) -> tuple[float, float]:
+        rest = parts - x
+        density = factor * (1 + rest * rest / degrees) ** (-(degrees + 1) / 2)
+        return float(weights @ stdtr(degrees, rest)), float(weights @ density)
 
-    return crossing(rise, middle - 1e-6, 2 * middle - ratio * math.log((1 - share) / 4))
+    first = max(middle, -ratio * math.log(wanted))
+    return crossing(tail, wanted, first, middle - 1e-6, 2 * middle - ratio * math.log(wanted / 4))
 
 
 @dataclasses.dataclass(frozen=True)
@@ -435,7 +446,7 @@ def carriers(mean: float, error: float | None, many: int, base: float) -> float:
 
 
 def carried_by_few(name: str, number: float, many: int) -> str | None:
-    """The line that tells of a mean that few samples carry; none where many do."""
+    """The line on a mean that few samples carry; none where many do."""
     if number >= FEW:
         return None
     return (
@@ -447,7 +458,7 @@ def carried_by_few(name: str, number: float, many: int) -> str | None:
 def probability(count: int, many: int, unknown: int = 0, level: float = LEVEL) -> tuple[float, float]:
     """The ends of an interval of a probability: `count` of `many` independent samples have it, and
     of `unknown` more of the many it isn't known (Clopper and Pearson 1934). It holds the
-    probability at least so often as the level says, whatever the unknown ones are."""
+    probability at least as often as the level, whatever the unknown ones are."""
     tail = (1 - level) / 2
     low = special().betaincinv(count, many - count + 1, tail) if count else 0.0
     most = count + unknown
@@ -488,7 +499,7 @@ def quantile(
     """A quantile with its ends: the least value that at least this share of all samples doesn't
     pass. `values` are pairs of a value and how many samples have it, in their order; of `unknown`
     more it isn't known, so the lower end takes them for the least, and the upper for the greatest.
-    An end is none where the samples don't tell it."""
+    An end is none where the samples don't determine it."""
     known = sum(count for _, count in values)
     low, high = ranks(share, known + unknown, level)
     middle = value_at(values, max(1, math.ceil(round(share * known, 9))))

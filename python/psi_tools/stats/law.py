@@ -2,6 +2,7 @@
 
 import dataclasses
 from collections.abc import Iterator, Sequence
+from typing import Any
 
 from psi_tools.io.tables import Record
 from psi_tools.stats.intervals import (
@@ -22,13 +23,31 @@ Quantile = tuple[float, int | None, int | None, int | None]
 
 # The columns of a value's row.
 RECORD = ("value", "count", "probability", "low", "high", "at_most", "at_most_low", "at_most_high")
-# Those of values that came together, behind the values, and of a condition.
+# Those of values that came together, after the values, and of a condition.
 SHARED = ("count", "probability", "low", "high")
 SHARES = 0.05, 0.25, 0.5, 0.75, 0.9, 0.95, 0.99
 
 
+class Counted:
+    """Values, or values of several columns, with how many samples have them; of `unknown` more streams they aren't
+    known, as they weren't coupled."""
+
+    counts: Sequence[tuple[Any, int]]
+    unknown: int
+
+    @property
+    def known(self) -> int:
+        """How many samples have known values."""
+        return sum(count for _, count in self.counts)
+
+    @property
+    def many(self) -> int:
+        """How many streams were drawn."""
+        return self.known + self.unknown
+
+
 @dataclasses.dataclass
-class Law:
+class Law(Counted):
     """The distribution of a number over samples: `counts` has pairs of a value and how many samples
     have it, ascending; of `unknown` more streams it isn't known, as they weren't coupled. `span`
     has what the number may be."""
@@ -38,16 +57,6 @@ class Law:
     counts: list[tuple[int, int]]
     unknown: int
     span: Span
-
-    @property
-    def known(self) -> int:
-        """How many samples have a known value."""
-        return sum(count for _, count in self.counts)
-
-    @property
-    def many(self) -> int:
-        """How many streams were drawn."""
-        return self.known + self.unknown
 
     @property
     def ends(self) -> tuple[int, int]:
@@ -66,7 +75,7 @@ class Law:
         return mean_of_values(self.counts, self.span, self.unknown, level)
 
     def carried(self) -> str | None:
-        """The line that tells that few samples carry the mean; none where many do, or where there
+        """The line on a mean that few samples carry; none where many do, or where there
         are two values alone."""
         many = self.known
         if self.span.two or many < 2:
@@ -112,7 +121,7 @@ class Law:
 
 
 @dataclasses.dataclass
-class Joint:
+class Joint(Counted):
     """The joint distribution of some columns of a table over samples: `counts` has pairs of values, one for each
     column, and how many samples have them, ascending; of `unknown` more streams they aren't known, as they
     weren't coupled."""
@@ -120,16 +129,6 @@ class Joint:
     columns: list[str]
     counts: list[tuple[tuple[int, ...], int]]
     unknown: int
-
-    @property
-    def known(self) -> int:
-        """How many samples have known values."""
-        return sum(count for _, count in self.counts)
-
-    @property
-    def many(self) -> int:
-        """How many streams were drawn."""
-        return self.known + self.unknown
 
     def records(self, level: float = LEVEL) -> list[Record]:
         """The values that came together, each with their probability and its interval."""

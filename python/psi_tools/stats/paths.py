@@ -9,6 +9,10 @@ in a few separate visits, the paths' means are skewed, and Student's t alone is 
 alike, one would add the variance of the mean, divided by the mean above the least value. It is reckoned as
 larger the fewer visits there are, and at most as the greatest value for as many steps as the longest horizon
 of the samples, after which the states at its beginning are forgotten. Of paths of no step that is one sample.
+
+Paths about as long as the network takes to forget its state have skewed means as well: those that are small
+together have a small error together. So the error at an end is reckoned in proportion to how far the end is
+from the least value, as in a scale family.
 """
 
 import dataclasses
@@ -33,9 +37,9 @@ from psi_tools.stats.intervals import (
 from psi_tools.stats.means import record
 from psi_tools.stats.spans import Spans
 
-# Visits may be much larger than those that came where there are fewer than so many, of a table far more.
+# Visits may be much larger than those that came where there are fewer than this number, of a table far more.
 FEW_VISITS, FEW_OF_TABLE = FEW + FEW // 2, 4 * FEW
-# The sorts of rows: means of states, and rates of events.
+# The kinds of rows: means of states, and rates of events.
 QUEUE, REWARD, CHOSEN, MOVED = "queue", "reward", "chosen", "moved"
 ITEMS = {QUEUE: "mean", REWARD: "reward-mean", CHOSEN: "chosen-rate", MOVED: "moved-rate"}
 
@@ -116,12 +120,24 @@ class Paths:
         if not spread.error:
             # All paths are alike: what didn't come in any comes in so few of all.
             return spread.mean - sign * math.log((1 - level) / 2) * far
+        if below <= 0:
+            return spread.mean + sign * self.reach(spread, far, 0.0, level)
         one = visit_of(spread.error, below)
-        unseen = min(far, one * (2 + (row.few * one / below) ** 4)) if below > 0 else far
-        return spread.mean + sign * spread.error * student_and_unseen(spread.batches - 1, unseen / spread.error, level)
+        unseen = min(far, one * (2 + (row.few * one / below) ** 4))
+        return spread.mean + sign * self.reach(spread, unseen, 1 / below, level)
+
+    @staticmethod
+    def reach(spread: Spread, unseen: float, share: float, level: float) -> float:
+        """How far an end is from the mean: by Student's t with what did not come, where the error at the end
+        is larger by a share of it for each 1 from the mean to the end, and at most twice as large."""
+        assert spread.error is not None
+        degrees = spread.batches - 1
+        alone = spread.error * student_and_unseen(degrees, 0, level)
+        more = min(alone * share, 0.5)
+        return spread.error * student_and_unseen(degrees, unseen / spread.error, level) + alone * more / (1 - more)
 
     def carried(self) -> list[str]:
-        """The lines that tell of which rows few visits to other values carry the mean."""
+        """The lines on rows whose mean few visits to other values carry."""
         lines = []
         for row in self.rows:
             spread = self.spread(row, row.span.ends[0]) if row.kind != CHOSEN and row.times else None
@@ -161,7 +177,7 @@ def paths_of_rows(net: Network, steps: int, rows: list[str | None]) -> Paths:
 
 
 def columns_of(net: Network) -> list[tuple[str, str, list[int]]]:
-    """The sort and the name of each row, and the places of its columns: of an event one for each server."""
+    """The kind and the name of each row, and the places of its columns: of an event one for each server."""
     found: list[tuple[str, str, list[int]]] = []
     states = [(QUEUE, name) for name in net.queues] + [(REWARD, name) for name in net.rewards]
     found += [(kind, name, [place]) for place, (kind, name) in enumerate(states)]

@@ -15,8 +15,18 @@ def figures(number: float | None, half: float | None = None) -> str:
     return f"{number:.{min(places, 12)}f}"
 
 
+def not_coupled(unknown: int, many: int, what: str) -> list[str]:
+    """The line on streams that aren't coupled, which has to be known before a number is read; none where all are."""
+    if not unknown:
+        return []
+    return [
+        f"NOT COUPLED: {unknown:,} of {many:,} streams; the {what} are of the others, and biased; the intervals hold "
+        "what they may change"
+    ]
+
+
 def half_shown(mean: Mean) -> str:
-    """Half of an interval as text, where the mean is its middle; else its ends say more."""
+    """Half of an interval as text, where the mean is its middle; else its ends are printed."""
     if mean.half is None or not mean.is_even:
         return "-"
     return f"± {figures(mean.half, mean.half)}"
