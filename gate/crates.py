@@ -4,7 +4,7 @@ Writes into each crate's folder a README.md of one line, which says what the cra
 docs/ARCHITECTURE.md. With --check it writes nothing, and tells what isn't so:
 
 - each crate of crates.txt has one row there, and each row is one of a crate;
-- a crate's row stands behind those of all crates that it stands on;
+- a crate's row stands after those of all crates that it stands on;
 - its README.md has its row, and its root file begins with a comment on what it holds.
 
 The exit status is 1 where something is told, and 2 where the words aren't right.
@@ -15,6 +15,7 @@ import re
 import sys
 from collections.abc import Iterator
 
+from gate import run
 from tools.build.crates import crates_below
 
 TOP = pathlib.Path(__file__).resolve().parent.parent
@@ -66,18 +67,11 @@ def faults() -> Iterator[str]:
             yield f"the root file of {name} doesn't begin with a comment on what it holds"
 
 
-def main(words: list[str]) -> int:
-    if words not in ([], ["--check"]):
-        print("gate.crates: [--check]", file=sys.stderr)
-        return 2
-    if not words:
-        for name, what in rows():
-            readme(name).write_text(line_of(name, what))
-        return 0
-    told = [*faults()]
-    print("".join(f"{fault}\n" for fault in told), end="")
-    return 1 if told else 0
+def write() -> None:
+    """Writes the README.md of each crate."""
+    for name, what in rows():
+        readme(name).write_text(line_of(name, what))
 
 
 if __name__ == "__main__":
-    sys.exit(main(sys.argv[1:]))
+    sys.exit(run(faults, write))

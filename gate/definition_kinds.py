@@ -12,6 +12,8 @@ import pathlib
 import re
 import sys
 
+from gate import run
+
 DOCS = pathlib.Path(__file__).resolve().parent.parent / "docs"
 PAGE = DOCS / "DEFINITIONS.md"
 BLOCK = re.compile(r"^\[`(\w+)`: ([\w/.]+)\]\(.*?\n\n```\n(.*?)^```$", re.M | re.S)
@@ -61,17 +63,10 @@ def faults() -> list[str]:
     return [f"the mark is wrong: {own}" for new, own in lines if own != new]
 
 
-def main(words: list[str]) -> int:
-    if words not in ([], ["--check"]):
-        print("gate.definition_kinds: [--check]", file=sys.stderr)
-        return 2
-    if not words:
-        PAGE.write_text(marked())
-        return 0
-    found = faults()
-    print("".join(f"{fault}\n" for fault in found), end="")
-    return 1 if found else 0
+def write() -> None:
+    """Writes the page."""
+    PAGE.write_text(marked())
 
 
 if __name__ == "__main__":
-    sys.exit(main(sys.argv[1:]))
+    sys.exit(run(faults, write))

@@ -14,6 +14,7 @@ import re
 import sys
 from collections.abc import Iterator
 
+from gate import run
 from tools.build.crates import crates_below
 
 ROOT = pathlib.Path(__file__).resolve().parent.parent
@@ -82,17 +83,11 @@ def faults() -> Iterator[str]:
             yield f"missing: {name}: {other} ({files[other]})"
 
 
-def main() -> int:
-    if sys.argv[1:] not in ([], ["--write"]):
-        print(__doc__, file=sys.stderr)
-        return 2
-    if sys.argv[1:]:
-        path = ROOT / "crates.txt"
-        path.write_text(commented(path.read_text()))
-    found = [*faults()]
-    print("".join(f"{fault}\n" for fault in found), end="")
-    return 1 if found else 0
+def write() -> None:
+    """Writes the comments of crates.txt."""
+    path = ROOT / "crates.txt"
+    path.write_text(commented(path.read_text()))
 
 
 if __name__ == "__main__":
-    sys.exit(main())
+    sys.exit(run(faults, write, "--write"))

@@ -11,6 +11,7 @@ import re
 import sys
 from collections.abc import Iterator
 
+from gate import run
 from tools.build.crates import crates_below
 
 TOP = pathlib.Path(__file__).resolve().parent.parent
@@ -60,16 +61,10 @@ def faults() -> Iterator[str]:
         yield "docs/ARCHITECTURE.md has another graph of the crates: run `python3 -m gate.graph`"
 
 
-def main() -> int:
-    if sys.argv[1:] not in ([], ["--check"]):
-        print(__doc__, file=sys.stderr)
-        return 2
-    if not sys.argv[1:]:
-        PAGE.write_text(drawn())
-    found = [*faults()]
-    print("".join(f"{fault}\n" for fault in found), end="")
-    return 1 if found else 0
+def write() -> None:
+    """Writes the page."""
+    PAGE.write_text(drawn())
 
 
 if __name__ == "__main__":
-    sys.exit(main())
+    sys.exit(run(faults, write))

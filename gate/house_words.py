@@ -16,6 +16,8 @@ import re
 import sys
 from collections.abc import Iterator
 
+from gate import run
+
 TOP = pathlib.Path(__file__).resolve().parent.parent
 
 # The pages, each with the line before which its part ends; none where all of it counts.
@@ -111,12 +113,5 @@ def faults() -> Iterator[str]:
             yield f"{name}:{line}: '{word}': write {instead}"
 
 
-def main() -> int:
-    found = [*faults()]
-    print("".join(f"{fault}\n" for fault in found), end="")
-    print(f"{len(found)} words to avoid in {len(PAGES)} pages")
-    return 1 if found else 0
-
-
 if __name__ == "__main__":
-    sys.exit(main())
+    sys.exit(run(faults))

@@ -2,12 +2,14 @@
 
 Tells each file right in a crate's proofs/ whose name doesn't say what it holds: lemmas stand in files
 `..Lemmas.antt`, worked rows in `Worked.antt`, and `Lib.antt` names the files; laws, `..Laws.antt`,
-stand in specs/. The exit status is 1 where one is told.
+stand in specs/Inner/. The exit status is 1 where one is told.
 """
 
 import pathlib
 import re
 import sys
+
+from gate import run
 
 CRATES = pathlib.Path(__file__).resolve().parent.parent / "crates"
 RIGHT = re.compile(r"(?:\w+Lemmas|Worked|Lib)\.antt")
@@ -20,11 +22,5 @@ def faults() -> list[str]:
     return [f"crates/{file}: no file of lemmas by its name" for file in wrong]
 
 
-def main() -> int:
-    found = faults()
-    print("".join(f"{fault}\n" for fault in found), end="")
-    return 1 if found else 0
-
-
 if __name__ == "__main__":
-    sys.exit(main())
+    sys.exit(run(faults))

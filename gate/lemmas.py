@@ -112,7 +112,7 @@ def files_of_crates() -> dict[tuple[str, str], File]:
     return files
 
 
-def told() -> set[str]:
+def documented() -> set[str]:
     """The names that guides have between backticks."""
     names = set()
     for path in [*ROOT.glob("*.md"), *ROOT.glob("docs/*.md")]:
@@ -121,7 +121,7 @@ def told() -> set[str]:
 
 
 def needed(files: dict[tuple[str, str], File]) -> set[Name]:
-    guides = told()
+    guides = documented()
     reached = set()
     new = {
         (*key, owner)

@@ -8,12 +8,14 @@ in gate/kit_names.txt; the parts and their sections are told in gate/statement.t
 --check   writes nothing, and ends with 1 where the page isn't what would be written
 """
 
+import contextlib
 import dataclasses
 import pathlib
 import re
 import sys
 from collections.abc import Sequence
 
+from gate import run
 from gate.definitions import CRATES, ROOT, File, Item, Missing, Source, Sources, uses
 
 # The definitions that were shown, by their files and names.
@@ -22,7 +24,7 @@ PAGE = ROOT / "docs" / "STATEMENT.md"
 
 
 def clause(sources: Sources, path: str, function: str, label: str = "") -> Item:
-    """A clause of a function, by its label; without one all clauses, behind the function's head."""
+    """A clause of a function, by its label; without one all clauses, after the function's head."""
     file = sources.file(CRATES / path, Source)
     start = next(i for i, s in enumerate(file.lines) if re.match(r"(?:pub(?:\(crate\))? )?fn %s\b" % function, s))
     end = next(i for i in range(start, len(file.lines)) if file.lines[i] in ("{", "{}"))
@@ -151,13 +153,13 @@ def link(file: File) -> str:
 
 def block(items: list[Item]) -> list[str]:
     """The text of definitions of one file; a module's comment stands where it is first shown."""
-    lines, open_now, told = [], [], []
+    lines, open_now, reported = [], [], []
     for item in items:
         lines.append("")
         for module in item.modules:
             if module not in open_now:
-                lines += module[-1:] if module in told else module
-                told.append(module)
+                lines += module[-1:] if module in reported else module
+                reported.append(module)
         open_now = item.modules
         lines += item.comment + item.text
     head = f"{link(items[0].file)}. {items[0].file.header()}{renamed(items)}"
@@ -166,15 +168,15 @@ def block(items: list[Item]) -> list[str]:
 
 def renamed(items: list[Item]) -> str:
     """What stands under another name in definitions, as a sentence."""
-    told = {}
+    reported = {}
     for item in items:
         for name, (own, means) in item.renamed.items():
             kind = name.split(".")[0] if "." in name else ""
             if kind and means and own in means.makers:
-                told[kind] = f"`{kind}.` stands before a variant of `{means.name}`"
+                reported[kind] = f"`{kind}.` stands before a variant of `{means.name}`"
             else:
-                told[name] = f"`{name}` is `{own}` of {link(means.file) if means else 'the kit'}"
-    return f" Here {', and '.join(told.values())}." if told else ""
+                reported[name] = f"`{name}` is `{own}` of {link(means.file) if means else 'the kit'}"
+    return f" Here {', and '.join(reported.values())}." if reported else ""
 
 
 def place_of(part: Part, item: Item) -> tuple[int, int]:
@@ -239,7 +241,7 @@ def ending(sources: Sources, counts: list[tuple[str, list[Item]]]) -> list[str]:
     """What the kit gives, and how much it is in all."""
     lines = ["## What the kit gives", ""]
     lines += ["These names belong to Rattle's library, and aren't followed further.", ""]
-    lines += [f"- `{name}`: {told}" for name, told in sources.kit.items()]
+    lines += [f"- `{name}`: {reported}" for name, reported in sources.kit.items()]
     lines += ["", "## How much it is", ""]
     lines += ["| Part | Definitions | Types of sources | Lines | Files | Crates |"]
     lines += ["|---|---|---|---|---|---|"]
@@ -274,20 +276,11 @@ def faults() -> list[str]:
     return ["docs/STATEMENT.md isn't what the sources say: run `python3 -m gate.make_statement`"]
 
 
-def main(words: list[str]) -> int:
-    if words not in ([], ["--check"]):
-        print(__doc__, file=sys.stderr)
-        return 2
-    found = faults() if words else []
-    try:
-        if not words:
-            PAGE.write_text(made(), encoding="utf-8")
-    except Missing as missing:
-        found = [str(missing)]
-    for fault in found:
-        print(f"make_statement: {fault}", file=sys.stderr)
-    return 1 if found else 0
+def write() -> None:
+    """Writes the page, where the sources have all that it shows."""
+    with contextlib.suppress(Missing):
+        PAGE.write_text(made(), encoding="utf-8")
 
 
 if __name__ == "__main__":
-    sys.exit(main(sys.argv[1:]))
+    sys.exit(run(faults, write))

@@ -15,6 +15,7 @@ import re
 import sys
 from collections.abc import Iterator
 
+from gate import run
 from tools.build.crates import crates_below
 
 ROOT = pathlib.Path(__file__).resolve().parent.parent
@@ -135,11 +136,5 @@ def faults() -> Iterator[str]:
             yield f"gate/memory_calls.txt: {crate}: {path} does not lead to {call}"
 
 
-def main() -> int:
-    wrong = [*faults()]
-    print("".join(f"{line}\n" for line in wrong), end="")
-    return 1 if wrong else 0
-
-
 if __name__ == "__main__":
-    sys.exit(main())
+    sys.exit(run(faults))

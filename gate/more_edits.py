@@ -4,13 +4,13 @@ Tries the edits of crates/NAME/more-edits/, each of which the prover must refuse
 of all crates. The gate tries those of must-fail/ alone, so this is run before a release, and by
 whoever changes a crate.
 
-It works on a clone of what is committed, in which the edits of more-edits/ stand in the place of those
+It works on a clone of what is committed, in which the edits of more-edits/ stand instead of those
 of must-fail/. First it proves there the crates that are named and those that they stand on, beginning
 with what checks on this machine kept; of a crate that isn't proved the edits aren't tried, since each
 would be refused whatever it says. Then `rt must-fail` tries them, side by side over crates, lowest
 first.
 
---jobs N       so many crates side by side; without it one a processor, while there are 3 GB of memory
+--jobs N       that many crates side by side; without it one a processor, while there are 3 GB of memory
                for each
 --keep FOLDER  the clone stands there and stays, so that the next run begins with what this one proved;
                a clone that is there already is brought to what is committed
@@ -97,7 +97,7 @@ def cut_to(clone: pathlib.Path, kept: list[str]) -> None:
 
 
 def put_edits(clone: pathlib.Path, names: Iterable[str]) -> dict[str, list[str]]:
-    """Puts the edits of more-edits/ in the place of those of must-fail/, and gives their files by
+    """Puts the edits of more-edits/ instead of those of must-fail/, and gives their files by
     the crates that have some."""
     edits = {}
     for name in names:

@@ -18,6 +18,7 @@ import sys
 import tomllib
 from collections.abc import Iterator
 
+from gate import run
 from release import make_package
 import tools.packaged  # noqa: F401
 import psi_tools
@@ -69,11 +70,5 @@ def faults() -> list[str]:
     ]
 
 
-def main() -> int:
-    found = faults()
-    print("".join(f"versions: {fault}\n" for fault in found), end="")
-    return 1 if found else 0
-
-
 if __name__ == "__main__":
-    sys.exit(main())
+    sys.exit(run(faults))

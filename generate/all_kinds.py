@@ -113,7 +113,7 @@ def prove_marks(net: Network) -> None:
 
 
 def cases() -> Iterator[bytes]:
-    """The cases of `check`, so many events in each."""
+    """The cases of `check`, that many events in each."""
     for sizes in CAPACITIES:
         caps = dict(zip(NAMES, sizes))
         head = "version = 2\n" + "".join(

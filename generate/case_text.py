@@ -27,7 +27,7 @@ LETTERS = (
     (re.compile(rb"\|psi-log "), "l"),
 )
 # A text that is no network and has fewer bytes stands where it is read; a line with names has at
-# most so many.
+# most that many.
 SHORT, WIDTH = 64, 100
 
 

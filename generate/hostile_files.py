@@ -85,7 +85,7 @@ def each(queues: int, capacity: int) -> list[Entry]:
 
 
 def guarded(count: int, parts: Callable[[int], list[Entry]]) -> list[Entry]:
-    """So many guarded events, with the parts of each number."""
+    """That many guarded events, with the parts of each number."""
     return [{"name": f"g{place}", "kind": "guarded", "rate": 1, "part": parts(place)} for place in range(count)]
 
 
@@ -136,7 +136,7 @@ def closed() -> str:
 
 
 def setting(queues: int, free: int) -> Callable[[int], list[Entry]]:
-    """Parts that set all queues of one place but the last, so many, which stay as they are. One
+    """Parts that set all queues of one place but the last, that many, which stay as they are. One
     event in three does so in each state, the others only where the last queue is empty, so that
     they aren't monotone.
     """
@@ -267,7 +267,7 @@ def short_log(queues: int, capacity: int, regions: Sequence[str], most: int = MO
 
 
 def spaced_log(steps: int) -> str:
-    """The log of so many short steps and a line of spaces, which has all the room that is left."""
+    """The log of that many short steps and a line of spaces, which has all the room that is left."""
     front = f"psi-log 2\nqueues 1\nseed 0\nstream 0\nhorizon {MOST_STEPS}\nbegin box 0 1\n"
     front += steps * "step 1 0 move\n"
     return front + (MOST_LOG - len(front) - 1) * " " + "\n"

@@ -142,7 +142,7 @@ WORKED_KEYS: Described = (
 
 
 def drawn_routes(caps: dict[str, int], count: int) -> Iterator[Entry]:
-    """So many events that go by drawn tables to the first two of three queues, in either order."""
+    """That many events that go by drawn tables to the first two of three queues, in either order."""
     first, last, origin = caps
     dice = Dice(count)
     for _ in range(count):
@@ -350,10 +350,10 @@ def main() -> None:
     crate = pathlib.Path(sys.argv[1])
     data = crate / "data"
     data.mkdir(parents=True, exist_ok=True)
-    wrong, told = write_wrong(data)
+    wrong, reported = write_wrong(data)
     right, counted = write_right(data)
     put(crate, "args", "".join(f"{name}\n" for name in [*wrong, *right]))
-    put(crate, "stdout", "".join(f"{line}\n" for line in [*told, *counted]))
+    put(crate, "stdout", "".join(f"{line}\n" for line in [*reported, *counted]))
     put(crate, "status", "1\n")
 
 

@@ -1,6 +1,6 @@
 """python3 -m generate.small_networks COUNT [COMMAND] > FILE.cases
 
-Writes a case of a command, `sample` where none is named, for each of so many small networks, which
+Writes a case of a command, `sample` where none is named, for each of that many small networks, which
 are drawn by their number:
 
 - of `sample`: up to three queues of up to four customers, and up to four events of all eight kinds;
@@ -55,7 +55,7 @@ class Dice:
 
 
 def some(dice: Dice, queues: Sequence[str], without: str | None = None, least: int = 1) -> list[str]:
-    """Some of the queues in some order, without this one: at least so many if there are others."""
+    """Some of the queues in some order, without this one: at least that many if there are others."""
     others = [queue for queue in queues if queue != without]
     start, is_back = dice.below(len(queues)), dice.coin()
     others = others[start:] + others[:start]
@@ -180,7 +180,7 @@ def is_kept(command: str, number: int, answer: str) -> bool:
 
 
 def cases(count: int, command: str) -> Iterator[bytes]:
-    """The cases of a command, of so many numbers."""
+    """The cases of a command, of that many numbers."""
     for number in range(count):
         text, last = asked(command, number)
         numbers, net = [number, number * number, *last], Network(tomllib.loads(text))

@@ -147,7 +147,7 @@ def runnable(table: dict[str, Any]) -> Network:
     return net
 
 
-def telling(seed: int, net: Network, others: list[Network]) -> Iterator[tuple[int, tuple[int, str]]]:
+def distinguishing(seed: int, net: Network, others: list[Network]) -> Iterator[tuple[int, tuple[int, str]]]:
     """Streams, each with its sample, that tell a network from others; the first where none does."""
     left, taken = others, 0
     for stream in range(STREAMS_TRIED):
@@ -186,7 +186,7 @@ class Sweep:
             files = {"net.toml": text.encode()}
             if self.is_described and split == splits[0]:
                 self.put(name, ["check", "net.toml"], files, 0, plain.description(net))
-            for stream, answer in telling(self.count, net, others):
+            for stream, answer in distinguishing(self.count, net, others):
                 mode = "boxes" if split == BOXES else "sets"
                 words = ["sample", "net.toml", str(self.count), str(stream)]
                 self.put(f"{name}-{mode}-{stream}", words, files, *answer)

@@ -24,7 +24,7 @@ def moves_of(rate: int, service: int, room: int) -> list[Move]:
 
 
 def law_after(moves: list[Move], begin: int, steps: int) -> list[float]:
-    """The law of the number after so many steps."""
+    """The law of the number after that many steps."""
     law = [float(number == begin) for number in range(len(moves[0][1]))]
     for _ in range(steps):
         following = [0.0] * len(law)
@@ -36,7 +36,7 @@ def law_after(moves: list[Move], begin: int, steps: int) -> list[float]:
 
 
 def worst(moves: list[Move], law: list[float], steps: int) -> float:
-    """How far the law after so many steps is from another at most, over all beginnings."""
+    """How far the law after that many steps is from another at most, over all beginnings."""
     return max(
         sum(abs(one - other) for one, other in zip(law_after(moves, begin, steps), law)) / 2
         for begin in range(len(law))

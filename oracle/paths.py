@@ -1,6 +1,6 @@
 """python3 -m oracle.paths NET SEED FIRST COUNT STEPS [closed TOTAL]
 
-A plain program of paths: from the sample of each stream the network runs on for so many steps, one event
+A plain program of paths: from the sample of each stream the network runs on for that many steps, one event
 after the other, and every state is added up. It was written from docs/FORMATS.md (Paths), stands on the
 plain program's words, events and samples, and prints the table of the sums and counts as CSV.
 """
@@ -71,7 +71,7 @@ def header(net: Network) -> list[str]:
     return names
 
 
-def row(net: Network, seed: int, stream: int, drawn: Outcome, steps: int) -> list[object]:
+def row(net: Network, seed: int, stream: int, drawn: Outcome, steps: int) -> list[int | str]:
     """The row of a stream whose sample is known; where it isn't coupled, all but its number is empty."""
     if drawn is None:
         return [stream, *("" for _ in header(net)[1:])]
@@ -81,7 +81,7 @@ def row(net: Network, seed: int, stream: int, drawn: Outcome, steps: int) -> lis
 
 def table(net: Network, seed: int, streams: Sequence[int], outcomes: Sequence[Outcome], steps: int) -> str:
     """The text of the table of some streams whose samples are known."""
-    lines: list[list[object]] = [[*header(net)]]
+    lines: list[list[int | str]] = [[*header(net)]]
     lines += [row(net, seed, stream, drawn, steps) for stream, drawn in zip(streams, outcomes)]
     return "".join(",".join(map(str, line)) + "\n" for line in lines)
 

@@ -80,7 +80,7 @@ class Words:
 
 
 def ending(net: Network, words: Words, horizon: int) -> list[State]:
-    """The states at time zero of the region run that begins so many steps before it."""
+    """The states at time zero of the region run that begins that many steps before it."""
     states, is_split = box((0,) * len(net.caps), net.caps), False
     for time in range(horizon, 0, -1):
         is_split = is_split or len(states) <= net.split
@@ -147,7 +147,7 @@ def survey(net: Network, seed: int, stream: int, exponent: int) -> tuple[list[in
 
 
 def of_total(caps: State, total: int) -> list[State]:
-    """The states within the capacities that hold so many customers, ascending."""
+    """The states within the capacities that hold that many customers, ascending."""
     if not caps:
         return [] if total else [()]
     held = range(min(caps[0], total) + 1)
@@ -167,7 +167,7 @@ def arc_hull(everything: list[State], states: Collection[State]) -> list[State]:
 
 
 def closed_ending(net: Network, words: Words, everything: list[State], horizon: int) -> list[State]:
-    """The states at time zero of the closed run that begins so many steps before it."""
+    """The states at time zero of the closed run that begins that many steps before it."""
     states = everything
     for time in range(horizon, 0, -1):
         event = net.event_of(words[time - 1])

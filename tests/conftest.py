@@ -9,7 +9,7 @@ from typing import Any
 
 import pytest
 
-from tests.support import TOP, Held, program_path
+from tests.support import TOP, Expectations, program_path
 
 
 @pytest.fixture(scope="session")
@@ -42,14 +42,14 @@ def pytest_runtest_makereport(item: pytest.Item, call: pytest.CallInfo[None]) ->
 
 
 @pytest.fixture
-def hold(request: pytest.FixtureRequest) -> Iterator[Held]:
+def expect(request: pytest.FixtureRequest) -> Iterator[Expectations]:
     """Takes what has to be so; the test fails with all that isn't."""
-    held = Held()
-    yield held
-    assert held.count or not request.node.stash.get(PASSED, False), "nothing was looked at"
-    if held.wrong:
-        lines = "\n".join(held.wrong)
-        pytest.fail(f"{len(held.wrong)} of {held.count} are wrong:\n{lines}", pytrace=False)
+    expected = Expectations()
+    yield expected
+    assert expected.count or not request.node.stash.get(PASSED, False), "nothing was looked at"
+    if expected.wrong:
+        lines = "\n".join(expected.wrong)
+        pytest.fail(f"{len(expected.wrong)} of {expected.count} are wrong:\n{lines}", pytrace=False)
 
 
 def pytest_runtest_setup(item: pytest.Item) -> None:

@@ -137,7 +137,7 @@ class Document:
             found += [command for command, _ in runs_of_session(text)]
         return found
 
-    def hold(self, is_so: object, what: str) -> None:
+    def expect(self, is_so: object, what: str) -> None:
         """Counts a comparison."""
         self.compared += 1
         if not is_so:
@@ -149,13 +149,13 @@ def ran(document: Document, clone: Clone, block: str) -> str:
     out = ""
     for command, status, out, error in clone.answer(block):
         wanted = STATUSES.get(command, 1 if UNMET.search(out) else 0)
-        document.hold(status == wanted, f"status {status} of {command}: {error}")
+        document.expect(status == wanted, f"status {status} of {command}: {error}")
     return out
 
 
 def compare(document: Document, shown: str, printed: str) -> None:
     """Compares a text that is shown with what was printed."""
-    document.hold(is_shown(shown, printed), f"shown\n{shown}printed\n{printed}")
+    document.expect(is_shown(shown, printed), f"shown\n{shown}printed\n{printed}")
 
 
 def try_blocks(document: Document, clone: Clone) -> None:
@@ -163,7 +163,7 @@ def try_blocks(document: Document, clone: Clone) -> None:
     printed = None
     for before, kind, text in document.blocks:
         saved = SAVED.search(before) if kind == "toml" else None
-        document.hold(saved or not kind, f"a block of {kind}, which isn't tried")
+        document.expect(saved or not kind, f"a block of {kind}, which isn't tried")
         session = [*runs_of_session(text)]
         for command, shown in session:
             compare(document, shown, ran(document, clone, command))
@@ -176,7 +176,7 @@ def try_blocks(document: Document, clone: Clone) -> None:
             if inline:
                 printed = clone.answer(inline[1])[-1][2]
             is_said = inline or before.rstrip(" :\n").endswith("prints")
-            document.hold(is_said and printed is not None, f"no command prints the text:\n{text}")
+            document.expect(is_said and printed is not None, f"no command prints the text:\n{text}")
             compare(document, text, printed or "")
             printed = None
 
@@ -195,14 +195,14 @@ def try_numbers(document: Document, clone: Clone) -> None:
     commands = dict(line.split(": ", 1) for line in lines)
     marked = MARKED.findall(document.prose)
     count = document.prose.count(MARK)
-    document.hold(len(marked) == count, f"of {count} marks {len(marked)} stand behind a number")
+    document.expect(len(marked) == count, f"of {count} marks {len(marked)} stand behind a number")
     unused = {*commands} - {name for _, _, name, _ in marked}
-    document.hold(not unused, f"no number is marked by {unused}")
+    document.expect(not unused, f"no number is marked by {unused}")
     for number, _, name, words in marked:
-        document.hold(name in commands, f"no command is called {name}")
+        document.expect(name in commands, f"no command is called {name}")
         status, out, error = clone.number(f"set --{words}; {commands.get(name, 'false')}")
         same = status == 0 and number_of(out.strip()) == number_of(number)
-        document.hold(same, f"{number} is marked by {name}{words}, which prints {out}{error}")
+        document.expect(same, f"{number} is marked by {name}{words}, which prints {out}{error}")
 
 
 def without_ids(picture: bytes) -> bytes:
@@ -217,10 +217,10 @@ def try_pictures(document: Document, clone: Clone) -> None:
     drawn = [name for block in document.commands() for name in DRAWS.findall(block)]
     pictures = SHOWN.findall(document.text)
     if drawn:
-        document.hold(sorted(drawn) == sorted(pictures), f"drawn {drawn}, shown {pictures}")
+        document.expect(sorted(drawn) == sorted(pictures), f"drawn {drawn}, shown {pictures}")
     for name in drawn:
         if not clone.find(name).exists():
-            document.hold(False, f"{name} isn't drawn")
+            document.expect(False, f"{name} isn't drawn")
             continue
         shown, made = (clone.read(path) for path in (f"docs/pictures/{name}", name))
         versions = [re.search(rb"Matplotlib v[\d.]+", data) for data in (shown, made)]
@@ -228,7 +228,7 @@ def try_pictures(document: Document, clone: Clone) -> None:
             print(f"{document.name}: {name} isn't compared: drawn by {versions[1][0].decode()}")
         else:
             same = without_ids(shown) == without_ids(made)
-            document.hold(same, f"{name} isn't the picture in docs/pictures")
+            document.expect(same, f"{name} isn't the picture in docs/pictures")
 
 
 def anchor_of(heading: str) -> str:
@@ -245,11 +245,11 @@ def try_links(document: Document, clone: Clone) -> None:
         if "://" in target:
             continue
         file = folder / path if path else clone.find(document.name)
-        document.hold(file.exists(), f"the link to {target} leads nowhere")
+        document.expect(file.exists(), f"the link to {target} leads nowhere")
         if anchor and file.exists():
             headings = re.findall(r"^#+ (.*)$", file.read_text(), re.M)
             found = anchor in map(anchor_of, headings)
-            document.hold(found, f"no heading is called as the link says: {target}")
+            document.expect(found, f"no heading is called as the link says: {target}")
 
 
 def tried(name: str, text: str, clone: Clone, *, is_packed: bool = False) -> Document:
@@ -281,7 +281,7 @@ def changed(text: str, place: int) -> str:
     return text[:place] + other + text[place + 1 :]
 
 
-def untold_changes(document: Document, clone: Clone) -> Iterator[str]:
+def unnoticed_changes(document: Document, clone: Clone) -> Iterator[str]:
     """Changes the document in one place after the other; gives the changes that aren't told."""
     for place, what, block in changes_of(document):
         for name in WRITES.findall(block):

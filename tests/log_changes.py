@@ -47,7 +47,7 @@ class Log:
         return [*lines, "end " + ",".join(self.end)]
 
     def places(self, form: str, few: int = 1) -> list[int]:
-        """The places of the regions of this form with at least so many states, or corners."""
+        """The places of the regions of this form with at least that many states, or corners."""
         return [place for place, region in enumerate(self.regions) if region[0] == form and len(region) > few]
 
 
@@ -218,7 +218,7 @@ def set_out_of_order(log: Log, dice: Dice) -> str | None:
 
 
 def set_as_a_box(log: Log, dice: Dice) -> str | None:
-    """A set becomes the box of its states, and with it, by chance, all behind it."""
+    """A set becomes the box of its states, and with it, by chance, all after it."""
     places = log.places("set")
     if not places:
         return None
@@ -375,7 +375,7 @@ def other_move(log: Log, dice: Dice) -> str | None:
 
 
 def exchanged_words(log: Log, dice: Dice, words: Callable[[Region, Region], list[str]]) -> str | None:
-    """The line of a box after a box has other words behind its numbers."""
+    """The line of a box after a box has other words after its numbers."""
     pairs = [place for place in log.places("box") if place and log.regions[place - 1][0] == "box"]
     if not pairs:
         return None

@@ -128,7 +128,7 @@ class Host:
         self.begin()
 
     def begin(self) -> None:
-        """Starts the host's sshd, with the host's home in the place of root's."""
+        """Starts the host's sshd, with the host's home instead of root's."""
         script = 'mount --bind "$1" "$HOME" && exec /usr/sbin/sshd -D -f "$2/sshd.config"'
         words = ["unshare", "--mount", "sh", "-c", script, "sh", str(self.home), self.room]
         self.server = begin("ip", "netns", "exec", self.name, *words)

@@ -27,7 +27,7 @@ horizon,16,6
 sum,a,18
 least,a,0
 greatest,a,5
-reward-sum,cost,-27
+reward-sum,cost,-5000000000000000
 reward-least,cost,-1000000000000000
 reward-greatest,cost,9
 """

@@ -22,6 +22,9 @@ import math
 import os
 import pathlib
 import sys
+from collections.abc import Iterator, Sequence
+from fractions import Fraction
+from typing import Any
 
 TOP = pathlib.Path(__file__).resolve().parent.parent
 READER = argparse.ArgumentParser()
@@ -36,18 +39,22 @@ import scipy.special
 from solving import law_of
 
 from psi_tools import check_interval
-from psi_tools.draw.reports import blocks_of
-from psi_tools.draw.states import any_drawing
+from psi_tools.draw.states import Draw, any_drawing
+from psi_tools.draw.streams import Streams, blocks_of
 from psi_tools.stats.guaranteed import Guarantee, Pilot, by_count, file_of, one_in, parts_of
-from psi_tools.draw.law import tally_of
-from psi_tools.model.networks import Network, value_of
+from psi_tools.draw.tally import tally_of
+from psi_tools.model.networks import Network, header_of, value_of
 from psi_tools.draw.program import Program
 from psi_tools.stats.spans import Spans
 
+# How many samples have each value, these with how many streams aren't coupled, and both ends of an interval.
+Counts = list[tuple[int, int]]
+Counted = tuple[Counts, int]
+Ends = Sequence[Fraction | int]
 LEVEL, SEED, SELDOM = 0.95, 54, 0.001
 # A network, the queue whose customers are counted, and a reward of it, none for the customers. The
 # last two are slow to couple: with these limits many streams aren't.
-NETWORKS = [
+NETWORKS: list[tuple[str, str, str | None, dict[str, int]]] = [
     ("single-server", "desk", None, {}),
     ("single-server", "desk", "desk-squared", {}),
     ("call-centre", "calls", None, {}),
@@ -65,16 +72,17 @@ class Case:
     """A network with a number that is counted, its exact distribution, and the counts of each
     repetition."""
 
-    def __init__(self, psi, seed, name, queue, reward, heads):
+    def __init__(
+        self, psi: Program, seed: int, name: str, queue: str, reward: str | None, heads: dict[str, int]
+    ) -> None:
         self.seed = seed
         self.net = Network.read(TOP / "examples" / f"{name}.toml").copy()
         self.net.heads.update(heads)
         place = self.net.queues.index(queue)
         spans = Spans(self.net, {})
         self.span = spans.of_reward(reward) if reward else spans.of_queue(queue)
-        rewards = {each["name"]: each for each in self.net.table["reward"]}
-        self.value = lambda number: value_of(rewards[reward], [number]) if reward else number
-        self.law = {}
+        self.reward = {each["name"]: each for each in self.net.table["reward"]}[reward] if reward else None
+        self.law: dict[int, float] = {}
         for state, chance in zip(*law_of(self.net)):
             value = self.value(state[place])
             self.law[value] = self.law.get(value, 0.0) + float(chance)
@@ -82,7 +90,7 @@ class Case:
         self.place = place
         self.draw(psi)
 
-    def draw(self, psi):
+    def draw(self, psi: Program) -> None:
         """Draws the streams of all repetitions, a block for each, and then pilot streams."""
         streams = WORDS.repetitions * WORDS.count
         blocks = [*blocks_of(0, streams, WORDS.count), (streams, WORDS.count)]
@@ -90,28 +98,34 @@ class Case:
         *self.counts, pilot = psi.all([functools.partial(self.counted, draw, block) for block in blocks])
         self.pilot = Pilot(*pilot, streams, WORDS.count)
 
-    def counted(self, draw, block):
+    def counted(self, draw: Draw, block: Streams) -> Counted:
         """How many samples of a block have each value, and how many streams aren't coupled."""
-        # The queues stand behind the horizon.
-        tally, counts = tally_of(draw(block), [1 + self.place], {}), {}
+        header = header_of(self.net)
+        # The queues stand after the stream and the horizon.
+        tally = tally_of(header, draw(block), block, [header[2 + self.place]])
+        counts: dict[int, int] = {}
         for (number,), count in tally.counts.items():
             value = self.value(number)
             counts[value] = counts.get(value, 0) + count
         return sorted(counts.items()), tally.unknown
 
-    def median(self):
+    def value(self, number: int) -> int:
+        """The value that is counted, of a number of customers."""
+        return value_of(self.reward, [number]) if self.reward else number
+
+    def median(self) -> int:
         """The least value that at least half of all states' weight doesn't pass."""
         values = sorted(self.law)
         sums = itertools.accumulate(self.law[value] for value in values)
         return next(value for value, below in zip(values, sums) if below >= 0.5 - 1e-9)
 
-    def tries(self, counts, unknown):
+    def tries(self, counts: Counts, unknown: int) -> Iterator[tuple[str, Guarantee, Ends, float]]:
         """The ways of an interval, each with its row, its ends, and what they are of."""
         median, d = self.median(), one_in(LEVEL)
         below = sum(chance for value, chance in self.law.items() if value <= median)
         total = sum(value * count for value, count in counts)
 
-        def row(**more):
+        def row(**more: Any) -> Guarantee:
             return Guarantee("row", WORDS.count, unknown, self.span, d, **more)
 
         ways = [
@@ -122,12 +136,12 @@ class Case:
         for way, each, wanted in ways[: 1 if self.span.two else 3]:
             yield way, each, each.mean(), wanted
         each = row(counts=counts)
-        yield "share up to the median", each, each.share(self.span.least, median), below
+        yield "share up to the median", each, each.share(self.span.ends[0], median), below
         each = row(counts=counts)
         yield "median", each, each.quantile(0.5), median
 
 
-def is_checked(row, ends):
+def is_checked(row: Guarantee, ends: Ends) -> bool:
     """Whether check_interval proves the certificate of a row, with the same ends."""
     file = json.loads(json.dumps(file_of([row], {})))
     for entry in file["rows"]:
@@ -138,23 +152,26 @@ def is_checked(row, ends):
 
 
 @functools.cache
-def claims_of_counts():
+def claims_of_counts() -> list[float]:
     """What each count of ones claims."""
     k, q = WORDS.count, parts_of(WORDS.count)
     found = (by_count(k, i, q, one_in(LEVEL)) for i in range(k + 1))
     return [(claim["r"] if claim else 0) / q for claim in found]
 
 
-def chance_of_share(share):
+def chance_of_share(share: float) -> float:
     """The chance that the interval of a share holds it, where all streams couple."""
     k, claims = WORDS.count, claims_of_counts()
     holding = (i for i in range(k + 1) if claims[i] <= share <= 1 - claims[k - i])
-    return sum(math.comb(k, i) * share**i * (1 - share) ** (k - i) for i in holding)
+    return float(sum(math.comb(k, i) * share**i * (1 - share) ** (k - i) for i in holding))
 
 
-def tried(case, name):
+def tried(case: Case, name: str) -> bool:
     """The lines of a network, and whether all is well."""
-    held, widths, wanted_of, is_well = {}, {}, {}, True
+    held: dict[str, int] = {}
+    widths: dict[str, list[float]] = {}
+    wanted_of: dict[str, float] = {}
+    is_well = True
     for counts, unknown in case.counts:
         for way, row, ends, wanted in case.tries(counts, unknown):
             wanted_of[way] = wanted
@@ -177,7 +194,7 @@ def tried(case, name):
     return is_well
 
 
-def main():
+def main() -> int:
     psi, is_well = Program(os.path.abspath(WORDS.psi)), True
     for place, (name, queue, reward, heads) in enumerate(NETWORKS):
         case = Case(psi, SEED + place, name, queue, reward, heads)

@@ -21,6 +21,8 @@ import pathlib
 import re
 import statistics
 import sys
+from collections.abc import Iterable, Iterator
+from typing import Any
 
 TOP = pathlib.Path(__file__).resolve().parent.parent
 READER = argparse.ArgumentParser()
@@ -37,18 +39,22 @@ import numpy
 from solving import law_of
 
 from psi_tools.stats import law as laws
-from psi_tools.stats.batches import Batches, Row, batches_of
+from psi_tools.stats.batches import Batches, batches_of
 from psi_tools.model.designs import aligned, designs_of
-from psi_tools.draw.reports import blocks_of, reports_of
-from psi_tools.stats.intervals import difference_of_batches
-from psi_tools.stats.spans import Spans
+from psi_tools.draw.reports import reports_of
+from psi_tools.draw.streams import blocks_of
+from psi_tools.io.reports import Report
+from psi_tools.stats.intervals import Mean, Span, difference_of_batches
+from psi_tools.stats.spans import Row, Spans
 from psi_tools.model.networks import Network
 from psi_tools.draw.program import Program
 
+# Values of samples, or the probabilities of values.
+Values = numpy.ndarray[Any, Any]
 BATCHES, FEW_BATCHES = 40, 20
 
 
-def queue_of(load, capacity, reward=None):
+def queue_of(load: float, capacity: int, reward: list[int] | None = None) -> Network:
     """The network of a queue in which customers come at rate 60 * load and are served at rate 60,
     with a reward by its number."""
     net = Network().queue("q", capacity)
@@ -57,22 +63,23 @@ def queue_of(load, capacity, reward=None):
     return net.reward("r", "table", ["q"], table=[reward]) if reward else net
 
 
-def law_of_queue(load, capacity):
+def law_of_queue(load: float, capacity: int) -> Values:
     """The probability of each number of customers."""
-    weights = (round(60 * load) / 60) ** numpy.arange(capacity + 1)
-    return weights / weights.sum()
+    weights: Values = (round(60 * load) / 60) ** numpy.arange(capacity + 1)
+    law: Values = weights / weights.sum()
+    return law
 
 
-def fours(capacity):
+def fours(capacity: int) -> list[int]:
     return [4**number for number in range(capacity + 1)]
 
 
-def rare(capacity, value):
+def rare(capacity: int, value: int) -> list[int]:
     return [0] * capacity + [value]
 
 
 # A name, the load, the capacity, and the reward by the number of customers, none for the number.
-SINGLE = [
+SINGLE: list[tuple[str, float, int, list[int] | None]] = [
     ("single row, 8 of 10 busy", 0.8, 10, None),
     ("single row, 5 of 10 busy, 1,000 places", 0.5, 1_000, None),
     ("rare, 0.001 of 0 and 1", 0.2, 4, rare(4, 1)),
@@ -86,25 +93,26 @@ SINGLE = [
 class Tally:
     """How often the intervals of a case held, and how wide they are."""
 
-    def __init__(self, name, wanted):
-        self.name, self.wanted, self.held, self.widths = name, wanted, 0, []
+    def __init__(self, name: str, wanted: float) -> None:
+        self.name, self.wanted, self.held = name, wanted, 0
+        self.widths: list[float] = []
 
-    def take(self, mean):
-        if mean.half is not None:
-            self.held += bool(mean.low <= self.wanted <= mean.high)
+    def take(self, mean: Mean) -> None:
+        if mean.low is not None and mean.high is not None:
+            self.held += mean.holds(self.wanted)
             self.widths.append(mean.high - mean.low)
         else:
             self.widths.append(0.0)
 
-    def tell(self):
+    def report(self) -> bool:
         """The line of the case; whether enough of its intervals held."""
         of_all = 100 * self.held / len(self.widths)
         width = statistics.median(self.widths)
         print(f"{of_all:6.2f} of 100  width {width:10.4g}  {self.name}", flush=True)
-        return of_all >= WORDS.least
+        return bool(of_all >= WORDS.least)
 
 
-def batches_from(net, columns, lost=None):
+def batches_from(net: Network, columns: list[tuple[str, str, Values]], lost: Values | None = None) -> Batches:
     """Batches with a row for each column of values, which are arrays of batches and samples; where
     streams aren't coupled, `lost` says which."""
     known = numpy.ones(columns[0][2].shape, bool) if lost is None else ~lost
@@ -118,7 +126,7 @@ def batches_from(net, columns, lost=None):
     return found.of_network(net)
 
 
-def law_from(net, name, values, lost=None):
+def law_from(net: Network, name: str, values: Values, lost: Values | None = None) -> laws.Law:
     """The law that psi-law would have of some values."""
     numbers, counts = numpy.unique(values if lost is None else values[~lost], return_counts=True)
     unknown = 0 if lost is None else int(lost.sum())
@@ -126,11 +134,13 @@ def law_from(net, name, values, lost=None):
     return laws.Law(name, "value", pairs, unknown, spans_of_name(Spans(net, {}), name))
 
 
-def spans_of_name(spans, name):
+def spans_of_name(spans: Spans, name: str) -> Span:
     return spans.of_queue(name) if name == "q" else spans.of_reward(name)
 
 
-def single(draw, name, load, capacity, reward):
+def single(
+    draw: numpy.random.Generator, name: str, load: float, capacity: int, reward: list[int] | None
+) -> list[Tally]:
     """The two tallies of a single row."""
     law = law_of_queue(load, capacity)
     rewards = numpy.arange(capacity + 1) if reward is None else numpy.array(reward)
@@ -151,7 +161,7 @@ def single(draw, name, load, capacity, reward):
     return tallies
 
 
-def difference(draw, name, plus, minus, both):
+def difference(draw: numpy.random.Generator, name: str, plus: float, minus: float, both: float) -> Tally:
     """The tally of a difference of rows of 0 and 1: the chances that the first alone, the other
     alone, and both are 1."""
     tally = Tally(f"{name}: batches", plus - minus)
@@ -165,14 +175,14 @@ def difference(draw, name, plus, minus, both):
     return tally
 
 
-def difference_of(one, other):
+def difference_of(one: Batches, other: Batches) -> Mean:
     """The difference of the last rows of two designs, as psi-sweep tells it."""
     rows = one.rows[-1], other.rows[-1]
-    spans = one.span(rows[0]), other.span(rows[1])
+    spans = one.spans[rows[0].kind, rows[0].name], other.spans[rows[1].kind, rows[1].name]
     return difference_of_batches(rows[0].sums, rows[1].sums, one.met, other.met, 0.95, spans, (one.lost, other.lost))
 
 
-def uncoupled(draw):
+def uncoupled(draw: numpy.random.Generator) -> list[Tally]:
     """The tallies where 27 % aren't coupled, and the more so the more customers there are."""
     load, capacity = 0.7, 8
     law, numbers = law_of_queue(load, capacity), numpy.arange(capacity + 1)
@@ -188,7 +198,7 @@ def uncoupled(draw):
     return tallies
 
 
-def synthetic():
+def synthetic() -> Iterator[Tally]:
     """The tallies of all cases whose values numpy draws."""
     draw = numpy.random.default_rng(51)
     for case in SINGLE:
@@ -201,20 +211,20 @@ def synthetic():
     yield from uncoupled(draw)
 
 
-def grouped(reports):
+def grouped(reports: list[Report]) -> Iterator[Batches]:
     """The batches of each repetition, of the reports of all."""
     for begin in range(0, len(reports), FEW_BATCHES):
         yield batches_of(reports[begin : begin + FEW_BATCHES])
 
 
-def reports_from(psi, net):
+def reports_from(psi: Program, net: Network) -> list[Report]:
     """The reports of the streams of all repetitions."""
     size = WORDS.count // 5 // FEW_BATCHES
     blocks = blocks_of(0, WORDS.repetitions * FEW_BATCHES * size, size)
     return reports_of(psi, net.data, 51, blocks)
 
 
-def solved(net):
+def solved(net: Network) -> list[float]:
     """The mean of the queue of a network, and of each of its rewards."""
     states, law = law_of(net)
     numbers = numpy.array([state[0] for state in states])
@@ -222,7 +232,7 @@ def solved(net):
     return [float(law @ numbers), *(float(law @ table[numbers]) for table in tables)]
 
 
-def with_rewards(load, capacity):
+def with_rewards(load: float, capacity: int) -> Network:
     """A queue with a rare reward of 0 and 1, one of 0 and 1,000, and a skewed one."""
     net = queue_of(load, capacity)
     for name, table in (
@@ -234,7 +244,7 @@ def with_rewards(load, capacity):
     return net
 
 
-def by_psi(path):
+def by_psi(path: str) -> Iterator[Tally]:
     """The tallies of cases that the built program draws."""
     psi, net = Program(path), with_rewards(16 / 60, 5)
     yield from each_row(psi, net, ["a single row", *net.rewards])
@@ -242,7 +252,7 @@ def by_psi(path):
     yield from cut_short(psi)
 
 
-def each_row(psi, net, titles):
+def each_row(psi: Program, net: Network, titles: list[str]) -> Iterable[Tally]:
     """The tallies of all rows of a network of one queue, by batches and by values."""
     names = ["q", *net.rewards]
     tallies = [
@@ -257,7 +267,7 @@ def each_row(psi, net, titles):
     return itertools.chain.from_iterable(tallies)
 
 
-def laws_from(psi, net):
+def laws_from(psi: Program, net: Network) -> Iterator[tuple[dict[int, int], int]]:
     """How many samples of each repetition have each number of customers, and how many aren't coupled."""
     size = WORDS.count // 5 // FEW_BATCHES * FEW_BATCHES
     for repetition in range(WORDS.repetitions):
@@ -267,10 +277,10 @@ def laws_from(psi, net):
         yield {int(number): count for number, count in numbers.items()}, unknown
 
 
-def law_of_row(net, name, numbers, unknown):
+def law_of_row(net: Network, name: str, numbers: dict[int, int], unknown: int) -> laws.Law:
     """The law that psi-law has of a row, by how many samples hold each number of customers."""
     tables = {reward["name"]: reward["table"][0] for reward in net.table["reward"]}
-    counts = collections.Counter()
+    counts: collections.Counter[int] = collections.Counter()
     for number, count in numbers.items():
         counts[tables[name][number] if name in tables else number] += count
     seen = [number for number, count in numbers.items() if count]
@@ -279,7 +289,7 @@ def law_of_row(net, name, numbers, unknown):
     return laws.Law(name, "value", pairs, unknown, spans_of_name(spans, name))
 
 
-def swept(psi):
+def swept(psi: Program) -> Tally:
     """The tally of a difference of two designs, of whether a queue is full, which is rare."""
     net = queue_of(0.2, 4, rare(4, 1))
     _, designs, _, _ = designs_of(["come.rate=12,10"], net)
@@ -293,7 +303,7 @@ def swept(psi):
     return tally
 
 
-def cut_short(psi):
+def cut_short(psi: Program) -> Iterable[Tally]:
     """The tallies where a limit leaves some of the streams uncoupled."""
     net = queue_of(43 / 60, 10)
     net.heads["limit"] = 6
@@ -302,9 +312,9 @@ def cut_short(psi):
     return each_row(psi, net, [f"{100 * lost:.0f} % uncoupled"])
 
 
-def main():
+def main() -> int:
     tallies = by_psi(os.path.abspath(WORDS.psi)) if WORDS.psi else synthetic()
-    held = [tally.tell() for tally in tallies]
+    held = [tally.report() for tally in tallies]
     return 0 if all(held) else 1
 
 

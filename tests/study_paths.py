@@ -12,6 +12,7 @@ middle. The exit status is 1 where fewer than --least of 100 held, which is 93 w
 """
 
 import argparse
+import math
 import os
 import pathlib
 import statistics
@@ -34,14 +35,18 @@ from solving import law_of
 from oracle.plain_network import Network as Plain
 from psi_tools.draw.paths import paths_of
 from psi_tools.draw.program import Program
-from psi_tools.draw.reports import blocks_of
+from psi_tools.draw.streams import blocks_of
+from psi_tools.io.samples import Rows
 from psi_tools.model.networks import Network
 from psi_tools.stats.paths import MOVED, paths_of_rows
 
+# A reward's name and its values by the number of customers; and what each row is of, by its kind and name.
+Reward = tuple[str, list[int]]
+Means = dict[tuple[str, str], float]
 SEED, OTHER, LENGTHS, TIMES = 57, 58, (0, 30, 300, 3_000), 20
 
 
-def queue_of(arrival, service, capacity, limit=None, *rewards):
+def queue_of(arrival: int, service: int, capacity: int, limit: int | None = None, *rewards: Reward) -> Network:
     """The network of a queue, with rewards by the number of its customers."""
     net = Network(limit=limit).queue("q", capacity)
     net.event("come", "arrival", arrival, to=["q"]).event("serve", "service", service, source="q")
@@ -50,7 +55,7 @@ def queue_of(arrival, service, capacity, limit=None, *rewards):
     return net
 
 
-def line_of(count, capacity, arrival, service):
+def line_of(count: int, capacity: int, arrival: int, service: int) -> Network:
     """Queues in a row, where a customer who finds the next one full stays."""
     net, names = Network(limit=20), [f"q{number}" for number in range(1, count + 1)]
     for name in names:
@@ -61,21 +66,21 @@ def line_of(count, capacity, arrival, service):
     return net.event(f"serve-{names[-1]}", "service", service, source=names[-1])
 
 
-def example(name, **heads):
+def example(name: str, **heads: int) -> Network:
     """A network of the gallery."""
     net = Network.read(TOP / "examples" / f"{name}.toml").copy()
     net.heads.update(heads)
     return net
 
 
-def steep(capacity):
+def steep(capacity: int) -> tuple[Reward, ...]:
     """Rewards that are rare, and one that rises steeply."""
     rare = [0] * capacity + [1]
     return ("rare", rare), ("rare-1000", [1_000 * x for x in rare]), ("fours", [4**x for x in range(capacity + 1)])
 
 
 # A name, the network, its customers where it is closed, the lengths, and whether it can be solved.
-CASES = [
+CASES: list[tuple[str, Network, int | None, tuple[int, ...], bool]] = [
     ("tandem-blocking", example("tandem-blocking"), None, LENGTHS, True),
     ("shortest-queue", example("shortest-queue"), None, LENGTHS, True),
     ("fork-join", example("fork-join"), None, LENGTHS, True),
@@ -89,12 +94,12 @@ CASES = [
 ]
 
 
-def drawn(psi, net, total, seed, steps, count):
+def drawn(psi: Program, net: Network, total: int | None, seed: int, steps: int, count: int) -> Rows:
     """The rows of the paths of some streams, none where one isn't coupled."""
     return paths_of(psi, net, seed, blocks_of(0, count, max(1, count // 40)), steps, total)
 
 
-def solved(net, total):
+def solved(net: Network, total: int | None) -> Means:
     """What each row is of, by its sort and its name."""
     states, law = law_of(net, total)
     plain, numbers = Plain({**net.heads, **net.table}), numpy.array(states)
@@ -108,26 +113,29 @@ def solved(net, total):
     return found
 
 
-def estimated(psi, net, total):
+def estimated(psi: Program, net: Network, total: int | None) -> Means:
     """As `solved`, from other streams of a network that is too large."""
     steps = 20_000
     paths = paths_of_rows(net, steps, drawn(psi, net, total, OTHER, steps, WORDS.count * TIMES))
-    return {(row.kind, row.name): paths.mean(row).mean for row in paths.rows}
+    means = {(row.kind, row.name): paths.mean(row).mean for row in paths.rows}
+    return {key: mean for key, mean in means.items() if mean is not None}
 
 
-def tried(psi, name, net, total, lengths, is_solved):
+def tried(psi: Program, name: str, net: Network, total: int | None, lengths: tuple[int, ...], is_solved: bool) -> bool:
     """The lines of a network; whether enough of its intervals held."""
     wanted, is_well = solved(net, total) if is_solved else estimated(psi, net, total), True
     for steps in lengths:
         rows = drawn(psi, net, total, SEED, steps, WORDS.repetitions * WORDS.count)
-        lost, held, widths = rows.count(None) / len(rows), {}, {}
+        lost = rows.count(None) / len(rows)
+        held: dict[tuple[str, str], int] = {}
+        widths: dict[tuple[str, str], list[float]] = {}
         for begin in range(0, len(rows), WORDS.count):
             paths = paths_of_rows(net, steps, rows[begin : begin + WORDS.count])
             for row in (row for row in paths.rows if row.times):
                 mean, key = paths.mean(row), (row.kind, row.name)
-                is_held = mean.low is not None and mean.low - 1e-9 <= wanted[key] <= mean.high + 1e-9
-                held[key] = held.get(key, 0) + (is_held or mean.mean is None)
-                widths.setdefault(key, []).append(mean.high - mean.low if mean.mean is not None else numpy.inf)
+                low, high = -math.inf if mean.low is None else mean.low, math.inf if mean.high is None else mean.high
+                held[key] = held.get(key, 0) + (low - 1e-9 <= wanted[key] <= high + 1e-9)
+                widths.setdefault(key, []).append(high - low)
         for key, count in held.items():
             share, width = 100 * count / WORDS.repetitions, statistics.median(widths[key])
             cut = f", {100 * lost:.0f} % uncoupled" if lost else ""
@@ -138,7 +146,7 @@ def tried(psi, name, net, total, lengths, is_solved):
     return is_well
 
 
-def main():
+def main() -> int:
     psi = Program(os.path.abspath(WORDS.psi))
     cases = [case for case in CASES if WORDS.only in (None, case[0])]
     return 0 if all([tried(psi, *case) for case in cases]) else 1

@@ -19,7 +19,7 @@ SECONDS, MOST_SHOWN = 60, 2_000
 Answer = tuple[int, bytes, bytes]
 
 
-class Held:
+class Expectations:
     """Counts what a test looks at, and keeps all that is wrong, so that the test reports all of it."""
 
     def __init__(self) -> None:

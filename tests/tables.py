@@ -4,18 +4,22 @@ Such a program is run on networks with rewards of all kinds, on words that ask f
 are no network, with growths of its memory that are refused, with writes that fail, and in little memory.
 """
 
+import itertools
 import pathlib
 import resource
 import signal
 import subprocess
 import tomllib
 from collections.abc import Callable, Iterator, Sequence
+from typing import Self
+
+import pytest
 
 from generate.small_networks import Dice, closed_network, network
 from generate.toml_text import table
 from oracle.plain_network import Network
-from tests.refusing import MOST, NOTHING, Refusing, WrongEnd
-from tests.support import Held
+from tests.refusing import Call, Refusing
+from tests.support import Answer, Expectations, beside
 
 MOST_STREAM = 2**64 - 1
 # A queue that is served as fast as it fills.
@@ -47,34 +51,22 @@ def rewards(number: int, net: Network) -> Iterator[str]:
 
 
 def with_rewards(number: int, text: str) -> str:
-    """A network file with rewards, but for each fifth, which has none."""
-    if number % 5 == 0:
-        return text
-    return text + "".join(rewards(number, Network(tomllib.loads(text))))
+    """A network file with rewards: of each five files one has none, and one has a linear one alone."""
+    tables = rewards(number, Network(tomllib.loads(text)))
+    return text + "".join(itertools.islice(tables, {0: 0, 1: 1}.get(number % 5)))
 
 
 class RefusingTable(Refusing):
     """A program that prints tables, with growths of its memory that are refused."""
 
-    def __init__(self, name: str, program: str, library: str) -> None:
-        self.name, self.program, self.library = name, program, library
-        self.the_line = (8, b"", f"{name}: out of memory\n".encode())
-
-    def words_alone(self, words: Sequence[str], folder: str) -> int:
-        """How many growths words of these lengths take that ask for no table."""
-        other = [*words[:-1], "-" * len(words[-1])]
-        usage = (2, b"", f"{self.name}: usage word {len(words)}\n".encode())
-        for place in range(1, MOST):
-            end, refused = self.run(other, folder, place)
-            if not refused and end == usage:
-                return place - 1
-            if not refused or end != NOTHING:
-                raise WrongEnd(f"growth {place}: {end}")
-        raise WrongEnd("ever more memory")
+    def no_command(self, words: Sequence[str]) -> tuple[list[str], Answer]:
+        """Words of the same lengths that ask for no table, and how a run of them ends."""
+        usage = f"{self.name}: usage word {len(words)}\n".encode()
+        return [*words[:-1], "-" * len(words[-1])], (2, b"", usage)
 
 
 def limited(most: int) -> Callable[[], None]:
-    """What makes a process write at most so many bytes to a file."""
+    """What makes a process write at most that many bytes to a file."""
 
     def limit() -> None:
         signal.signal(signal.SIGXFSZ, signal.SIG_IGN)
@@ -86,12 +78,20 @@ def limited(most: int) -> Callable[[], None]:
 class TableTries:
     """A program that prints tables, psi beside it, the room for files, and what is held."""
 
-    def __init__(self, psi: str, name: str, program: str, room: pathlib.Path, hold: Held) -> None:
-        self.psi, self.name, self.program, self.room, self.hold = psi, name, program, room, hold
+    def __init__(self, psi: str, name: str, program: str, room: pathlib.Path, expect: Expectations) -> None:
+        self.psi, self.name, self.program, self.room, self.expect = psi, name, program, room, expect
+
+    @classmethod
+    def beside(cls, psi: str, name: str, room: pathlib.Path, expect: Expectations) -> Self:
+        """The program of this name that stands beside psi; a test is skipped where it isn't built."""
+        program = beside(psi, name)
+        if program is None:
+            pytest.skip(f"{name} isn't built")
+        return cls(psi, name, str(program), room, expect)
 
     def is_same(self, what: str, given: object, wanted: object) -> None:
         """Holds that something is what is wanted."""
-        self.hold(given == wanted, f"{what}: {given!r:.300} instead of {wanted!r:.300}")
+        self.expect(given == wanted, f"{what}: {given!r:.300} instead of {wanted!r:.300}")
 
     def run(self, program: str, *words: object) -> tuple[int, str, str]:
         """The status of a run, and both its texts."""
@@ -106,11 +106,62 @@ class TableTries:
         """The line of psi, under the name of the program."""
         return err.replace("psi:", f"{self.name}:")
 
-    def try_words(self, offending: Sequence[tuple[int, list[object]]]) -> None:
-        """Words that ask for no table, each with the place that offends."""
-        for place, words in offending:
-            wanted = 2, "", f"{self.name}: usage word {place}\n"
-            self.is_same(f"words {words}", self.run(self.program, *words), wanted)
+    def open_network(self, number: int) -> tuple[Network, int, range]:
+        """Writes an open network; a seed and streams for it, for some numbers the last ones that there are."""
+        text = with_rewards(number, network(number))
+        self.file(text)
+        count = 1 + number % 7
+        first = number if number % 11 else MOST_STREAM - count + 1
+        return Network(tomllib.loads(text)), number * number, range(first, first + count)
+
+    def closed_network(self, number: int, *more: object) -> tuple[Network, int, range, int] | None:
+        """Writes a closed network, or one that is nearly closed; a seed, streams and a total for it. None where psi
+        refuses it, which the program has to do as well; `more` are the words after COUNT."""
+        text = with_rewards(number, closed_network(number))
+        self.file(text)
+        net, seed, first = Network(tomllib.loads(text)), number, number + 1
+        count, total = 1 + number % 5, Dice(number).below(2 + sum(net.caps))
+        status, out, err = self.run(self.psi, "closed", "net.toml", seed, first, total)
+        if status <= 1:
+            return net, seed, range(first, first + count), total
+        given = self.run(self.program, "net.toml", seed, first, count, *more, "closed", total)
+        self.is_same(f"closed {number}", given, (status, out, self.line_of(err)))
+        return None
+
+    def try_words(self, header: str, *more: object) -> None:
+        """Words that ask for no table, each with the place that offends, and the last stream, whose table has
+        this header; `more` are the words after COUNT."""
+        self.file(QUEUE)
+        net = "net.toml"
+        right, last = [net, 0, 0, 1, *more], 5 + len(more)
+        wrong: tuple[tuple[int, list[object]], ...] = (
+            *((place, [net, 0, 0][: place - 1]) for place in range(1, 5)),
+            (2, [net, "-1", 0, 1, *more]),
+            (2, [net, "00", 0, 1, *more]),
+            (2, [net, 2**64, 0, 1, *more]),
+            (3, [net, 0, 2**64, 1, *more]),
+            (3, [net, 0, "+1", 1, *more]),
+            (4, [net, 0, 0, 0, *more]),
+            (4, [net, 0, 0, 2**32, *more]),
+            (4, [net, 0, MOST_STREAM, 2, *more]),
+            (4, [net, 0, 1, "1e3", *more]),
+            (last, [*right, "open"]),
+            (last, [*right, 7]),
+            (last + 1, [*right, "closed"]),
+            (last + 1, [*right, "closed", 257]),
+            (last + 1, [*right, "closed", ""]),
+            (last + 2, [*right, "closed", 0, 0]),
+        )
+        for place, words in wrong:
+            self.try_usage(place, words)
+        front = f"{header}{MOST_STREAM},"
+        status, out, err = self.run(self.program, net, MOST_STREAM, MOST_STREAM, 1, *more)
+        self.is_same("the last stream", (status, out[: len(front)], err), (0, front, ""))
+
+    def try_usage(self, place: int, words: Sequence[object]) -> None:
+        """Words of which the one at a place offends."""
+        wanted = 2, "", f"{self.name}: usage word {place}\n"
+        self.is_same(f"words {words}", self.run(self.program, *words), wanted)
 
     def try_refusals(self, *more: object) -> None:
         """Files that are no network, as psi says of them; `more` are the words after COUNT."""
@@ -135,21 +186,6 @@ class TableTries:
         wanted = 11, "", f"{self.name}: not closed event 0\n"
         self.is_same("open", self.run(self.program, "net.toml", 0, 0, 1, *more, "closed", 1), wanted)
 
-    def growths(self, refusing: Refusing, words: list[str]) -> int:
-        """How many growths a call has, each refused in turn, alone and with all later ones."""
-        room = str(self.room)
-        ample, _ = refusing.run(words, room)
-        self.is_same(f"{words}: ample memory", ample[0] in (0, 1) and ample[2] == b"", True)
-        alone = refusing.words_alone(words, room)
-        for place in range(1, MOST):
-            allowed = [NOTHING] if place <= alone else [refusing.the_line, ample]
-            for until in (place, None):
-                end, refused = refusing.run(words, room, place, until)
-                if not refused:
-                    return place - 1 - alone
-                self.is_same(f"{words}: growth {place} {until}", end in allowed, True)
-        raise WrongEnd(f"{words}: ever more memory")
-
     def try_memory(self, library: str, few: Sequence[str], many: Sequence[str]) -> None:
         """Growths that are refused, of an open and a closed network; a call with the words `few` from COUNT
         on has as many of them as one with `many`."""
@@ -157,12 +193,17 @@ class TableTries:
         closed = next(text for text in map(closed_network, range(100)) if "limit = 5" in text)
         tables: tuple[tuple[str, list[str]], ...] = ((with_rewards(3, network(3)), []), (closed, ["closed", "1"]))
         for text, last in tables:
-            self.file(text)
-            less, more = (self.growths(refusing, ["net.toml", "3", "0", *words, *last]) for words in (few, many))
-            self.is_same("growths of memory", less > 2 and less == more, True)
+            files = {"net.toml": text.encode()}
+            calls = [Call(refusing, ["net.toml", "3", "0", *words, *last], files).perform() for words in (few, many)]
+            for call in calls:
+                self.is_same(f"{call.shown()}: growths that are refused", call.failures, [])
+                is_table = call.ample is not None and call.ample[0] in (0, 1) and call.ample[2] == b""
+                self.expect(is_table, f"{call.shown()}: ample memory")
+            less, more = (call.growths for call in calls)
+            self.expect(2 < less == more, f"{few} has {less} growths of memory, and {many} {more}")
 
     def try_writes(self, head: int, *more: str) -> None:
-        """Writes that fail at a place: what is written is a prefix of the table, whose header has so many
+        """Writes that fail at a place: what is written is a prefix of the table, whose header has that many
         bytes; `more` are the words after COUNT."""
         self.file(QUEUE)
         words = [self.program, "net.toml", "5", "0", "30000", *more]
@@ -193,7 +234,7 @@ class TableTries:
         self.is_same("a closed pipe", (status, front), (7, whole[:1000]))
 
     def fits(self, pieces: int, *words: object) -> bool:
-        """Whether a table of the words from COUNT on is made within so many times 64 KiB of memory."""
+        """Whether a table of the words from COUNT on is made within that many times 64 KiB of memory."""
 
         def limit() -> None:
             resource.setrlimit(resource.RLIMIT_AS, (pieces * 65_536, pieces * 65_536))
@@ -211,4 +252,4 @@ class TableTries:
             middle = (low + high) // 2
             low, high = (low, middle) if self.fits(middle, *few) else (middle, high)
         for many in others:
-            self.hold(self.fits(high + 1, *many), f"{few} fits into {high * 64} KiB, and {many} does not")
+            self.expect(self.fits(high + 1, *many), f"{few} fits into {high * 64} KiB, and {many} does not")

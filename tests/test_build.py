@@ -20,7 +20,7 @@ from collections.abc import Callable, Iterable
 import pytest
 
 from tests.checkouts import checkout
-from tests.support import TOP, Held
+from tests.support import TOP, Expectations
 from tools.build.crates import Crates, crates_below, rows_of
 from tools.build.schedule import Costs, Pace, Schedule
 
@@ -103,55 +103,55 @@ def test_rows() -> None:
     assert [*rows_of(text)] == ["low", "mid", "top"]
 
 
-def try_first(hold: Held, trial: Trial) -> None:
+def try_first(expect: Expectations, trial: Trial) -> None:
     """A build from nothing."""
     status, out, lines, calls = trial.build()
-    hold((status, out) == (0, ""), f"a build ends with {status} {out} {lines}")
+    expect((status, out) == (0, ""), f"a build ends with {status} {out} {lines}")
     wanted = [name for name in crates_below(trial.top) if "psi" in crates_above(trial.top, [name])]
-    hold(sorted(begun(calls)) == sorted(wanted), f"it proves {begun(calls)}")
+    expect(sorted(begun(calls)) == sorted(wanted), f"it proves {begun(calls)}")
     ended: set[str] = set()
     for what, name, *_ in calls:
         if what == "begin":
             early = {*trial.crates.below(name)} - ended
-            hold(not early, f"{name} is begun before {early} are proved")
+            expect(not early, f"{name} is begun before {early} are proved")
         else:
             ended.add(name)
     counts = [int(found[1]) for line in lines if (found := re.match(r"psi: (\d+) of \d+ ", line))]
-    hold(counts == sorted(counts) and len(counts) >= len(wanted) // 2, f"progress is {counts}")
-    hold(f"proving {len(wanted)} crates" in " ".join(lines), f"it says {lines[:3]}")
-    hold(not any("logic" in line for line in lines), "it says that the toolchain is another")
-    hold(not (trial.top / "crates/psi/out/lanes").exists(), "it leaves its lanes")
+    expect(counts == sorted(counts) and len(counts) >= len(wanted) // 2, f"progress is {counts}")
+    expect(f"proving {len(wanted)} crates" in " ".join(lines), f"it says {lines[:3]}")
+    expect(not any("logic" in line for line in lines), "it says that the toolchain is another")
+    expect(not (trial.top / "crates/psi/out/lanes").exists(), "it leaves its lanes")
 
 
-def try_later(hold: Held, trial: Trial) -> None:
+def try_later(expect: Expectations, trial: Trial) -> None:
     """Builds after the first one."""
     status, _, lines, calls = trial.build()
-    hold((status, lines, calls) == (0, [], []), f"a second build does {lines} {calls}")
+    expect((status, lines, calls) == (0, [], []), f"a second build does {lines} {calls}")
     source = trial.top / "crates/psi_log_words/src/lib.rt"
     source.touch()
-    hold(trial.build()[3] == [], "a source that is newer and the same is proved")
+    expect(trial.build()[3] == [], "a source that is newer and the same is proved")
     source.write_text(source.read_text() + "// A change.\n")
     wanted = crates_above(trial.top, ["psi_log_words"]) & {*trial.crates.names}
     status, _, lines, calls = trial.build()
-    hold({*begun(calls)} == wanted, f"after a change it proves {begun(calls)}, not {wanted}")
+    expect({*begun(calls)} == wanted, f"after a change it proves {begun(calls)}, not {wanted}")
 
 
-def try_failures(hold: Held, trial: Trial) -> None:
+def try_failures(expect: Expectations, trial: Trial) -> None:
     """Proofs that fail, and that something ends."""
     source = trial.top / "crates/psi_state/src/lib.rt"
     source.write_text(source.read_text() + "// A change.\n")
     status, _, lines, calls = trial.build(RT_FAILS="psi_event")
     late = crates_above(trial.top, ["psi_event"]) - {"psi_event"}
-    hold(status == 126 and "the build failed" in lines[-1], f"a failure ends with {status} {lines}")
-    hold(not late & {*begun(calls)}, f"above a crate that fails it proves {begun(calls)}")
+    expect(status == 126 and "the build failed" in lines[-1], f"a failure ends with {status} {lines}")
+    expect(not late & {*begun(calls)}, f"above a crate that fails it proves {begun(calls)}")
     status, _, lines, calls = trial.build(RT_KILLED="psi_event")
     again = begun(calls).count("psi_event")
-    hold((status, again) == (0, 2), f"a proof that is killed: {status}, begun {again} times")
+    expect((status, again) == (0, 2), f"a proof that is killed: {status}, begun {again} times")
     source.write_text(source.read_text() + "// Another change.\n")
     status, _, lines, calls = trial.build("a-kit logic 0123456789abcdef")
-    hold({*begun(calls)} == {*trial.crates.names}, f"with another toolchain: {begun(calls)}")
+    expect({*begun(calls)} == {*trial.crates.names}, f"with another toolchain: {begun(calls)}")
     noted = [line for line in lines if "PSI was tried with" in line]
-    hold((status, len(noted)) == (0, 1), f"with another logic it says {lines[:3]}")
+    expect((status, len(noted)) == (0, 1), f"with another logic it says {lines[:3]}")
 
 
 def played(schedule: Schedule, true_seconds: Callable[[str, int], float]) -> tuple[float, list[tuple[float, float]]]:
@@ -161,7 +161,7 @@ def played(schedule: Schedule, true_seconds: Callable[[str, int], float]) -> tup
     done: set[str] = set()
     jobs: dict[str, int] = {}
     so_far: dict[str, float] = {}
-    told: list[tuple[float, float]] = []
+    reported: list[tuple[float, float]] = []
     pace, clock, tick = Pace(schedule.costs), 0.0, 60
     while waiting or jobs:
         while found := schedule.next(waiting, done, jobs):
@@ -177,34 +177,34 @@ def played(schedule: Schedule, true_seconds: Callable[[str, int], float]) -> tup
             pace.add(first, jobs.pop(first), so_far[first])
             done.add(first)
         state = {it: (jobs[it], so_far[it]) for it in jobs}
-        told.append((clock, schedule.left(waiting, done, state, pace.value(state))))
-    return clock, told
+        reported.append((clock, schedule.left(waiting, done, state, pace.value(state))))
+    return clock, reported
 
 
 @pytest.mark.slow
-def test_builds(hold: Held, tmp_path: pathlib.Path) -> None:
+def test_builds(expect: Expectations, tmp_path: pathlib.Path) -> None:
     """Builds in one checkout, one after the other."""
     trial = Trial(tmp_path)
     for part in (try_first, try_later, try_failures):
-        part(hold, trial)
+        part(expect, trial)
 
 
 @pytest.mark.parametrize("seed, machine", enumerate(MACHINES))
-def test_time_left(hold: Held, seed: int, machine: tuple[int, float]) -> None:
+def test_time_left(expect: Expectations, seed: int, machine: tuple[int, float]) -> None:
     """The time left, where crates take other times than those that are listed."""
     processors, speed = machine
     crates = Crates(TOP, "psi")
     costs = Costs((TOP / "tools/build/seconds.txt").read_text(), lambda name: 500)
     absent = [name for name in crates.names if name not in costs.listed]
-    hold(len(absent) * 4 < len(crates.names), f"seconds.txt lacks {absent}")
+    expect(len(absent) * 4 < len(crates.names), f"seconds.txt lacks {absent}")
     luck = random.Random(seed)
     factor = {name: speed * luck.uniform(*LUCK) for name in crates.names}
     schedule = Schedule(crates, costs, processors, 16_000)
-    whole, told = played(schedule, lambda name, jobs: factor[name] * costs.seconds(name, jobs))
+    whole, reported = played(schedule, lambda name, jobs: factor[name] * costs.seconds(name, jobs))
     off = [
         (now, left, whole - now)
-        for now, left in told
+        for now, left in reported
         if now >= whole / 4 and abs(left - (whole - now)) > max((whole - now) / 3, 60 * speed)
     ]
-    hold(not off, f"{processors} processors, speed {speed}: off at {off[:3]}")
-    hold(whole > 60, f"{whole} s")
+    expect(not off, f"{processors} processors, speed {speed}: off at {off[:3]}")
+    expect(whole > 60, f"{whole} s")

@@ -26,7 +26,7 @@ import pytest
 from generate.toml_text import table
 from tests import merges
 from tests.gallery import runs_of_document, runs_of_gallery
-from tests.support import EXAMPLES, SECONDS, TOP, Held, beside
+from tests.support import EXAMPLES, SECONDS, TOP, Expectations, beside
 
 # A status and both texts, where a text is None that goes elsewhere; and what else is looked at.
 End = tuple[Any, ...]
@@ -41,7 +41,7 @@ LONG_NETWORK = (3, b"", b"psi: network refused 0 TooLong top 0 -\n")
 LONG_LOG = (4, b"", b"psi: log refused 7 TooLong line 0\n")
 NO_COMMAND = (2, b"", b"psi: usage word 1\n")
 # Words whose answer is a line on standard error.
-TOLD = (
+REFUSALS = (
     (["no-command"], NO_COMMAND),
     (["check", "absent"], NO_NETWORK),
     (["replay", "filling.toml", "absent"], NO_LOG),
@@ -61,7 +61,7 @@ def no_report(name: str) -> End:
 
 
 # Words of psi_merge whose answer is a line on standard error.
-MERGES_TOLD: tuple[tuple[list[str], End], ...] = (
+REFUSED_MERGES: tuple[tuple[list[str], End], ...] = (
     ([], NO_FILES),
     (["-x", "absent"], NO_FILES),
     (["absent", "wrong.csv"], no_report("absent")),
@@ -156,18 +156,18 @@ def full_devices(place: Place) -> Iterator[Case]:
     with open("/dev/full", "wb") as full:
         for words, _ in answers(place):
             yield f"{words} on a full device", [(7, None, b"")], place.run(words, stdout=full)
-        for words, _ in TOLD:
+        for words, _ in REFUSALS:
             got = place.run(words, stderr=full)
             yield f"{words} and no room for the line", [(7, b"", None)], got
             got = place.run(words, stdout=full)
-            yield f"{words} with nothing for the full device", [tell(words)], got
+            yield f"{words} with nothing for the full device", [line_alone(words)], got
         got = place.run(["sample", "first.toml", "0", "0"], stdout=full, stderr=full)
         yield "a sample with no room for anything", [(7, None, None)], got
 
 
-def tell(words: list[str]) -> End:
+def line_alone(words: list[str]) -> End:
     """What comes of words whose answer is a line, where standard output isn't looked at."""
-    status, _, line = next(wanted for told, wanted in TOLD if told == words)
+    status, _, line = next(wanted for reported, wanted in REFUSALS if reported == words)
     return status, None, line
 
 
@@ -195,7 +195,7 @@ def pipes_without_reader(place: Place) -> Iterator[Case]:
         for words, _ in answers(place):
             got = place.run(words, stdout=write, restore_signals=kept)
             yield f"{words} whose reader is gone", [(7, None, b"")], got
-        for words, _ in TOLD:
+        for words, _ in REFUSALS:
             got = place.run(words, stderr=write, restore_signals=kept)
             yield f"{words} whose line has no reader", [(7, b"", None)], got
     os.close(write)
@@ -256,7 +256,7 @@ def closed_outputs(place: Place) -> Iterator[Case]:
         status, out, err = place.run(words, preexec_fn=close_others)
         got = (status, out[: len(text)], err)
         yield f"{words} with the others closed", [(0, text, b"")], got
-    for words, wanted in TOLD:
+    for words, wanted in REFUSALS:
         got = place.run(words, preexec_fn=lambda: os.close(2))
         yield f"{words} with standard error closed", [(7, b"", b"")], got
         got = place.run(words, preexec_fn=lambda: os.close(1))
@@ -264,7 +264,7 @@ def closed_outputs(place: Place) -> Iterator[Case]:
 
 
 def write_slowly(path: pathlib.Path, data: bytes, most: int) -> None:
-    """Writes a file of the system, at most so many bytes at a time."""
+    """Writes a file of the system, at most that many bytes at a time."""
     with open(path, "wb", buffering=0) as pipe:
         for start in range(0, len(data), most):
             pipe.write(data[start : start + most])
@@ -297,7 +297,7 @@ def append(path: pathlib.Path, piece: bytes, ended: threading.Event) -> None:
 
 def growing(place: Place) -> Iterator[Case]:
     """Files that grow while they are read. What is added means nothing in a network file, and is
-    text behind the end of a log.
+    text after the end of a log.
     """
     trailing = (4, b"", b"psi: log refused 6 TrailingText line %d\n" % (PLACES + 9))
     runs = (
@@ -347,9 +347,9 @@ def wrong_words(place: Place) -> Iterator[Case]:
             yield f"{words}, which aren't UTF-8", [(13, b"", b"")], place.run(words)
 
 
-def told_merges(place: Place, what: str, **more: Any) -> Iterator[Case]:
+def lines_of_merges(place: Place, what: str, **more: Any) -> Iterator[Case]:
     """The lines of psi_merge where standard error takes nothing."""
-    for words, _ in MERGES_TOLD:
+    for words, _ in REFUSED_MERGES:
         yield f"the line on a merge of {words} {what}", [(7, b"", None)], place.merge(words, **more)
 
 
@@ -359,24 +359,24 @@ def outputs_of_merges(place: Place) -> Iterator[Case]:
     with open("/dev/full", "wb") as full:
         yield "a merge on a full device", [(7, None, b"")], place.merge(words, stdout=full)
         yield "a merge that needs no err", [(0, REPORT, None)], place.merge(words, stderr=full)
-        yield from told_merges(place, "on a full device", stderr=full)
-        for told, (status, _, line) in MERGES_TOLD:
-            got = place.merge(told, stdout=full)
-            yield f"a merge of {told} that needs no out", [(status, None, line)], got
+        yield from lines_of_merges(place, "on a full device", stderr=full)
+        for reported, (status, _, line) in REFUSED_MERGES:
+            got = place.merge(reported, stdout=full)
+            yield f"a merge of {reported} that needs no out", [(status, None, line)], got
     read, write = os.pipe()
     os.close(read)
     yield "a merge whose reader is gone", [(7, None, b"")], place.merge(words, stdout=write)
-    yield from told_merges(place, "without a reader", stderr=write)
+    yield from lines_of_merges(place, "without a reader", stderr=write)
     os.close(write)
     got = place.merge(words, preexec_fn=lambda: os.close(1))
     yield "a merge with standard output closed", [(7, b"", b"")], got
     got = place.merge(words, preexec_fn=close_others)
     yield "a merge with the others closed", [(0, REPORT, b"")], got
-    for told, wanted in MERGES_TOLD:
-        got = place.merge(told, preexec_fn=lambda: os.close(2))
-        yield f"a merge of {told} with standard error closed", [(7, b"", b"")], got
-        got = place.merge(told, preexec_fn=lambda: os.close(1))
-        yield f"a merge of {told} with standard output closed", [wanted], got
+    for reported, wanted in REFUSED_MERGES:
+        got = place.merge(reported, preexec_fn=lambda: os.close(2))
+        yield f"a merge of {reported} with standard error closed", [(7, b"", b"")], got
+        got = place.merge(reported, preexec_fn=lambda: os.close(1))
+        yield f"a merge of {reported} with standard output closed", [wanted], got
 
 
 def files_of_merges(place: Place) -> Iterator[Case]:
@@ -387,8 +387,8 @@ def files_of_merges(place: Place) -> Iterator[Case]:
         for words in ([name], ["report.csv", name], [name, "wrong.csv"]):
             got = place.merge(words, **user)
             yield f"a merge of {shown}, one of {len(words)}", [no_report(name)], got
-    for told, wanted in MERGES_TOLD:
-        yield f"a merge of {told}", [wanted], place.merge(told)
+    for reported, wanted in REFUSED_MERGES:
+        yield f"a merge of {reported}", [wanted], place.merge(reported)
     os.mkfifo(place.folder / "pieces.csv")
     for most in (1, 7, 4_096):
         asked = (place.folder / "pieces.csv", REPORT, most)
@@ -429,9 +429,9 @@ def place(program: str) -> Iterator[Place]:
 
 
 @pytest.mark.parametrize("trial", TRIALS, ids=[trial.__name__ for trial in TRIALS])
-def test_what_fails(hold: Held, place: Place, trial: Callable[[Place], Iterator[Case]]) -> None:
+def test_what_fails(expect: Expectations, place: Place, trial: Callable[[Place], Iterator[Case]]) -> None:
     if trial in MERGES and not place.merger:
         pytest.skip("psi_merge isn't built")
     for what, wanted, got in trial(place):
         texts = [repr(end)[:300] for end in (*wanted, got)]
-        hold(got in wanted, f"{what[:200]}: wanted {' or '.join(texts[:-1])}, got {texts[-1]}")
+        expect(got in wanted, f"{what[:200]}: wanted {' or '.join(texts[:-1])}, got {texts[-1]}")

@@ -4,8 +4,8 @@ cases, the gallery and the guides show is what `tools/self-test` finds too.
 
 import pytest
 
-from tests.documents import DOCUMENTS, Clone, Document, tried, try_links, untold_changes
-from tests.support import TOOLS, TOP, Held, answer
+from tests.documents import DOCUMENTS, Clone, Document, tried, try_links, unnoticed_changes
+from tests.support import TOOLS, TOP, Expectations, answer
 
 PAGES = sorted(str(file.relative_to(TOP)) for file in (*TOP.glob("*.md"), *TOP.glob("docs/*.md")))
 
@@ -26,27 +26,27 @@ def test_self_test(program: str) -> None:
 
 @pytest.mark.slow
 @pytest.mark.parametrize("name", DOCUMENTS)
-def test_a_document(hold: Held, clone: Clone, name: str) -> None:
+def test_a_document(expect: Expectations, clone: Clone, name: str) -> None:
     document = tried(name, clone.read(name).decode(), clone)
     for difference in document.differences:
-        hold(False, difference)
-    hold(document.compared, f"{name} shows nothing")
+        expect(False, difference)
+    expect(document.compared, f"{name} shows nothing")
 
 
 @pytest.mark.parametrize("name", [name for name in PAGES if name not in DOCUMENTS])
-def test_links_of_a_page(hold: Held, clone: Clone, name: str) -> None:
+def test_links_of_a_page(expect: Expectations, clone: Clone, name: str) -> None:
     document = Document(name, clone.read(name).decode())
     try_links(document, clone)
     for difference in document.differences:
-        hold(False, difference)
-    hold(True, name)
+        expect(False, difference)
+    expect(True, name)
 
 
 @pytest.mark.slow
 @pytest.mark.release
 @pytest.mark.parametrize("name", DOCUMENTS)
-def test_changes_are_told(clone: Clone, name: str) -> None:
+def test_changes_are_noticed(clone: Clone, name: str) -> None:
     """Each change of a document in one place is told; this takes half an hour."""
     document = tried(name, clone.read(name).decode(), clone)
     assert document.differences == []
-    assert [*untold_changes(document, clone)] == []
+    assert [*unnoticed_changes(document, clone)] == []

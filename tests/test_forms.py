@@ -12,14 +12,16 @@ from generate.forms import ENTRIES, network
 from oracle import plain
 from oracle.plain_network import Event, Network
 from oracle.regions import box_outcome, corners_outcome
-from tests.support import Held, answer
+from tests.support import Expectations, answer
 
 OUTCOMES = {"monotone": corners_outcome, "index": corners_outcome, "mixed": box_outcome}
 
 
 @pytest.mark.slow
 @pytest.mark.parametrize("family", ENTRIES)
-def test_samples_of_a_family(program: str, hold: Held, tmp_path: pathlib.Path, family: str, numbers: range) -> None:
+def test_samples_of_a_family(
+    program: str, expect: Expectations, tmp_path: pathlib.Path, family: str, numbers: range
+) -> None:
     met, forms = 0, set()
     for number in numbers:
         text = network(family, number)
@@ -33,9 +35,9 @@ def test_samples_of_a_family(program: str, hold: Held, tmp_path: pathlib.Path, f
         plain.block.cache_clear()
         met += status == 0
         forms.add(words_of(net.caps))
-        hold(found == (status, wanted.encode(), b""), f"{family} network {number}: {wanted} {found}")
-    hold(met, "no sample coalesces")
-    hold(len(numbers) < 100 or forms == {*range(5)}, f"states fit {forms} words alone")
+        expect(found == (status, wanted.encode(), b""), f"{family} network {number}: {wanted} {found}")
+    expect(met, "no sample coalesces")
+    expect(len(numbers) < 100 or forms == {*range(5)}, f"states fit {forms} words alone")
 
 
 def words_of(caps: tuple[int, ...]) -> int:

@@ -11,7 +11,7 @@ import pytest
 
 from tests.documents import Clone, Document
 from tests.gallery import BLOCK
-from tests.support import EXAMPLES, TOP, Held
+from tests.support import EXAMPLES, TOP, Expectations
 
 TANDEM, FIRST = "examples/tandem-blocking.toml", "examples/first.toml"
 # What stands for a word of README's table of commands.
@@ -82,39 +82,39 @@ def test_the_first_screen() -> None:
     assert re.search(r"^!\[[^\]]+\]\([^)]+\.svg\)$", first, re.M)
 
 
-def test_commands(hold: Held, clone: Clone) -> None:
+def test_commands(expect: Expectations, clone: Clone) -> None:
     """README's table of commands: each is one, takes such words, and is in the help."""
     rows = re.findall(r"^\| `\./psi ([^`]*)` \| \w+", text_of("README.md"), re.M)
-    hold(len(rows) == 10 and len({row.split()[0] for row in rows}) == 9, f"other commands: {rows}")
+    expect(len(rows) == 10 and len({row.split()[0] for row in rows}) == 9, f"other commands: {rows}")
     help_text = clone.execute("./psi --help")[1]
     for row in rows:
         name, *words = [WORDS.get(word, word) for word in row.split()]
         if name == "closed":
             words[0] = "examples/central-server.toml"
         status, out, error = clone.execute(f"./psi {name} {' '.join(words)}")
-        hold(status == 0 and out, f"status {status} of ./psi {row}: {error}")
-        hold(re.search(rf"^  {name} ", help_text, re.M), f"the help has no {name}")
+        expect(status == 0 and out, f"status {status} of ./psi {row}: {error}")
+        expect(re.search(rf"^  {name} ", help_text, re.M), f"the help has no {name}")
     status, out, _ = clone.execute("./psi help sample")
-    hold((status, out.splitlines()[0]) == (0, "Usage: psi sample NET SEED STREAM"), f"help sample: {out}")
-    hold(clone.execute("./psi --build")[:2] == (0, ""), "./psi --build says something")
+    expect((status, out.splitlines()[0]) == (0, "Usage: psi sample NET SEED STREAM"), f"help sample: {out}")
+    expect(clone.execute("./psi --build")[:2] == (0, ""), "./psi --build says something")
 
 
-def test_statuses(hold: Held, clone: Clone) -> None:
+def test_statuses(expect: Expectations, clone: Clone) -> None:
     """The table of statuses in LIMITS: each comes of its call, and a line of its form with it."""
     rows = re.findall(r"^\| (\d+) \| [^|\n]* \| ((?:`[^`]*`(?:, )?)*) ?\|$", text_of("docs/LIMITS.md"), re.M)
-    hold([int(number) for number, _ in rows] == [*CALLS], f"other statuses: {rows}")
+    expect([int(number) for number, _ in rows] == [*CALLS], f"other statuses: {rows}")
     for number, lines in rows:
         forms = re.findall("`([^`]*)`", lines)
         patterns = [re.sub(r"\b(?:[A-Z]+|(?<=line )L)\b", "[^ ]+", form) for form in forms] or [""]
         ended = [clone.execute(call) for call in CALLS[int(number)]]
         errors, statuses = [error.strip() for _, _, error in ended], {status for status, _, _ in ended}
-        hold(statuses == {int(number)}, f"the status {number} is {statuses}: {errors}")
+        expect(statuses == {int(number)}, f"the status {number} is {statuses}: {errors}")
         for pattern in patterns:
             comes = any(re.fullmatch(pattern, error) for error in errors)
-            hold(comes, f"status {number}: no line is of the form {pattern}: {errors}")
+            expect(comes, f"status {number}: no line is of the form {pattern}: {errors}")
         for error in errors:
             shown = any(re.fullmatch(pattern, error) for pattern in patterns)
-            hold(shown, f"status {number}: another line comes: {error}")
+            expect(shown, f"status {number}: another line comes: {error}")
 
 
 def test_words_that_offend(clone: Clone) -> None:

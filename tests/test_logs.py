@@ -10,7 +10,7 @@ import tempfile
 import pytest
 
 from tests.logs import changed_logs, networks, written
-from tests.support import CHECKER, Answer, Held, answer
+from tests.support import CHECKER, Answer, Expectations, answer
 
 CAUSES = """
 accepted
@@ -48,7 +48,7 @@ def cause_of(found: Answer) -> str:
 
 
 @pytest.mark.slow
-def test_changed_logs(program: str, hold: Held) -> None:
+def test_changed_logs(program: str, expect: Expectations) -> None:
     with concurrent.futures.ThreadPoolExecutor(os.cpu_count()) as pool:
         found = pool.map(lambda numbered: written(program, *numbered), enumerate(networks()))
         changed = [*changed_logs([log for log in found if log])]
@@ -56,5 +56,5 @@ def test_changed_logs(program: str, hold: Held) -> None:
     absent = {*CAUSES.strip().split("\n")}
     for (name, net, text), (ended, wanted) in zip(changed, answers):
         absent.discard(cause_of(ended))
-        hold(ended == wanted, f"{name}: psi says {ended}, the checker {wanted}\n{net}\n{text}")
-    hold(not absent, f"no log is {absent}")
+        expect(ended == wanted, f"{name}: psi says {ended}, the checker {wanted}\n{net}\n{text}")
+    expect(not absent, f"no log is {absent}")

@@ -25,7 +25,7 @@ from typing import Any
 import pytest
 
 from tests import many_places as places
-from tests.support import EXAMPLES, TOOLS, Held
+from tests.support import EXAMPLES, TOOLS, Expectations
 
 MANY = str(TOOLS / "psi-many")
 # 20,000 samples of the first network take some two seconds, a million of the second one four.
@@ -38,11 +38,11 @@ Ended = tuple[int, bytes, str]
 class Checks:
     """What is held of the calls of a test."""
 
-    def __init__(self, hold: Held) -> None:
-        self.hold = hold
+    def __init__(self, expect: Expectations) -> None:
+        self.expect = expect
 
     def __call__(self, name: str, fact: object, message: object = "") -> None:
-        self.hold(fact, f"{name}: {message!s}")
+        self.expect(fact, f"{name}: {message!s}")
 
     def same(self, name: str, ended: Ended, wanted: bytes) -> None:
         """A call has printed the report."""
@@ -51,8 +51,8 @@ class Checks:
 
 
 @pytest.fixture
-def check(hold: Held) -> Checks:
-    return Checks(hold)
+def check(expect: Expectations) -> Checks:
+    return Checks(expect)
 
 
 def summed(texts: Sequence[bytes]) -> bytes:
@@ -81,7 +81,7 @@ class Place:
         self.room = pathlib.Path(tempfile.mkdtemp(prefix="try-many-"))
 
     def one_process(self, net: str, seed: int, first: int, count: int) -> bytes:
-        """What `report` prints of so many streams, in as many calls as they need."""
+        """What `report` prints of that many streams, in as many calls as they need."""
         texts, last = [], first + count
         for begin in range(first, last, 65_536):
             words = [self.psi, "report", net, seed, begin, min(65_536, last - begin)]
@@ -104,7 +104,7 @@ class Place:
         return {*self.room.glob("*.many/blocks/[0-9]*.csv")}
 
     def wait_for(self, count: int) -> None:
-        """Waits until so many blocks are finished."""
+        """Waits until that many blocks are finished."""
         until = time.monotonic() + SECONDS
         while len(self.blocks()) < count and time.monotonic() < until:
             time.sleep(0.05)
@@ -214,8 +214,8 @@ def test_texts_cut_short(program: str, check: Checks) -> None:
     with place(program) as here:
         failing = '[ "$1" = check ] || { echo psi: none >&2; exit 8; }; exec "$PSI" "$@"\n'
         status, out, message = here.run(*call, psi=here.program("psi", failing))
-        told = "psi-many: 40 blocks failed, first the streams 0 to 99: psi: none\n"
-        check("blocks that fail each time", (status, out) == (1, b"") and message.endswith(told), message)
+        reported = "psi-many: 40 blocks failed, first the streams 0 to 99: psi: none\n"
+        check("blocks that fail each time", (status, out) == (1, b"") and message.endswith(reported), message)
         check.same("the same call by a program that works", here.run(*call), wanted)
 
 
@@ -286,8 +286,8 @@ def test_streams_added(program: str, check: Checks) -> None:
         check.same("the folder of more streams", answer, here.one_process(QUICK, 3, 0, 5_000))
         kept = all(file.stat().st_ino == number for file, number in before.items())
         check("its whole blocks stay", kept and len(before) == 20 and len(here.blocks()) == 50)
-        told = "first the streams 3000 to 3099"
-        check("a killed sampler's block is told", told in answer[2], answer[2])
+        reported = "first the streams 3000 to 3099"
+        check("a killed sampler's block is told", reported in answer[2], answer[2])
 
 
 @pytest.mark.slow

@@ -12,7 +12,7 @@ import pytest
 
 from tests import merges
 from tests.merges import BASE, SAMPLES, changed
-from tests.support import TOOLS, Held, beside
+from tests.support import TOOLS, Expectations, beside
 
 CHANGED = 400
 # The status, what is printed, and what is said without the program's name.
@@ -96,7 +96,7 @@ def test_no_files(merger: list[str], words: list[str]) -> None:
     assert ending_of(merger, words)[:2] == (2, b"")
 
 
-def test_changed_reports(program: str, hold: Held, tmp_path: pathlib.Path) -> None:
+def test_changed_reports(program: str, expect: Expectations, tmp_path: pathlib.Path) -> None:
     """Both say the same of changed reports, of which some are merged, and some refused in each way."""
     psi_merge, chance, kinds = merge_program(program), random.Random(1), set()
     for _ in range(CHANGED):
@@ -104,5 +104,5 @@ def test_changed_reports(program: str, hold: Held, tmp_path: pathlib.Path) -> No
         files = written(tmp_path, {str(place): text for place, text in enumerate(texts)})
         found, wanted = ending_of([psi_merge], files), merges.ending_in_python(files)
         kinds.add(found[0])
-        hold(found == wanted, f"{texts}: {found} {wanted}")
-    hold(kinds >= {0, 3, 4, 5}, f"the statuses are {kinds} alone")
+        expect(found == wanted, f"{texts}: {found} {wanted}")
+    expect(kinds >= {0, 3, 4, 5}, f"the statuses are {kinds} alone")

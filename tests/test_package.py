@@ -31,7 +31,7 @@ import pytest
 from release import man_pages
 from tests import documents
 from tests.gallery import BLOCK
-from tests.support import TOP, Held
+from tests.support import TOP, Expectations
 
 pytestmark = [
     pytest.mark.slow,
@@ -105,21 +105,21 @@ def made(psi: str, folder: pathlib.Path) -> list[pathlib.Path]:
     return [pathlib.Path(line) for line in subprocess.check_output(words, cwd=TOP, text=True).splitlines()]
 
 
-def try_lintian(hold: Held, package: pathlib.Path) -> None:
+def try_lintian(expect: Expectations, package: pathlib.Path) -> None:
     """Debian's checker of packages finds no error."""
     # The address of who runs this trial may be one that no mail reaches.
     call = ["lintian", "--allow-root", "--suppress-tags", BOGUS, str(package)]
     done = subprocess.run(call, capture_output=True, text=True)
     errors = [line for line in done.stdout.splitlines() if line.startswith("E:")]
-    hold(not errors and done.returncode in (0, 2), f"lintian says {errors or done.stderr}")
+    expect(not errors and done.returncode in (0, 2), f"lintian says {errors or done.stderr}")
 
 
-def try_archive(hold: Held, bare: Bare, archive: pathlib.Path, sums: pathlib.Path) -> None:
+def try_archive(expect: Expectations, bare: Bare, archive: pathlib.Path, sums: pathlib.Path) -> None:
     """The archive, in a system in which nothing is installed."""
     for file in (archive, sums):
         shutil.copy(file, bare.top)
     status, out, error = bare.execute(f"sha256sum --check --ignore-missing {sums.name}")
-    hold((status, out) == (0, f"{archive.name}: OK\n"), f"sha256sum says {out} {error}")
+    expect((status, out) == (0, f"{archive.name}: OK\n"), f"sha256sum says {out} {error}")
     # It has no xz yet: what unpacks it is this system's own.
     subprocess.run(["tar", "-xJf", str(archive), "-C", str(bare.root / "opt")], check=True)
     folder = f"/opt/{archive.name.partition('-linux')[0]}"
@@ -129,18 +129,18 @@ def try_archive(hold: Held, bare: Bare, archive: pathlib.Path, sums: pathlib.Pat
         status, out, error = bare.execute(f"cd {folder} && bin/psi {call}")
         own = subprocess.run([bare.psi, *call.split()], cwd=TOP, capture_output=True, text=True)
         same = (status, out) == (own.returncode, own.stdout)
-        hold(same, f"{call} of the archive: {status} {out} {error}")
-    try_front(hold, bare, f"{folder}/bin/psi")
+        expect(same, f"{call} of the archive: {status} {out} {error}")
+    try_front(expect, bare, f"{folder}/bin/psi")
     page = bare.has(f"{folder}/share/man/man1/psi.1.gz")
-    hold(page and bare.has(f"{folder}/Dockerfile"), "the archive lacks a file")
-    try_merge(hold, bare, f"{folder}/bin/", f"{folder}/examples")
-    try_dockerfile(hold, bare, folder)
+    expect(page and bare.has(f"{folder}/Dockerfile"), "the archive lacks a file")
+    try_merge(expect, bare, f"{folder}/bin/", f"{folder}/examples")
+    try_dockerfile(expect, bare, folder)
     for file in (archive, sums):
         (bare.top / file.name).unlink()
     shutil.rmtree(f"{bare.root}{folder}")
 
 
-def try_front(hold: Held, bare: Bare, psi: str) -> None:
+def try_front(expect: Expectations, bare: Bare, psi: str) -> None:
     """What psi answers itself, and that it hands on other arguments."""
     found = re.search(r'^version: "(.*)"', (TOP / "CITATION.cff").read_text(), re.M)
     assert found
@@ -148,16 +148,16 @@ def try_front(hold: Held, bare: Bare, psi: str) -> None:
     answers = {words: bare.execute(f"{psi} {words}") for words in ("--help", "-h", "help sample")}
     for words, (status, out, error) in answers.items():
         is_whole = "psi sample NET SEED STREAM" in out or "  sample NET SEED STREAM" in out
-        hold((status, is_whole, error) == (0, True, ""), f"{psi} {words}: {status} {error}")
-    hold("psi --version" in answers["--help"][1], f"{psi} --help has no part on itself")
+        expect((status, is_whole, error) == (0, True, ""), f"{psi} {words}: {status} {error}")
+    expect("psi --version" in answers["--help"][1], f"{psi} --help has no part on itself")
     answer = bare.execute(f"{psi} --version")
-    hold(answer == (0, f"psi {version}\n", ""), f"{psi} --version: {answer}")
+    expect(answer == (0, f"psi {version}\n", ""), f"{psi} --version: {answer}")
     for words in ("nonsense", "--build", "--helpme", "-", ""):
         answer = bare.execute(f"{psi} {words}")
-        hold(answer == (2, "", "psi: usage word 1\n"), f"{psi} {words}: {answer}")
+        expect(answer == (2, "", "psi: usage word 1\n"), f"{psi} {words}: {answer}")
 
 
-def try_dockerfile(hold: Held, bare: Bare, folder: str) -> None:
+def try_dockerfile(expect: Expectations, bare: Bare, folder: str) -> None:
     """What docker would make of the archive: the last stage's copies in a bare system, and the
     command that docs/RELEASING.md shows. A bare system stands for the one that docker takes."""
     text = (bare.root / folder[1:] / "Dockerfile").read_text()
@@ -165,17 +165,17 @@ def try_dockerfile(hold: Held, bare: Bare, folder: str) -> None:
     folders = " ".join({target.rpartition("/")[0] or "/" for _, target in copies})
     entry = re.search(r'^ENTRYPOINT \["(\S+)"\]$', text, re.M)
     shown = re.search(r"^docker run --rm psi (.*)$", (TOP / "docs/RELEASING.md").read_text(), re.M)
-    hold(len(copies) == 4 and entry and shown, "the Dockerfile has another form")
+    expect(len(copies) == 4 and entry and shown, "the Dockerfile has another form")
     if entry and shown:
         made = " && ".join(f"cp -r {folder}/{source} {target}" for source, target in copies)
         made = f"mkdir -p {folders} && {made} && cd /"
         status, out, error = bare.execute(f"{made} && {entry[1]} {shown[1]}")
-        hold((status, out) == (0, "met 64\nstate 3,2,1\n"), f"docker's: {status} {error}")
-        try_front(hold, bare, entry[1])
+        expect((status, out) == (0, "met 64\nstate 3,2,1\n"), f"docker's: {status} {error}")
+        try_front(expect, bare, entry[1])
         bare.execute("rm -rf " + " ".join(target for _, target in copies))
 
 
-def try_merge(hold: Held, bare: Bare, front: str, examples: str) -> None:
+def try_merge(expect: Expectations, bare: Bare, front: str, examples: str) -> None:
     """psi-merge makes of two reports the one of one process, and refuses what is no report."""
     merger = f"{front}psi-merge"
     if not (bare.has(merger) if front else bare.has("/usr/bin/psi-merge")):
@@ -187,10 +187,10 @@ def try_merge(hold: Held, bare: Bare, front: str, examples: str) -> None:
     )
     made = " && ".join(f"{front}psi report {words} >/tmp/{name}" for name, words in parts)
     status, _, error = bare.execute(f"{made} && {merger} /tmp/first /tmp/second | cmp - /tmp/both")
-    hold(status == 0, f"{merger} makes another report: {error}")
+    expect(status == 0, f"{merger} makes another report: {error}")
     answer = bare.execute(f"{merger} /tmp/first /etc/os-release")
     line = "psi_merge: refused 1 Row line 1 /etc/os-release\n"
-    hold(answer == (3, "", line), f"{merger} on what is no report: {answer}")
+    expect(answer == (3, "", line), f"{merger} on what is no report: {answer}")
 
 
 def bare_system(root: pathlib.Path, mirror: str) -> None:
@@ -218,33 +218,33 @@ def install(bare: Bare, package: pathlib.Path) -> tuple[int, str]:
     return status, error
 
 
-def try_tour(hold: Held, bare: Bare) -> None:
+def try_tour(expect: Expectations, bare: Bare) -> None:
     """The tour, as it stands."""
     name = "docs/TOUR.md"
-    hold(bare.read(name) == (TOP / name).read_bytes(), "the package has another tour")
+    expect(bare.read(name) == (TOP / name).read_bytes(), "the package has another tour")
     document = documents.tried(name, bare.read(name).decode(), bare, is_packed=True)
     for difference in document.differences:
-        hold(False, difference)
-    hold(document.compared, "the tour shows nothing")
+        expect(False, difference)
+    expect(document.compared, "the tour shows nothing")
 
 
-def try_many(hold: Held, bare: Bare) -> None:
+def try_many(expect: Expectations, bare: Bare) -> None:
     """The report of many streams is that of one process."""
     call = "examples/tandem-blocking.toml 5 7 3000"
     one, many = bare.execute(f"psi report {call}"), bare.execute(f"psi-many {call} --block 100")
-    hold(one[0] == 0 and one[:2] == many[:2], f"psi-many says {many}")
+    expect(one[0] == 0 and one[:2] == many[:2], f"psi-many says {many}")
     if not bare.has("/usr/bin/psi-merge"):
         return
     # The program that merges is one that tells of it, for once.
     wrapped = "printf '#!/bin/sh\\necho x >>/tmp/merged\\nexec /tmp/kept \"$@\"\\n'"
     bare.execute(f"mv /usr/bin/psi-merge /tmp/kept && {wrapped} >/usr/bin/psi-merge")
     many = bare.execute(f"chmod 755 /usr/bin/psi-merge && psi-many {call} --block 100")
-    hold(one[:2] == many[:2], f"psi-many with psi-merge says {many}")
-    hold(bare.has("/tmp/merged"), "psi-many doesn't merge by psi-merge")
+    expect(one[:2] == many[:2], f"psi-many with psi-merge says {many}")
+    expect(bare.has("/tmp/merged"), "psi-many doesn't merge by psi-merge")
     bare.execute("mv /tmp/kept /usr/bin/psi-merge")
 
 
-def try_pages(hold: Held, bare: Bare) -> None:
+def try_pages(expect: Expectations, bare: Bare) -> None:
     """The pages of all commands have their parts, and that of the formats each part of the guide,
     and each of its lines of code."""
     pages = {}
@@ -252,26 +252,26 @@ def try_pages(hold: Held, bare: Bare) -> None:
     for name in (*names, "psi-file.5"):
         page, _, section = name.rpartition(".")
         status, out, error = bare.execute(f"MANWIDTH={WIDTH} man --warnings {section} {page}")
-        hold(status == 0 and out and not error, f"man {name}: {status} {error}")
+        expect(status == 0 and out and not error, f"man {name}: {status} {error}")
         for source in OF_SOURCES:
-            hold(source not in out, f"man {name} says {source}")
+            expect(source not in out, f"man {name} says {source}")
         pages[name] = out.splitlines()
     for name in names:
         absent = [part for part in PARTS if part not in pages[name]]
-        hold(not absent, f"man {name} has no part {absent}")
+        expect(not absent, f"man {name} has no part {absent}")
     commands = bare.execute("cd /usr/bin && ls psi psi-*")[1].split()
-    hold({f"{name}.1" for name in commands} <= {*names}, f"a page lacks of {commands}")
+    expect({f"{name}.1" for name in commands} <= {*names}, f"a page lacks of {commands}")
     guide, lines = bare.read("docs/FORMATS.md").decode(), pages["psi-file.5"]
     for heading in re.findall(r"^## (.*)$", guide, re.M):
-        hold(heading.replace("`", "") in lines, f"no man page has the part {heading}")
+        expect(heading.replace("`", "") in lines, f"no man page has the part {heading}")
     shown = {line.strip().lstrip("•").strip() for line in lines}
     for block in BLOCK.findall(guide):
         for line in block[1].splitlines():
             wanted = man_pages.of_package(line).strip()
-            hold(not wanted or wanted in shown, f"no man page has the line {line}")
+            expect(not wanted or wanted in shown, f"no man page has the line {line}")
 
 
-def try_examples(hold: Held, bare: Bare) -> None:
+def try_examples(expect: Expectations, bare: Bare) -> None:
     """The examples of each page run as they stand there, but for those on other machines."""
     for file in sorted(man_pages.SOURCES.glob("*.md")):
         part = file.read_text().partition("\n## EXAMPLES\n")[2].partition("\n## ")[0]
@@ -280,10 +280,10 @@ def try_examples(hold: Held, bare: Bare) -> None:
         status, out, error = bare.execute(f"set -e\n{lines}")
         # What psi-where is told is refused.
         wanted = 3 if file.stem == "psi-where.1" else 0
-        hold(bool(lines) and status == wanted, f"{file.stem}: {status} {out} {error}")
+        expect(bool(lines) and status == wanted, f"{file.stem}: {status} {out} {error}")
 
 
-def try_completion(hold: Held, bare: Bare) -> None:
+def try_completion(expect: Expectations, bare: Bare) -> None:
     """What completion gives for some words."""
     for line, wanted in COMPLETIONS.items():
         words = line.split(" ")
@@ -293,38 +293,38 @@ def try_completion(hold: Held, bare: Bare) -> None:
             f"_{words[0].replace('-', '_')} && echo \"${{COMPREPLY[@]}}\""
         )
         _, out, error = bare.execute(f"bash -c {shlex.quote(script)}")
-        hold(sorted(out.split()) == sorted(wanted.split()), f"{line}: {out} {error}")
+        expect(sorted(out.split()) == sorted(wanted.split()), f"{line}: {out} {error}")
 
 
-def try_dpkg(hold: Held, bare: Bare, version: str) -> None:
+def try_dpkg(expect: Expectations, bare: Bare, version: str) -> None:
     """What dpkg knows of it; and that it can be removed."""
     status, out, _ = bare.execute(f"dpkg-query -W -f '${{db:Status-Status}} ${{Version}}' {NAME}")
-    hold((status, out) == (0, f"installed {version}"), f"dpkg says {out}")
+    expect((status, out) == (0, f"installed {version}"), f"dpkg says {out}")
     status, out, error = bare.execute(f"dpkg --verify {NAME}")
-    hold((status, out) == (0, ""), f"dpkg --verify says {out} {error}")
+    expect((status, out) == (0, ""), f"dpkg --verify says {out} {error}")
     files = bare.execute(f"dpkg -L {NAME}")[1].splitlines()
     folders = {NAME, "psi", "psi-many", "psi-plot", "psi.1.gz"}
     own = [file for file in files if folders & {*file.split("/")}]
-    hold(len(own) > 60 and all(map(bare.has, own)), f"{len(own)} files are installed")
+    expect(len(own) > 60 and all(map(bare.has, own)), f"{len(own)} files are installed")
     status = bare.execute(f"dpkg --purge {NAME}")[0]
     left = [file for file in own if bare.has(file)]
-    hold(status == 0 and not left, f"when it is removed it leaves {left}")
+    expect(status == 0 and not left, f"when it is removed it leaves {left}")
 
 
-def test_package(program: str, hold: Held, tmp_path: pathlib.Path) -> None:
+def test_package(program: str, expect: Expectations, tmp_path: pathlib.Path) -> None:
     files, again = (made(program, tmp_path / name) for name in ("first", "second"))
     for one, other in zip(files, again):
-        hold(one.read_bytes() == other.read_bytes(), f"made again, {one.name} is another file")
+        expect(one.read_bytes() == other.read_bytes(), f"made again, {one.name} is another file")
     package, archive, sums = files
-    try_lintian(hold, package)
+    try_lintian(expect, package)
     root = tmp_path / "bare"
     bare_system(root, MIRROR)
     bare = Bare(root, program)
-    try_archive(hold, bare, archive, sums)
+    try_archive(expect, bare, archive, sums)
     status, error = install(bare, package)
-    hold(status == 0, f"it can't be installed: {error}")
-    try_front(hold, bare, "psi")
+    expect(status == 0, f"it can't be installed: {error}")
+    try_front(expect, bare, "psi")
     for trial in (try_tour, try_many, try_pages, try_examples, try_completion):
-        trial(hold, bare)
-    try_merge(hold, bare, "", f"/{DOC}/examples")
-    try_dpkg(hold, bare, package.name.split("_")[1])
+        trial(expect, bare)
+    try_merge(expect, bare, "", f"/{DOC}/examples")
+    try_dpkg(expect, bare, package.name.split("_")[1])

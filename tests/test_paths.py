@@ -5,7 +5,8 @@
   adds up (oracle/paths.py). `--networks` says how many are drawn.
 - With STEPS 0 the sums are the values that `psi_states` prints, and nothing was chosen. Tables of adjacent
   ranges of streams are joined to the table of the whole range. A path of more steps begins with the shorter.
-- Paths across the lengths at which sums and counts may be carried over.
+- Paths across the lengths at which sums and counts may be carried over, and across the length from which
+  on a small network has a table of its states.
 - Words that ask for no table, networks that are refused, closed networks that are none.
 - Growths of memory that are refused, writes that fail, and memory that grows neither with COUNT nor with
   STEPS, as of `psi_states` (test_states.py).
@@ -13,17 +14,18 @@
 
 import csv
 import io
+import math
 import pathlib
 import tomllib
 
 import pytest
 
-from generate.small_networks import Dice, closed_network, network
+from generate.small_networks import Dice
 from oracle import paths
 from oracle.plain import Outcome
 from oracle.plain_network import Network
-from tests.support import EXAMPLES, Held, beside
-from tests.tables import MOST_STREAM, QUEUE, TableTries, with_rewards
+from tests.support import EXAMPLES, Expectations, beside
+from tests.tables import QUEUE, TableTries
 
 MOST_STEPS = 2**32 - 2**22
 # Lengths around powers of two, as a program that adds up in parts may take them.
@@ -80,28 +82,19 @@ class Tries(TableTries):
 
     def try_network(self, number: int) -> None:
         """An open network."""
-        text = with_rewards(number, network(number))
-        self.file(text)
-        net, seed = Network(tomllib.loads(text)), number * number
-        count = 1 + number % 7
-        first = number if number % 11 else MOST_STREAM - count + 1
-        self.try_table(f"network {number}", net, seed, range(first, first + count), steps_of(number))
-        self.try_no_steps(f"network {number}", net, ["net.toml", seed, first, count], [])
+        net, seed, streams = self.open_network(number)
+        self.try_table(f"network {number}", net, seed, streams, steps_of(number))
+        self.try_no_steps(f"network {number}", net, ["net.toml", seed, streams.start, len(streams)], [])
 
     def try_closed(self, number: int) -> None:
         """A closed network, or one that is nearly closed."""
-        text = with_rewards(number, closed_network(number))
-        self.file(text)
-        net, seed, first = Network(tomllib.loads(text)), number, number + 1
-        count, total = 1 + number % 5, Dice(number).below(2 + sum(net.caps))
-        status, out, err = self.run(self.psi, "closed", "net.toml", seed, first, total)
-        if status > 1:
-            given = self.run(self.program, "net.toml", seed, first, count, steps_of(number), "closed", total)
-            self.is_same(f"closed {number}", given, (status, out, self.line_of(err)))
+        found = self.closed_network(number, steps_of(number))
+        if found is None:
             return
-        streams = range(first, first + count)
+        net, seed, streams, total = found
         self.try_table(f"closed {number}", net, seed, streams, steps_of(number), total)
-        self.try_no_steps(f"closed {number}", net, ["net.toml", seed, first, count], ["closed", total])
+        words = ["net.toml", seed, streams.start, len(streams)]
+        self.try_no_steps(f"closed {number}", net, words, ["closed", total])
 
     def try_example(self, name: str, streams: range, steps: int, total: int | None = None) -> list[Outcome]:
         """A network of the gallery."""
@@ -110,42 +103,20 @@ class Tries(TableTries):
         what = f"{name}, {steps} steps"
         return self.try_table(what, Network(tomllib.loads(text)), 5, streams, steps, total)
 
-    def try_all_words(self) -> None:
-        """Words that ask for no table, and the last stream and the last place of a word."""
-        self.file(QUEUE)
-        net = "net.toml"
-        offending: tuple[tuple[int, list[object]], ...] = (
-            (1, []),
-            (2, [net]),
-            (3, [net, 0]),
-            (4, [net, 0, 0]),
-            (5, [net, 0, 0, 1]),
-            (2, [net, "-1", 0, 1, 1]),
-            (2, [net, "00", 0, 1, 1]),
-            (2, [net, 2**64, 0, 1, 1]),
-            (3, [net, 0, 2**64, 1, 1]),
-            (3, [net, 0, "+1", 1, 1]),
-            (4, [net, 0, 0, 0, 1]),
-            (4, [net, 0, 0, 2**32, 1]),
-            (4, [net, 0, MOST_STREAM, 2, 1]),
-            (4, [net, 0, 1, "1e3", 1]),
-            (5, [net, 0, 0, 1, "-1"]),
-            (5, [net, 0, 0, 1, "01"]),
-            (5, [net, 0, 0, 1, ""]),
-            (5, [net, 0, 0, 1, MOST_STEPS + 1]),
-            (5, [net, 0, 0, 1, 2**64]),
-            (5, [net, 0, 0, 1, "closed"]),
-            (6, [net, 0, 0, 1, 0, "open"]),
-            (6, [net, 0, 0, 1, 0, 7]),
-            (7, [net, 0, 0, 1, 0, "closed"]),
-            (7, [net, 0, 0, 1, 0, "closed", 257]),
-            (7, [net, 0, 0, 1, 0, "closed", ""]),
-            (8, [net, 0, 0, 1, 0, "closed", 0, 0]),
-        )
-        self.try_words(offending)
-        last = f"{HEAD}{MOST_STREAM},"
-        status, out, err = self.run(self.program, net, MOST_STREAM, MOST_STREAM, 1, 1)
-        self.is_same("the last stream", (status, out[: len(last)], err), (0, last, ""))
+    def try_both_ways(self, name: str) -> None:
+        """Paths with one step less than the table of the network's states has entries, where each event is
+        applied, and with as many, which go by the table."""
+        net = Network(tomllib.loads((EXAMPLES / f"{name}.toml").read_text()))
+        entries = math.prod(cap + 1 for cap in net.caps) * (len(net.events) + 1)
+        self.expect(entries <= 65_536, f"{name} has a table")
+        for steps in (entries - 1, entries):
+            self.try_example(name, range(2), steps)
+
+    def try_steps(self) -> None:
+        """Words that name no number of steps."""
+        self.try_usage(5, ["net.toml", 0, 0, 1])
+        for word in ("-1", "01", "", MOST_STEPS + 1, 2**64, "closed"):
+            self.try_usage(5, ["net.toml", 0, 0, 1, word])
 
     def try_longest(self) -> None:
         """A path of as many steps as there may be: every step has its event, or is idle. Of this network
@@ -156,19 +127,16 @@ class Tries(TableTries):
         head, row = out.splitlines()
         _, _, steps, total, come, in_moved, served, out_moved = map(int, row.split(","))
         self.is_same("the longest path", (steps, come + served), (MOST_STEPS, MOST_STEPS))
-        self.hold(abs(come - served) < 6 * MOST_STEPS**0.5, f"{come} and {served} are chosen")
-        self.hold(abs(in_moved - out_moved) <= 2, f"{in_moved} come and {out_moved} leave of a queue of 2")
+        self.expect(abs(come - served) < 6 * MOST_STEPS**0.5, f"{come} and {served} are chosen")
+        self.expect(abs(in_moved - out_moved) <= 2, f"{in_moved} come and {out_moved} leave of a queue of 2")
         # Each of 0, 1 and 2 customers has a third of all times, so the mean is 1.
-        self.hold(abs(total - MOST_STEPS) < 10 * MOST_STEPS**0.5, f"{total} customers in {MOST_STEPS} steps")
+        self.expect(abs(total - MOST_STEPS) < 10 * MOST_STEPS**0.5, f"{total} customers in {MOST_STEPS} steps")
 
 
 @pytest.fixture
-def tries(program: str, hold: Held, tmp_path: pathlib.Path) -> Tries:
+def tries(program: str, expect: Expectations, tmp_path: pathlib.Path) -> Tries:
     """The programs in a folder of their own."""
-    found = beside(program, "psi_paths")
-    if found is None:
-        pytest.skip("psi_paths isn't built")
-    return Tries(program, "psi_paths", str(found), tmp_path, hold)
+    return Tries.beside(program, "psi_paths", tmp_path, expect)
 
 
 @pytest.mark.slow
@@ -180,7 +148,7 @@ def test_tables(tries: Tries, numbers: range) -> None:
 
 def test_a_stream_that_is_not_coupled_keeps_its_row(tries: Tries) -> None:
     outcomes = tries.try_example("short-past", range(40), 30)
-    tries.hold(0 < outcomes.count(None) < 40, "some of the streams are coupled, and some aren't")
+    tries.expect(0 < outcomes.count(None) < 40, "some of the streams are coupled, and some aren't")
 
 
 @pytest.mark.slow
@@ -191,8 +159,15 @@ def test_lengths_of_paths(tries: Tries) -> None:
     tries.try_example("central-server", range(2), LENGTHS[-1], 6)
 
 
+@pytest.mark.slow
+def test_paths_with_and_without_a_table(tries: Tries) -> None:
+    for name in ("tandem-blocking", "negative-customers", "longest-queue", "reset"):
+        tries.try_both_ways(name)
+
+
 def test_words(tries: Tries) -> None:
-    tries.try_all_words()
+    tries.try_words(HEAD, 1)
+    tries.try_steps()
 
 
 def test_refusals(tries: Tries) -> None:

@@ -26,13 +26,15 @@ from collections.abc import Collection, Iterator, Sequence
 from typing import Any
 
 from oracle.log_regions import Region, regions_of
+from psi_tools.draw.reports import read_report
 from psi_tools.io.exact import read_exact
 from psi_tools.plot import draw_coupling, draw_exact, draw_forward, draw_report, style
 from psi_tools.plot.forward import forward_of
 from psi_tools.plot.read_log import names_of, read_log
-from psi_tools.plot.read_report import read_report
+from psi_tools.plot.report import report_of as shown_of
+from psi_tools.stats.batches import batches_of
 from tests.plot_inputs import EXACT, REPORT, SMALL_LOG, broken_inputs, exact_of, report_of, wide_log
-from tests.support import TOOLS, TOP, Held
+from tests.support import TOOLS, TOP, Expectations
 
 PLOT = TOOLS / "psi-plot"
 MOST_BYTES, MOST_BYTES_SHOWN, SECONDS = 1_000_000, 200_000, 100
@@ -89,64 +91,64 @@ def hidden_labels(axes: Any) -> Iterator[Any]:
                 yield from (tick.label1, tick.label2)
 
 
-def try_texts(hold: Held, figure: Any, name: str) -> None:
+def try_texts(expect: Expectations, figure: Any, name: str) -> None:
     """No text is cut off, or lies over another one."""
     found = [*texts_of(figure)]
     width, height = figure.get_size_inches() * figure.dpi
     cut = [text for text, box in found if min(box.x0, box.y0) < -1 or box.x1 > width + 1 or box.y1 > height + 1]
-    hold(found and not cut, f"{name}: {cut} is cut off")
+    expect(found and not cut, f"{name}: {cut} is cut off")
     for legend in figure.findobj(matplotlib.legend.Legend):
         box = legend.get_window_extent()
-        hold(0 <= box.x0 and box.x1 <= width, f"{name}: the legend is cut off")
+        expect(0 <= box.x0 and box.x1 <= width, f"{name}: the legend is cut off")
     over = [
         (text, other)
         for (text, box), (other, around) in itertools.combinations(found, 2)
         if min(box.x1, around.x1) - max(box.x0, around.x0) > 1 and min(box.y1, around.y1) - max(box.y0, around.y0) > 1
     ]
-    hold(not over, f"{name}: {over[:3]} overlap")
+    expect(not over, f"{name}: {over[:3]} overlap")
 
 
-def try_svg(hold: Held, figure: Any, name: str, gids_wanted: Collection[str]) -> None:
+def try_svg(expect: Expectations, figure: Any, name: str, gids_wanted: Collection[str]) -> None:
     """The SVG is one, is small, and has what is drawn under these names."""
     data = style.saved(figure, "svg")
-    hold(len(data) < MOST_BYTES, f"{name}: the SVG has {len(data)} bytes")
+    expect(len(data) < MOST_BYTES, f"{name}: the SVG has {len(data)} bytes")
     found = {element.get("id") for element in xml.etree.ElementTree.fromstring(data).iter()}
     absent = {*gids_wanted} - found
-    hold(not absent, f"{name}: the SVG lacks {sorted(absent)[:5]}")
+    expect(not absent, f"{name}: the SVG lacks {sorted(absent)[:5]}")
 
 
-def try_log(hold: Held, text: str, name: str, net: str | None = None) -> Any:
+def try_log(expect: Expectations, text: str, name: str, net: str | None = None) -> Any:
     """The picture of a log shows its regions."""
     regions, log = [*regions_of(text)], read_log(text.encode())
     if net is not None:
         log.names = names_of(net.encode(), log)
     figure, horizon, queues = draw_coupling.draw_coupling(log, ""), len(regions) - 1, len(log.names)
     head, *axes, last = figure.axes
-    hold(len(axes) == queues, f"{name}: {len(axes)} bands of {queues} queues")
+    expect(len(axes) == queues, f"{name}: {len(axes)} bands of {queues} queues")
     width = -(-(horizon + 1) // len(log.bins))
     bins = [regions[k : k + width] for k in range(0, horizon + 1, width)]
     for queue, panel in enumerate(axes):
         wanted = [(min(low[queue] for low, *_ in some), max(high[queue] for _, high, *_ in some)) for some in bins]
         ends, edges = drawn_ends(panel, queue)
-        hold([end and end[:2] for end in ends] == wanted, f"{name}: the band of queue {queue}")
-        hold((edges[0], edges[-1]) == (-horizon - 0.5, 0.5), f"{name}: the ends of the times")
-        hold({*panel.get_xticks()} >= {-horizon, 0}, f"{name}: the ticks of queue {queue}")
+        expect([end and end[:2] for end in ends] == wanted, f"{name}: the band of queue {queue}")
+        expect((edges[0], edges[-1]) == (-horizon - 0.5, 0.5), f"{name}: the ends of the times")
+        expect({*panel.get_xticks()} >= {-horizon, 0}, f"{name}: the ticks of queue {queue}")
         low, high = panel.get_ylim()
-        hold(low < regions[0][0][queue] and regions[0][1][queue] < high, f"{name}: the axis")
+        expect(low < regions[0][0][queue] and regions[0][1][queue] < high, f"{name}: the axis")
         has_set = any(some is not None and len(some) > 1 for *_, some in regions)
         has_shades = bool(gids(panel, f"shades-{queue}"))
-        hold(has_set == has_shades, f"{name}: the shades of queue {queue}")
-    try_shades(hold, axes, regions, width, name)
-    try_states(hold, last, [max(region[2] for region in some) for some in bins], name)
+        expect(has_set == has_shades, f"{name}: the shades of queue {queue}")
+    try_shades(expect, axes, regions, width, name)
+    try_states(expect, last, [max(region[2] for region in some) for some in bins], name)
     for panel in [*axes, last]:
         (line,) = gids(panel, "met-").values()
         met = [*line.get_xdata()]
-        hold(met == [met_of(regions) - 0.5] * 2, f"{name}: {met} is marked")
-    try_texts(hold, figure, name)
+        expect(met == [met_of(regions) - 0.5] * 2, f"{name}: {met} is marked")
+    try_texts(expect, figure, name)
     return figure
 
 
-def try_shades(hold: Held, axes: Sequence[Any], regions: list[Region], width: int, name: str) -> None:
+def try_shades(expect: Expectations, axes: Sequence[Any], regions: list[Region], width: int, name: str) -> None:
     """Each shade is the part of the states of a set that have the number."""
     if width > 1 or max(regions[0][1]) >= 96:
         return
@@ -164,17 +166,17 @@ def try_shades(hold: Held, axes: Sequence[Any], regions: list[Region], width: in
                 for *_, size, some in regions
             ]
             wanted = [{n: count / sum(c.values()) for n, count in c.items()} for c in counts]
-            hold(shown == wanted, f"{name}: the shades of queue {queue}")
+            expect(shown == wanted, f"{name}: the shades of queue {queue}")
 
 
-def try_states(hold: Held, axes: Any, wanted: list[int], name: str) -> None:
+def try_states(expect: Expectations, axes: Any, wanted: list[int], name: str) -> None:
     """The line of the number of states."""
     found: dict[int, Any] = {}
     for line in gids(axes, "states-").values():
         values = enumerate(line.get_data()[0])
         found |= {column: count for column, count in values if not math.isnan(count)}
     is_same = [found[column] for column in range(len(wanted))] == [*map(float, wanted)]
-    hold(is_same and axes.get_yscale() == "log", f"{name}: the numbers of states")
+    expect(is_same and axes.get_yscale() == "log", f"{name}: the numbers of states")
 
 
 def version_1(text: str) -> str:
@@ -189,21 +191,21 @@ def version_1(text: str) -> str:
 
 
 @pytest.mark.slow
-def test_logs(hold: Held, program: str) -> None:
+def test_logs(expect: Expectations, program: str) -> None:
     """Pictures of logs that the program writes, and of others."""
     for version in (SMALL_LOG, version_1(SMALL_LOG)):
-        try_log(hold, version, version[:9])
+        try_log(expect, version, version[:9])
     for name in ("single-server", "tandem-blocking", "longest-queue", "batch-arrivals"):
         net = (TOP / f"examples/{name}.toml").read_text()
         words = [program, "sample", str(TOP / f"examples/{name}.toml"), "0", "0", "log"]
         text = subprocess.run(words, capture_output=True, text=True, check=True).stdout
-        try_log(hold, text, name, net)
-    try_log(hold, version_1(text), name)
+        try_log(expect, text, name, net)
+    try_log(expect, version_1(text), name)
     head = "psi-log 1\nqueues 1\nseed 0\nstream 0\nhorizon 1\n"
-    try_log(hold, head + "begin set 0 1\nstep 1 0 box 1 1\nend 1\n", "one step")
-    figure = try_log(hold, wide_log(), "32 queues")
+    try_log(expect, head + "begin set 0 1\nstep 1 0 box 1 1\nend 1\n", "one step")
+    figure = try_log(expect, wide_log(), "32 queues")
     bands = {f"band-{queue}-{kind}" for queue in range(32) for kind in ("box", "set", "one")}
-    try_svg(hold, figure, "32 queues", bands | {f"met-{queue}" for queue in range(32)})
+    try_svg(expect, figure, "32 queues", bands | {f"met-{queue}" for queue in range(32)})
 
 
 def rows_of(text: str) -> dict[tuple[str, str], int]:
@@ -212,9 +214,9 @@ def rows_of(text: str) -> dict[tuple[str, str], int]:
     return {(item, name): int(value) for item, name, value in rows}
 
 
-def try_report(hold: Held, texts: Sequence[tuple[str, str]], name: str) -> Any:
+def try_report(expect: Expectations, texts: Sequence[tuple[str, str]], name: str) -> Any:
     """The picture of some reports shows their numbers."""
-    named = [(path, read_report(text.encode())) for path, text in texts]
+    named = [(path, shown_of(batches_of([read_report(text.encode(), path)]))) for path, text in texts]
     figure = draw_report.draw_report(named, "")
     drawn: dict[str, Any] = {}
     for axes in figure.axes:
@@ -233,42 +235,42 @@ def try_report(hold: Held, texts: Sequence[tuple[str, str]], name: str) -> Any:
         wanted |= {str(int(n).bit_length() - 1): v for (i, n), v in rows.items() if i == "horizon"}
         shown = {power: round(count, 6) for power, count in shown.items()}
         shown = {power: count for power, count in shown.items() if count or power == "none"}
-        hold(shown == wanted, f"{name}: the horizons of report {k}")
+        expect(shown == wanted, f"{name}: the horizons of report {k}")
         for (item, queue), total in rows.items():
             if item == "sum" and met:
                 (mean,) = drawn[f"mean-{k}-{queue}"].get_xdata()
                 ends = [*drawn[f"spread-{k}-{queue}"].get_xdata()]
-                hold(mean == total / met, f"{name}: the mean of {queue}")
-                hold(ends == [rows["least", queue], rows["greatest", queue]], f"{name}: the ends of {queue}")
+                expect(mean == total / met, f"{name}: the mean of {queue}")
+                expect(ends == [rows["least", queue], rows["greatest", queue]], f"{name}: the ends of {queue}")
     texts_shown = [text.get_text() for text in figure.findobj(matplotlib.text.Text)]
     for _, text in texts:
         names = {n for i, n in rows_of(text) if i.endswith("sum")}
         is_whole = len(names) > 20 or names <= {*texts_shown}
-        hold(is_whole, f"{name}: names that aren't shown")
-    try_texts(hold, figure, name)
+        expect(is_whole, f"{name}: names that aren't shown")
+    try_texts(expect, figure, name)
     return figure
 
 
 @pytest.mark.slow
-def test_reports(hold: Held, program: str) -> None:
+def test_reports(expect: Expectations, program: str) -> None:
     """Pictures of one report and of several."""
     word = [program, "report", str(TOP / "examples/tandem-blocking.toml"), "0", "0", "50"]
     text = subprocess.run(word, capture_output=True, text=True, check=True).stdout
-    try_report(hold, [("tandem-blocking.csv", text)], "a report")
+    try_report(expect, [("tandem-blocking.csv", text)], "a report")
     other = report_of(["a", "b"], [], 44)
-    try_report(hold, [("_a.csv", REPORT), ("b/$x$.csv", other)], "two reports")
-    try_report(hold, [("none.csv", report_of(["a"], ["r"], 0, 7))], "no sample is met")
+    try_report(expect, [("_a.csv", REPORT), ("b/$x$.csv", other)], "two reports")
+    try_report(expect, [("none.csv", report_of(["a"], ["r"], 0, 7))], "no sample is met")
     names = [f"{k:02}" + "W" * 30 for k in range(32)]
     rewards = [f"reward-{k:02}-of-a-great-network" for k in range(64)]
-    many = report_of(names, rewards, 65_536, 3, 10**15)
-    figure = try_report(hold, [("many.csv", many)], "many rows")
-    try_svg(hold, figure, "many rows", [f"mean-0-{name}" for name in names])
+    many = report_of(names, rewards, 65_536, 3, 10**12)
+    figure = try_report(expect, [("many.csv", many)], "many rows")
+    try_svg(expect, figure, "many rows", [f"mean-0-{name}" for name in names])
     eight = [(f"{'long-name-' * 6}{k}.csv", report_of(["a", "b"], ["c"], 22 + k, k)) for k in range(8)]
-    try_svg(hold, try_report(hold, eight, "eight reports"), "eight reports", ["mean-7-b"])
+    try_svg(expect, try_report(expect, eight, "eight reports"), "eight reports", ["mean-7-b"])
 
 
 @pytest.mark.slow
-def test_exact(hold: Held, program: str) -> None:
+def test_exact(expect: Expectations, program: str) -> None:
     """Pictures of texts of exact."""
     words = [program, "exact", str(TOP / "examples/longest-queue.toml"), "0", "0", "11"]
     printed = subprocess.run(words, capture_output=True, text=True, check=True).stdout
@@ -288,20 +290,20 @@ def test_exact(hold: Held, program: str) -> None:
         found = gids(axes, "")
         lines = [line.split() for line in text.split("\n")]
         images = [tuple(map(int, words[1:])) for words in lines if words[:1] == ["image"]]
-        hold([*zip(*found["images"].get_data())] == images, f"{name}: the images")
+        expect([*zip(*found["images"].get_data())] == images, f"{name}: the images")
         marked = {gid: line.get_xdata()[0] for gid, line in found.items() if gid in MARKS}
         wanted = {"constant": constant, "region": region}
         if constant == region:
             wanted = {"both": constant}
         wanted = {gid: time for gid, time in wanted.items() if time is not None}
-        hold(marked == wanted, f"{name}: {marked} is marked")
-        hold([*axes.get_xticks()] == [time for time, _ in images], f"{name}: the ticks")
-        try_texts(hold, figure, name)
-    try_svg(hold, figure, "exact", ["images", "line", "constant"])
+        expect(marked == wanted, f"{name}: {marked} is marked")
+        expect([*axes.get_xticks()] == [time for time, _ in images], f"{name}: the ticks")
+        try_texts(expect, figure, name)
+    try_svg(expect, figure, "exact", ["images", "line", "constant"])
 
 
 @pytest.mark.slow
-def test_forward(hold: Held, program: str) -> None:
+def test_forward(expect: Expectations, program: str) -> None:
     """Pictures of forward runs: the lines and bars have the laws, and no text is cut off."""
     for name, words in (
         ("single-server", ("8", "32", "128")),
@@ -315,13 +317,13 @@ def test_forward(hold: Held, program: str) -> None:
         for axes, (steps, ends) in zip(parts, found.after.items()):
             lines = gids(axes, "")
             drawn = [lines[f"after-{steps}-from-{k}"].get_ydata() for k in range(len(ends))]
-            hold((numpy.array(drawn) == ends).all(), f"forward of {name}: {steps} steps")
+            expect((numpy.array(drawn) == ends).all(), f"forward of {name}: {steps} steps")
             is_law = (lines[f"law-{steps}"].get_ydata() == found.law).all()
-            hold(is_law, f"forward of {name}: the law")
+            expect(is_law, f"forward of {name}: the law")
         bars = [bar.get_height() for bar in figure.axes[len(found.after)].patches]
-        hold(bars == [*found.met], f"forward of {name}: where all meet")
-        try_texts(hold, figure, f"forward of {name}")
-    try_svg(hold, figure, "forward", ["after-5-from-0", "law-5", "law-met", "met-0"])
+        expect(bars == [*found.met], f"forward of {name}: where all meet")
+        try_texts(expect, figure, f"forward of {name}")
+    try_svg(expect, figure, "forward", ["after-5-from-0", "law-5", "law-met", "met-0"])
 
 
 def answer(words: Sequence[object], room: pathlib.Path) -> tuple[int, str, str]:
@@ -337,7 +339,7 @@ def write_small(folder: pathlib.Path) -> None:
 
 
 @pytest.mark.slow
-def test_refusals(hold: Held, tmp_path: pathlib.Path) -> None:
+def test_refusals(expect: Expectations, tmp_path: pathlib.Path) -> None:
     """Each broken input is refused by one line, with status 2, and nothing is drawn; so are words
     that aren't a command."""
     write_small(tmp_path)
@@ -363,41 +365,41 @@ def test_refusals(hold: Held, tmp_path: pathlib.Path) -> None:
         answers = [*pool.map(lambda words: answer(words, tmp_path), calls)]
     for words, (status, out, err) in zip(calls, answers):
         is_refused = (status, out) == (2, "") and re.fullmatch("psi-plot: [^\n]+\n", err)
-        hold(is_refused, f"{words}: {status} {err}")
-    hold(not (tmp_path / "drawn.svg").exists(), "what is refused is drawn")
-    hold(place >= 49, f"only {place + 1} inputs are broken")
+        expect(is_refused, f"{words}: {status} {err}")
+    expect(not (tmp_path / "drawn.svg").exists(), "what is refused is drawn")
+    expect(place >= 49, f"only {place + 1} inputs are broken")
 
 
 @pytest.mark.slow
-def test_words(hold: Held, tmp_path: pathlib.Path) -> None:
+def test_words(expect: Expectations, tmp_path: pathlib.Path) -> None:
     """Pictures of each form, and one that can't be written."""
     write_small(tmp_path)
     for form, front in (("svg", b"<?xml"), ("png", b"\x89PNG"), ("pdf", b"%PDF")):
         words = ["coupling", "small.log", "-t", "A title with $ and _", "-o", f"drawn.{form}"]
-        hold(answer(words, tmp_path) == (0, "", ""), f"{words} aren't drawn")
-        hold((tmp_path / words[-1]).read_bytes().startswith(front), f"{words} draw no {form}")
+        expect(answer(words, tmp_path) == (0, "", ""), f"{words} aren't drawn")
+        expect((tmp_path / words[-1]).read_bytes().startswith(front), f"{words} draw no {form}")
     first = (tmp_path / "drawn.svg").read_bytes()
     answer(["coupling", "small.log", "-t", "A title with $ and _", "-o", "drawn.svg"], tmp_path)
-    hold((tmp_path / "drawn.svg").read_bytes() == first, "the same log is another picture")
+    expect((tmp_path / "drawn.svg").read_bytes() == first, "the same log is another picture")
     names = re.findall(rb'<clipPath id="([^"]*)"', first)
     numbered = [b"clip%d" % number for number in range(len(names))]
-    hold(names and sorted(names) == sorted(numbered), f"clip paths are called {names}")
+    expect(names and sorted(names) == sorted(numbered), f"clip paths are called {names}")
     status, _, err = answer(["report", "small.csv", "-o", "absent/drawn.svg"], tmp_path)
-    hold(status == 7 and err.count("\n") == 1, f"an absent folder: {status} {err}")
+    expect(status == 7 and err.count("\n") == 1, f"an absent folder: {status} {err}")
     status, out, err = answer(["-h"], tmp_path)
-    hold(status == 0 and "psi-plot coupling" in out and not err, "the words aren't told")
+    expect(status == 0 and "psi-plot coupling" in out and not err, "the words aren't told")
 
 
-def test_pictures_of_the_tour(hold: Held, program: str) -> None:
+def test_pictures_of_the_tour(expect: Expectations, program: str) -> None:
     """The pictures of the tour are there, and what mean_values.py prints is what it says."""
     text = (TOP / "docs/TOUR.md").read_text()
     shown = re.findall(r"!\[[^\]]+\]\(pictures/([^)]+\.svg)\)", text)
     there = {path.name: path for path in (TOP / "docs/pictures").glob("*.svg")}
     networks = {f"network-{net.stem}.svg" for net in (TOP / "examples").glob("*.toml")}
     is_all = len(shown) == 12 and {*shown} | networks == {*there}
-    hold(is_all, "the tour and the gallery do not show all pictures")
+    expect(is_all, "the tour and the gallery do not show all pictures")
     for name, path in there.items():
-        hold(path.stat().st_size < MOST_BYTES_SHOWN, f"{name} is too great")
+        expect(path.stat().st_size < MOST_BYTES_SHOWN, f"{name} is too great")
         xml.etree.ElementTree.parse(path)
     form = r"^```\npython3 (tools/mean_values.py [^\n]*)\n```\n\nprints\n\n```\n(.*?)^```\n"
     environment = {**os.environ, "PATH": f"{os.path.dirname(program)}:{os.environ['PATH']}"}
@@ -405,4 +407,4 @@ def test_pictures_of_the_tour(hold: Held, program: str) -> None:
         words = [sys.executable, *shown_words.split()]
         done = subprocess.run(words, cwd=TOP, capture_output=True, text=True, env=environment)
         out = done.stdout
-        hold(out == wanted, f"{words} print {out}")
+        expect(out == wanted, f"{words} print {out}")

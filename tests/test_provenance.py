@@ -16,7 +16,7 @@ import pytest
 from generate.case_files import DATA, Case, cases
 from oracle import plain
 from oracle.plain_network import Network
-from tests.support import CHECKER, TOP, Held, answer, write
+from tests.support import CHECKER, TOP, Expectations, answer, write
 
 SWEEP = TOP / "crates/psi_test_sweep"
 ROWS = [
@@ -109,26 +109,26 @@ OUTSIDE = {"check": 56, "sample": 150, "report": 78, "couple": 56, "reward": 54,
 
 @pytest.mark.slow
 @pytest.mark.parametrize("command", OUTSIDE)
-def test_answers_from_outside(hold: Held, command: str) -> None:
+def test_answers_from_outside(expect: Expectations, command: str) -> None:
     assert SOURCE[f"{command}.cases"][0] == "outside"
     for case, net in small_cases(f"{command}.cases"):
         status, text = wanted(case, net)
         found = (case.status, (case.out + case.err).decode())
-        hold(found == (status, text), f"{case.name}: {found}, and not {(status, text)}")
-    hold(hold.count >= OUTSIDE[command], f"only {hold.count} cases are compared")
+        expect(found == (status, text), f"{case.name}: {found}, and not {(status, text)}")
+    expect(expect.count >= OUTSIDE[command], f"only {expect.count} cases are compared")
 
 
 @pytest.mark.slow
-def test_trials_from_outside(hold: Held) -> None:
+def test_trials_from_outside(expect: Expectations) -> None:
     """The lines of a trial before its report; there are too many states to list."""
     for case in cases("trial.cases"):
         heading = plain.trial_heading(int(case.words[1])) if case.status == 0 else ""
-        hold(case.out.decode().startswith(heading), f"{case.name}: {heading}")
+        expect(case.out.decode().startswith(heading), f"{case.name}: {heading}")
 
 
 @pytest.mark.slow
 @pytest.mark.parametrize("share", range(4))
-def test_logs_from_outside(hold: Held, tmp_path: pathlib.Path, share: int) -> None:
+def test_logs_from_outside(expect: Expectations, tmp_path: pathlib.Path, share: int) -> None:
     """What the checker, which stands apart, says of each log; of those that are written it says that they
     are right."""
     for case in itertools.islice(itertools.chain(cases("replay.cases"), cases("log.cases")), share, None, 4):
@@ -142,6 +142,6 @@ def test_logs_from_outside(hold: Held, tmp_path: pathlib.Path, share: int) -> No
         status, out, err = answer([*CHECKER, *words], tmp_path)
         if is_log:
             state = case.out.split()[-1]
-            hold(status == 0 and out.split()[-1] == state, f"{case.name}: {out!r} {err!r}")
+            expect(status == 0 and out.split()[-1] == state, f"{case.name}: {out!r} {err!r}")
         else:
-            hold((status, out, err) == (case.status, case.out, case.err), f"{case.name}: {out!r} {err!r}")
+            expect((status, out, err) == (case.status, case.out, case.err), f"{case.name}: {out!r} {err!r}")

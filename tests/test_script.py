@@ -23,7 +23,7 @@ from collections.abc import Sequence
 import pytest
 
 from tests.checkouts import checkout, release
-from tests.support import TOP, Answer, Held
+from tests.support import TOP, Answer, Expectations
 from tools.command import refusal
 
 COMMANDS = "check", "sample", "report", "trial", "couple", "reward", "exact", "closed", "replay"
@@ -99,7 +99,7 @@ def version_of_citation() -> str:
     return found[1]
 
 
-def try_help(hold: Held, script: pathlib.Path, top: pathlib.Path) -> None:
+def try_help(expect: Expectations, script: pathlib.Path, top: pathlib.Path) -> None:
     """What a script answers itself."""
     version = version_of_citation()
     calls = [["--help"], ["-h"], ["help"], ["--version"], *(["help", name] for name in COMMANDS)]
@@ -110,24 +110,24 @@ def try_help(hold: Held, script: pathlib.Path, top: pathlib.Path) -> None:
             if took < SECONDS:
                 break
         answers[" ".join(words)] = out.decode()
-        hold((status, error) == (0, b""), f"{script} {words}: {status} {error!r}")
-        hold(took < SECONDS, f"{script} {words} takes {took:.2f} s")
-    hold(answers["--version"] == f"psi {version}\n", f"the version is {answers['--version']}")
-    hold(answers["-h"] == answers["help"] == answers["--help"], "-h and help differ")
+        expect((status, error) == (0, b""), f"{script} {words}: {status} {error!r}")
+        expect(took < SECONDS, f"{script} {words} takes {took:.2f} s")
+    expect(answers["--version"] == f"psi {version}\n", f"the version is {answers['--version']}")
+    expect(answers["-h"] == answers["help"] == answers["--help"], "-h and help differ")
     for name in COMMANDS:
         usage = f"  {name} "
-        hold(usage in answers["--help"], f"the help has no command {name}")
+        expect(usage in answers["--help"], f"the help has no command {name}")
         own = answers[f"help {name}"]
-        hold(own.startswith(f"Usage: psi {name} ") and own.count("\n") > 2, f"no help {name}")
+        expect(own.startswith(f"Usage: psi {name} ") and own.count("\n") > 2, f"no help {name}")
     statuses = re.findall(r"^  (\d+) +\S", answers["--help"], re.M)
-    hold(statuses == [str(it) for it in range(14)], f"the help has the statuses {statuses}")
+    expect(statuses == [str(it) for it in range(14)], f"the help has the statuses {statuses}")
     for words, place in ((["help", "nonsense"], 2), (["help", "check", "x"], 3), (["-h", "x"], 2)):
         answer = ended([script, *words], top)[0]
         wanted = 2, b"", b"psi: usage word %d\n" % place
-        hold(answer == wanted, f"{script} {words}: {answer!r}")
+        expect(answer == wanted, f"{script} {words}: {answer!r}")
     with open("/dev/full", "wb") as full:
         status = subprocess.run([script, "--help"], stdout=full).returncode
-    hold(status == 7, f"where the help can't be written the status is {status}")
+    expect(status == 7, f"where the help can't be written the status is {status}")
 
 
 @pytest.fixture(scope="module")
@@ -160,15 +160,15 @@ def script(request: pytest.FixtureRequest, built: pathlib.Path, installed: pathl
     return built / "psi" if request.param == "checkout" else installed
 
 
-def test_help_of_a_checkout(hold: Held, unbuilt: pathlib.Path) -> None:
-    try_help(hold, unbuilt / "psi", unbuilt)
+def test_help_of_a_checkout(expect: Expectations, unbuilt: pathlib.Path) -> None:
+    try_help(expect, unbuilt / "psi", unbuilt)
     own, first = (ended([unbuilt / it, "--help"], unbuilt)[0] for it in ("psi", "tools/psi-first"))
-    hold(own == first, f"psi-first --help: {first!r}")
-    hold(not (unbuilt / "crates/psi/out").exists(), "the help builds something")
+    expect(own == first, f"psi-first --help: {first!r}")
+    expect(not (unbuilt / "crates/psi/out").exists(), "the help builds something")
 
 
-def test_help_of_a_release(hold: Held, installed: pathlib.Path, tmp_path: pathlib.Path) -> None:
-    try_help(hold, installed, tmp_path)
+def test_help_of_a_release(expect: Expectations, installed: pathlib.Path, tmp_path: pathlib.Path) -> None:
+    try_help(expect, installed, tmp_path)
 
 
 @pytest.mark.parametrize("words, wanted", ((["--build"], (0, b"", b"")), (["--build", "x"], STOPPED)))
@@ -202,7 +202,7 @@ def on_terminal(words: Sequence[object], folder: pathlib.Path) -> tuple[int, byt
     return run.returncode, out, shown.decode().replace("\r\n", "\n").splitlines()
 
 
-def test_terminal(hold: Held, script: pathlib.Path, program: str, built: pathlib.Path) -> None:
+def test_terminal(expect: Expectations, script: pathlib.Path, program: str, built: pathlib.Path) -> None:
     """What follows the line of a refusal on a terminal."""
     calls = {
         ("check", "bad.toml"): ("bad.toml:8: rate = 0.5", "Write a whole number"),
@@ -215,15 +215,15 @@ def test_terminal(hold: Held, script: pathlib.Path, program: str, built: pathlib
         found = on_terminal([script, *words], built)
         shown = found[2]
         same = (status, out, line.decode().splitlines()) == (*found[:2], shown[:1])
-        hold(same, f"{script} {words} on a terminal: {found}, not {status} {line!r}")
-        hold(len(shown) > 2 and shown[1] == place, f"{words} has no line {place}: {shown}")
-        hold(sentence in " ".join(shown[2:]), f"{words} doesn't say {sentence}: {shown}")
+        expect(same, f"{script} {words} on a terminal: {found}, not {status} {line!r}")
+        expect(len(shown) > 2 and shown[1] == place, f"{words} has no line {place}: {shown}")
+        expect(sentence in " ".join(shown[2:]), f"{words} doesn't say {sentence}: {shown}")
     # What comes through a pipe can't be read a second time.
     for others in (["nonsense"], ["check", NET], ["check", "absent.toml"], ["check", "/dev/stdin"]):
         status, out, line = ended([program, *others], built)[0]
         wanted = status, out, line.decode().splitlines()
         found = on_terminal([script, *others], built)
-        hold(found == wanted, f"{script} {others} on a terminal: {found}, not {wanted}")
+        expect(found == wanted, f"{script} {others} on a terminal: {found}, not {wanted}")
 
 
 def processor_time(words: Sequence[object], folder: pathlib.Path) -> float:
@@ -246,19 +246,19 @@ def test_time(installed: pathlib.Path, program: str, tmp_path: pathlib.Path) -> 
     assert more <= MOST_MS
 
 
-def test_texts(hold: Held) -> None:
+def test_texts(expect: Expectations) -> None:
     """The words of the help are those that completion and the guides have."""
     help_text = (TOP / "tools/command/help.txt").read_text()
     block = help_text.partition("Commands:\n")[2].partition("\n\n")[0]
     names = [*dict.fromkeys(line.split()[0] for line in block.splitlines())]
-    hold(names == [*COMMANDS], f"the help has the commands {names}")
+    expect(names == [*COMMANDS], f"the help has the commands {names}")
     for file in COMPLETIONS:
         text = (TOP / "release/package_files" / file).read_text()
         absent = [name for name in COMMANDS if not re.search(rf"\b{name}\b", text)]
-        hold(not absent, f"{file} lacks {absent}")
+        expect(not absent, f"{file} lacks {absent}")
     guide = (TOP / "docs/FORMATS.md").read_text()
     part = guide.partition("### Logs that are refused")[2].partition("### What a checker")[0]
     refused, rejected = part.split("### Logs that are rejected")
     for text, known in ((refused, refusal.REFUSED), (rejected, refusal.REJECTED)):
         causes = {*re.findall(r"\d `(\w+)`", text.partition("A `move` is judged")[0])}
-        hold(causes == {*known}, f"of logs {causes ^ {*known}} differ")
+        expect(causes == {*known}, f"of logs {causes ^ {*known}} differ")

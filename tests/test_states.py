@@ -5,8 +5,8 @@
   or `psi closed` prints, and the sums, the extremes, the horizons and the numbers over its rows with
   what `psi report` prints. `--networks` says how many are drawn.
 - Words that ask for no table, networks that are refused, closed networks that are none.
-- Growths of memory that are refused in turn: the line on want of memory, and nothing on standard output.
-- Writes that fail: a full disk, a closed pipe, a file that may have so many bytes, at each place around
+- Growths of memory that are refused in turn: the line `out of memory`, and nothing on standard output.
+- Writes that fail: a full disk, a closed pipe, a file that may have that many bytes, at each place around
   the blocks. What is written is a prefix of the table.
 - The memory that 10 streams need, and 64 KiB more, is enough for 10,000,000.
 """
@@ -14,17 +14,17 @@
 import csv
 import io
 import pathlib
-import tomllib
 from collections.abc import Sequence
 
 import pytest
 
-from generate.small_networks import Dice, closed_network, network
 from oracle import plain
 from oracle.plain import Outcome
 from oracle.plain_network import Network, State
-from tests.support import Held, beside
-from tests.tables import MOST_STREAM, QUEUE, TableTries, with_rewards
+from tests.support import Expectations
+from tests.tables import TableTries
+
+HEAD = "stream,horizon,queue.a\n"
 
 
 def drawn_of(net: Network, seed: int, streams: Sequence[int], total: int | None) -> list[Outcome]:
@@ -79,77 +79,33 @@ class Tries(TableTries):
 
     def try_network(self, number: int) -> None:
         """An open network."""
-        text = with_rewards(number, network(number))
-        self.file(text)
-        net, seed = Network(tomllib.loads(text)), number * number
-        count = 1 + number % 7
-        first = number if number % 11 else MOST_STREAM - count + 1
-        streams = range(first, first + count)
-        outcomes = drawn_of(net, seed, streams, None)
+        net, seed, streams = self.open_network(number)
+        outcomes, first, count = drawn_of(net, seed, streams, None), streams.start, len(streams)
         given = self.run(self.program, "net.toml", seed, first, count)
         status = 1 if None in outcomes else 0
         self.is_same(f"network {number}", given, (status, table_of(net, streams, outcomes), ""))
-        told = outcomes_of(net, given[1])
-        self.try_rows(f"network {number}", seed, told, first, [])
+        found = outcomes_of(net, given[1])
+        self.try_rows(f"network {number}", seed, found, first, [])
         report = self.run(self.psi, "report", "net.toml", seed, first, count)
-        self.is_same(f"report {number}", report, (0, plain.report_of(net, told), ""))
+        self.is_same(f"report {number}", report, (0, plain.report_of(net, found), ""))
 
     def try_closed(self, number: int) -> None:
         """A closed network, or one that is nearly closed."""
-        text = with_rewards(number, closed_network(number))
-        self.file(text)
-        net, seed, first = Network(tomllib.loads(text)), number, number + 1
-        count, total = 1 + number % 5, Dice(number).below(2 + sum(net.caps))
-        given = self.run(self.program, "net.toml", seed, first, count, "closed", total)
-        status, out, err = self.run(self.psi, "closed", "net.toml", seed, first, total)
-        if status > 1:
-            wanted = status, out, self.line_of(err)
-            self.is_same(f"closed {number}", given, wanted)
+        found = self.closed_network(number)
+        if found is None:
             return
-        streams = range(first, first + count)
+        net, seed, streams, total = found
+        given = self.run(self.program, "net.toml", seed, streams.start, len(streams), "closed", total)
         outcomes = drawn_of(net, seed, streams, total)
         status = 1 if None in outcomes else 0
         self.is_same(f"closed {number}", given, (status, table_of(net, streams, outcomes), ""))
-        self.try_rows(f"closed {number}", seed, outcomes_of(net, given[1]), first, [total])
-
-    def try_all_words(self) -> None:
-        """Words that ask for no table, and the last stream."""
-        self.file(QUEUE)
-        net = "net.toml"
-        offending: tuple[tuple[int, list[object]], ...] = (
-            (1, []),
-            (2, [net]),
-            (3, [net, 0]),
-            (4, [net, 0, 0]),
-            (2, [net, "-1", 0, 1]),
-            (2, [net, "00", 0, 1]),
-            (2, [net, 2**64, 0, 1]),
-            (3, [net, 0, 2**64, 1]),
-            (3, [net, 0, "+1", 1]),
-            (4, [net, 0, 0, 0]),
-            (4, [net, 0, 0, 2**32]),
-            (4, [net, 0, MOST_STREAM, 2]),
-            (4, [net, 0, 1, "1e3"]),
-            (5, [net, 0, 0, 1, "open"]),
-            (5, [net, 0, 0, 1, 7]),
-            (6, [net, 0, 0, 1, "closed"]),
-            (6, [net, 0, 0, 1, "closed", 257]),
-            (6, [net, 0, 0, 1, "closed", ""]),
-            (7, [net, 0, 0, 1, "closed", 0, 0]),
-        )
-        self.try_words(offending)
-        last = f"stream,horizon,queue.a\n{MOST_STREAM},"
-        status, out, err = self.run(self.program, net, MOST_STREAM, MOST_STREAM, 1)
-        self.is_same("the last stream", (status, out[: len(last)], err), (0, last, ""))
+        self.try_rows(f"closed {number}", seed, outcomes_of(net, given[1]), streams.start, [total])
 
 
 @pytest.fixture
-def tries(program: str, hold: Held, tmp_path: pathlib.Path) -> Tries:
+def tries(program: str, expect: Expectations, tmp_path: pathlib.Path) -> Tries:
     """The programs in a folder of their own."""
-    states = beside(program, "psi_states")
-    if states is None:
-        pytest.skip("psi_states isn't built")
-    return Tries(program, "psi_states", str(states), tmp_path, hold)
+    return Tries.beside(program, "psi_states", tmp_path, expect)
 
 
 @pytest.mark.slow
@@ -160,7 +116,7 @@ def test_tables(tries: Tries, numbers: range) -> None:
 
 
 def test_words(tries: Tries) -> None:
-    tries.try_all_words()
+    tries.try_words(HEAD)
 
 
 def test_refusals(tries: Tries) -> None:
@@ -174,7 +130,7 @@ def test_memory_refused(tries: Tries, library: str) -> None:
 
 @pytest.mark.slow
 def test_writes_that_fail(tries: Tries) -> None:
-    tries.try_writes(len("stream,horizon,queue.a\n"))
+    tries.try_writes(len(HEAD))
 
 
 @pytest.mark.slow
