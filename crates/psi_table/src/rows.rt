@@ -41,7 +41,7 @@ impl Model for Rows {
 }
 
 impl Rows {
-    /// The header of the table of a network's samples, which waits, with the room for a block and a line.
+    /// Returns the header of the table of a network's samples, which waits, with space for a block and a line.
     ///
     /// # Errors
     ///
@@ -49,7 +49,7 @@ impl Rows {
     pub fn begin(alloc: Global, net: &Net) -> Result<Rows, OutOfMemory>
         ensures { IfOk result (λ rows. rows ≡ header_line net.now) }
     {
-        Rows::reserve(header_line(alloc, net)?)
+        Rows::reserve(alloc, header_line(alloc, net)?)
     }
 
     /// Returns the header of the table of a network's paths, which waits, with space for a block and a line.
@@ -60,15 +60,17 @@ impl Rows {
     pub fn begin_paths(alloc: Global, net: &Net) -> Result<Rows, OutOfMemory>
         ensures { IfOk result (λ rows. rows ≡ paths_header_line net.now) }
     {
-        Rows::reserve(paths_header_line(alloc, net)?)
+        Rows::reserve(alloc, paths_header_line(alloc, net)?)
     }
 
-    // A header that waits, with the room for a block and a line.
-    fn reserve(header: Vec<u8>) -> Result<Rows, OutOfMemory>
+    // Returns a header that waits, with space for a block and a line. Each byte of the space is written here once, so a table of
+    // few rows has as much resident memory as a long one.
+    fn reserve(alloc: Global, header: Vec<u8>) -> Result<Rows, OutOfMemory>
         ensures { IfOk result (λ rows. rows ≡ header.items) }
     {
-        let mut bytes = header;
-        bytes.reserve(FULL + LONGEST)?;
+        let mut bytes = vec![in alloc; 0; FULL + LONGEST]?;
+        bytes.clear();
+        bytes.extend_from_slice(header.as_slice())?;
         Ok(Rows { bytes })
     }
 
