@@ -177,7 +177,7 @@ def played(schedule: Schedule, true_seconds: Callable[[str, int], float]) -> tup
             pace.add(first, jobs.pop(first), so_far[first])
             done.add(first)
         state = {it: (jobs[it], so_far[it]) for it in jobs}
-        reported.append((clock, schedule.left(waiting, done, state, pace.value(state))))
+        reported.append((clock, schedule.left(waiting, done, state, pace)))
     return clock, reported
 
 

@@ -178,8 +178,7 @@ class Build:
 
     def left(self) -> float:
         """Returns about how many seconds are left."""
-        pace = self.pace.value(self.running)
-        return self.schedule.left(self.waiting, self.done, self.running, pace)
+        return self.schedule.left(self.waiting, self.done, self.running, self.pace)
 
     def say(self) -> None:
         """Tells how far it is."""

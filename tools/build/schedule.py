@@ -16,9 +16,9 @@ MOST_JOBS = 4
 SECONDS_A_LINE, GAIN, MEMORY = 0.2, 1.5, 1_600
 # How much more memory each job beside the first one takes, as a share.
 JOB_SHARE = 0.5
-# The part of an even share of the rest from which on a chain decides when all is over, and how many
-# processors are idle where one more crate is started.
-DECIDES, LEAST_IDLE = 1.0, 0.2
+# The part of a processor that each job beside the first one uses, and how many processors are idle
+# where one more crate is started.
+JOB_USE, LEAST_IDLE = 0.25, 0.2
 # The part of its own time so far that a crate is taken to need still when its time is over.
 OVERDUE = 0.15
 
@@ -56,9 +56,10 @@ class Costs:
 class Schedule:
     """Starts crates on the longest chain first, each once those below it are proved.
 
-    A crate with several jobs uses as many processors on average as it gets faster by them. So more
-    crates are started until all processors are in use; a crate on a chain that decides when all is
-    over gets several jobs, and so does one beside which nothing else can be started."""
+    Crates are started until all processors are in use, with one job each. Several jobs take more
+    processor time in all than one. So only the crate with which the longest chain begins gets
+    several, since that chain decides when all is over, and a crate beside which nothing else can be
+    started."""
 
     def __init__(
         self, crates: Crates, costs: Costs, processors: int, memory: float, most: int | None = None
@@ -73,13 +74,9 @@ class Schedule:
             for below in crates.uses[name]:
                 self.behind[below] = max(self.behind[below], self.behind[name])
 
-    def speed(self, name: str, jobs: int) -> float:
-        """Returns how much faster a crate is with so many jobs."""
-        return self.costs.seconds(name, 1) / self.costs.seconds(name, jobs)
-
     def used(self, running: Mapping[str, int]) -> float:
         """Returns how many processors some crates use on average; `running` has their jobs."""
-        return sum(self.speed(name, jobs) for name, jobs in running.items())
+        return sum(1 + JOB_USE * (jobs - 1) for jobs in running.values())
 
     def rate(self, running: Mapping[str, int]) -> float:
         """Returns the part of their speed that crates have which share the processors."""
@@ -90,13 +87,10 @@ class Schedule:
         found = [name for name in waiting if {*done}.issuperset(self.crates.uses[name])]
         return sorted(found, key=lambda name: -self.behind[name])
 
-    def jobs_of(self, name: str, share: float, waiting: Iterable[str]) -> int:
-        """Returns how many jobs a crate gets that may use a share of the processors."""
+    def jobs_of(self, name: str, idle: float) -> int:
+        """Returns how many jobs a crate gets that may use so many processors."""
         most = min(MOST_JOBS, self.processors)
-        rest = sum(self.costs.seconds(it, 1) for it in waiting) / self.processors
-        if self.most > 1 and self.behind[name] / self.speed(name, most) < DECIDES * rest:
-            most = max([1, *(it for it in range(2, most + 1) if self.speed(name, it) <= share)])
-        while most > 1 and self.costs.memory(name, most) > self.memory / 3:
+        while most > 1 and (self.used({name: most}) > idle or self.costs.memory(name, most) > self.memory / 3):
             most -= 1
         return most
 
@@ -110,28 +104,30 @@ class Schedule:
         if not ready or len(running) >= self.most or running and idle < LEAST_IDLE:
             return None
         taken = sum(self.costs.memory(*it) for it in running.items())
-        for place, name in enumerate(ready):
-            jobs = self.jobs_of(name, idle / (len(ready) - place), waiting)
+        longest = max(self.behind[name] for name in (*ready, *running))
+        for name in ready:
+            decides = self.behind[name] == longest or len(ready) == 1
+            jobs = self.jobs_of(name, idle) if decides else 1
             if taken + self.costs.memory(name, jobs) <= self.memory:
                 return name, jobs
         return None if running else (ready[0], 1)
 
     def left(
-        self, waiting: Collection[str], done: Collection[str], running: UnderWay, pace: float
+        self, waiting: Collection[str], done: Collection[str], running: UnderWay, pace: "Pace"
     ) -> float:
         """Returns about how many seconds the rest takes, by playing it through. `running` has jobs
         and the seconds so far at full speed."""
         clock, waiting, done = 0.0, set(waiting), set(done)
         jobs = {name: it for name, (it, _) in running.items()}
         rest = {
-            name: max(pace * self.costs.seconds(name, it) - so_far, OVERDUE * so_far)
+            name: max(pace.seconds(name, it, running) - so_far, OVERDUE * so_far)
             for name, (it, so_far) in running.items()
         }
         while waiting or rest:
             while found := self.next(waiting, done, jobs):
                 name, jobs[found[0]] = found
                 waiting.discard(name)
-                rest[name] = pace * self.costs.seconds(*found)
+                rest[name] = pace.seconds(*found, running)
             name, rate = min(rest, key=rest.__getitem__), self.rate(jobs)
             took = rest.pop(name)
             clock += took / rate
@@ -142,27 +138,40 @@ class Schedule:
 
 
 class Pace:
-    """How many seconds of this machine a second of seconds.txt takes."""
+    """How many seconds of this machine a second of seconds.txt takes, where a crate has one job and
+    where it has several: how much faster several jobs are is not the same everywhere."""
 
-    # The seconds for which the list is believed before anything was proved here.
-    PRIOR = 20
+    # The seconds for which the list is believed before anything was proved here, and those for which
+    # crates with several jobs are taken to be like those with one, and the other way round.
+    PRIOR, SHARED = 20, 100
     # The part of its listed seconds below which a crate was proved earlier, and says nothing.
     LEAST = 0.1
 
     def __init__(self, costs: Costs) -> None:
-        self.costs, self.took, self.listed = costs, float(self.PRIOR), float(self.PRIOR)
+        self.costs = costs
+        # What crates took here and in the list, by whether they had several jobs.
+        self.sums = {False: (0.0, 0.0), True: (0.0, 0.0)}
 
     def add(self, name: str, jobs: int, seconds: float) -> None:
         """Notes what a crate took at full speed."""
         listed = self.costs.seconds(name, jobs)
         if seconds >= self.LEAST * listed:
-            self.took, self.listed = self.took + seconds, self.listed + listed
+            took, so_far = self.sums[jobs > 1]
+            self.sums[jobs > 1] = took + seconds, so_far + listed
 
-    def value(self, running: UnderWay) -> float:
-        """Returns the pace; of the crates under way those count that are slower than it."""
-        took, listed = self.took, self.listed
+    def value(self, has_several: bool, running: UnderWay) -> float:
+        """Returns the pace of crates with several jobs, or with one; of the crates under way those
+        count that are slower than it."""
+        one, several = self.sums.values()
+        all_took, all_listed = (self.PRIOR + it + other for it, other in zip(one, several))
+        took, listed = self.sums[has_several]
+        took, listed = took + self.SHARED * all_took / all_listed, listed + self.SHARED
         for name, (jobs, so_far) in running.items():
             own = self.costs.seconds(name, jobs)
-            if so_far * listed > took * own:
+            if (jobs > 1) == has_several and so_far * listed > took * own:
                 took, listed = took + so_far, listed + own
         return took / listed
+
+    def seconds(self, name: str, jobs: int, running: UnderWay) -> float:
+        """Returns about how many seconds a crate takes here with so many jobs."""
+        return self.value(jobs > 1, running) * self.costs.seconds(name, jobs)
