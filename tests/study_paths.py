@@ -1,4 +1,4 @@
-"""/usr/bin/python3 -m tests.study_paths [PSI] [--repetitions N] [--count N] [--least N] [--only NAME]
+"""/usr/bin/python3 -m tests.study_paths [PSI] [--repetitions N] [--count N] [--least N] [--again N] [--only NAME]
 
 Counts how often the 95 % intervals of `psi-means --paths` hold what they are of, over repetitions with other
 streams, at several lengths of paths: on networks that are solved, open, closed and cut short by a limit, with
@@ -8,7 +8,9 @@ repetition has --count paths, 20 where it isn't given, which is the least. PSI i
 which psi_paths is looked for; crates/psi/out/psi where it isn't given.
 
 For each length and row a line says how many of all repetitions held, and how wide the intervals are in the
-middle. The exit status is 1 where fewer than --least of 100 held, which is 93 where it isn't given.
+middle. Of some hundred rows a few are below 93 of 100 by chance, even where each holds in 95: so a row below
+--least, which is 93 where it isn't given, is tried on --again times as many other streams, 10 where it isn't
+given, and a second line says what came of it. The exit status is 1 where a row is below --least there too.
 """
 
 import argparse
@@ -17,6 +19,7 @@ import os
 import pathlib
 import statistics
 import sys
+from collections.abc import Collection
 
 TOP = pathlib.Path(__file__).resolve().parent.parent
 READER = argparse.ArgumentParser()
@@ -24,6 +27,7 @@ READER.add_argument("psi", nargs="?", default=str(TOP / "crates/psi/out/psi"))
 READER.add_argument("--repetitions", type=int, default=400)
 READER.add_argument("--count", type=int, default=20)
 READER.add_argument("--least", type=float, default=93)
+READER.add_argument("--again", type=int, default=10)
 READER.add_argument("--only")
 WORDS = READER.parse_args()
 sys.path[:0] = [str(TOP / "python"), str(TOP / "python/tests")]
@@ -42,8 +46,11 @@ from psi_tools.stats.paths import MOVED, paths_of_rows
 
 # A reward's name and its values by the number of customers; and what each row is of, by its kind and name.
 Reward = tuple[str, list[int]]
-Means = dict[tuple[str, str], float]
+Key = tuple[str, str]
+Means = dict[Key, float]
 SEED, OTHER, LENGTHS, TIMES = 57, 58, (0, 30, 300, 3_000), 20
+# The first seed of the streams on which rows are tried again.
+AGAIN = 1_057
 
 
 def queue_of(arrival: int, service: int, capacity: int, limit: int | None = None, *rewards: Reward) -> Network:
@@ -121,28 +128,55 @@ def estimated(psi: Program, net: Network, total: int | None) -> Means:
     return {key: mean for key, mean in means.items() if mean is not None}
 
 
-def tried(psi: Program, name: str, net: Network, total: int | None, lengths: tuple[int, ...], is_solved: bool) -> bool:
-    """The lines of a network; whether enough of its intervals held."""
-    wanted, is_well = solved(net, total) if is_solved else estimated(psi, net, total), True
-    for steps in lengths:
-        rows = drawn(psi, net, total, SEED, steps, WORDS.repetitions * WORDS.count)
-        lost = rows.count(None) / len(rows)
-        held: dict[tuple[str, str], int] = {}
-        widths: dict[tuple[str, str], list[float]] = {}
+class Tally:
+    """How often the intervals of each row held what they are of, and how wide they are."""
+
+    def __init__(self, net: Network, steps: int, wanted: Means) -> None:
+        self.net, self.steps, self.wanted = net, steps, wanted
+        self.held: dict[Key, int] = {}
+        self.widths: dict[Key, list[float]] = {}
+        self.streams = self.lost = 0
+
+    def add(self, rows: Rows, only: Collection[Key] | None = None) -> None:
+        """Adds repetitions with other streams, for all rows of a network or for those that are named."""
+        self.streams, self.lost = self.streams + len(rows), self.lost + rows.count(None)
         for begin in range(0, len(rows), WORDS.count):
-            paths = paths_of_rows(net, steps, rows[begin : begin + WORDS.count])
+            paths = paths_of_rows(self.net, self.steps, rows[begin : begin + WORDS.count])
             for row in (row for row in paths.rows if row.times):
-                mean, key = paths.mean(row), (row.kind, row.name)
-                low, high = -math.inf if mean.low is None else mean.low, math.inf if mean.high is None else mean.high
-                held[key] = held.get(key, 0) + (low - 1e-9 <= wanted[key] <= high + 1e-9)
-                widths.setdefault(key, []).append(high - low)
-        for key, count in held.items():
-            share, width = 100 * count / WORDS.repetitions, statistics.median(widths[key])
-            cut = f", {100 * lost:.0f} % uncoupled" if lost else ""
-            print(
-                f"{share:6.2f} of 100  width {width:10.4g}  {name}{cut}, {steps:,} steps: {' '.join(key)}", flush=True
-            )
-            is_well = is_well and share >= WORDS.least
+                key = row.kind, row.name
+                if only is None or key in only:
+                    mean = paths.mean(row)
+                    low = -math.inf if mean.low is None else mean.low
+                    high = math.inf if mean.high is None else mean.high
+                    self.held[key] = self.held.get(key, 0) + (low - 1e-9 <= self.wanted[key] <= high + 1e-9)
+                    self.widths.setdefault(key, []).append(high - low)
+
+    def print(self, name: str) -> list[Key]:
+        """Prints a line for each row, and returns those that hold too seldom."""
+        repetitions = self.streams // WORDS.count
+        cut = f", {100 * self.lost / self.streams:.0f} % uncoupled" if self.lost else ""
+        shares = {key: 100 * count / repetitions for key, count in self.held.items()}
+        for key, share in shares.items():
+            width = statistics.median(self.widths[key])
+            head = f"{share:6.2f} of 100  width {width:10.4g}"
+            print(f"{head}  {name}{cut}, {self.steps:,} steps: {' '.join(key)}", flush=True)
+        return [key for key, share in shares.items() if share < WORDS.least]
+
+
+def tried(psi: Program, name: str, net: Network, total: int | None, lengths: tuple[int, ...], is_solved: bool) -> bool:
+    """Prints the lines of a network; returns whether enough of its intervals hold."""
+    wanted, is_well = solved(net, total) if is_solved else estimated(psi, net, total), True
+    count = WORDS.repetitions * WORDS.count
+    for steps in lengths:
+        tally = Tally(net, steps, wanted)
+        tally.add(drawn(psi, net, total, SEED, steps, count))
+        seldom = tally.print(name)
+        if seldom and WORDS.again:
+            tally = Tally(net, steps, wanted)
+            for seed in range(AGAIN, AGAIN + WORDS.again):
+                tally.add(drawn(psi, net, total, seed, steps, count), seldom)
+            seldom = tally.print(f"again: {name}")
+        is_well = is_well and not seldom
     return is_well
 
 
