@@ -1,7 +1,9 @@
-"""Puts the package in python/ on the path, by its place in this repository."""
+"""Puts this repository and the package in it on the path."""
 
 import pathlib
 import sys
 
 TOP = pathlib.Path(__file__).resolve().parent.parent
-sys.path.insert(0, str(TOP / "python"))
+sys.path.insert(0, str(TOP))
+
+import tools.packaged  # noqa: F401, E402

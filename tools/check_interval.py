@@ -1,15 +1,11 @@
 #!/usr/bin/env python3
-"""check_interval.py FILE
-
-Checks the certificates of intervals: runs python/psi_tools/check_interval.py, which stands alone.
-"""
+"""check_interval.py FILE: checks certificates of intervals, by python/psi_tools/check_interval.py, which stands alone."""
 
 import pathlib
 import runpy
 import sys
 
-TOP = pathlib.Path(__file__).resolve().parent.parent
+CHECKER = pathlib.Path(__file__).resolve().parent.parent / "python/psi_tools/check_interval.py"
 
-if __name__ == "__main__":
-    sys.dont_write_bytecode = True
-    runpy.run_path(str(TOP / "python" / "psi_tools" / "check_interval.py"), run_name="__main__")
+sys.dont_write_bytecode = True
+runpy.run_path(str(CHECKER), run_name="__main__")
