@@ -47,7 +47,6 @@ OTHERS = {"psi-merge": "psi_merge", "psi-states": "psi_states", "psi-paths": "ps
 TOOLS = (
     "packaged.py",
     "merge_reports.py",
-    "plotting",
     "check_log.py",
     "check_interval.py",
     "mean_values.py",

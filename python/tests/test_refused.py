@@ -13,7 +13,7 @@ from conftest import SECONDS, TOP, Tool
 from generate import case_files
 
 from psi_tools.cli.command import run
-from psi_tools.cli import closed_report, law, many, mean_values, page, plot, sweep, where, why
+from psi_tools.cli import law, many, mean_values, page, plot, sweep, where, why
 
 NET = TOP / "examples/single-server.toml"
 # Of each tool its work, and words that are right but for the file.
@@ -25,7 +25,7 @@ CALLS = {
     "psi-plot": (plot, ["forward", "{}", "-o", "drawn.svg"]),
     "psi-page": (page, ["{}", "0", "0", "-o", "drawn.html"]),
     "mean_values": (mean_values, ["{}", "1"]),
-    "closed_report": (closed_report, ["{}", "1", "1"]),
+    "psi-many --closed": (many, ["{}", "0", "0", "2", "--closed", "1"]),
 }
 # Words that write an answer, with a place for where it goes.
 WRITES = {
@@ -79,7 +79,7 @@ def test_refused_files(here: pathlib.Path, capsys: pytest.CaptureFixture[str], n
         status = run(tool.COMMAND, tool.work, [word.format("net.toml") for word in words])
         out, error = capsys.readouterr()
         assert status == (2 if name == "psi-plot" else 3) and out == "", (data, status)
-        line = rf"{name}: (net\.toml: )?network refused [^\n]*\n"
+        line = rf"{name.split()[0]}: (net\.toml: )?network refused [^\n]*\n"
         assert re.fullmatch(line, error), (data, error)
     assert [*here.iterdir()] == [here / "net.toml"]
 

@@ -97,8 +97,8 @@ def test_help_and_version(tool: Tool, name: str) -> None:
     assert tool(f"psi-{name}", "--version") == (0, f"psi-{name} {version}\n", "")
 
 
-# The tools that are no commands of the package, with words that are right but for a file.
-OTHERS = {"mean_values.py": ["{}", "6", "2"], "plotting/closed_report.py": ["{}", "6", "2"]}
+# The tools of closed networks, with the places of a file, a total and a number of streams.
+OTHERS = {"mean_values.py": ["{0}", "{1}", "{2}"], "psi-many": ["{0}", "0", "0", "{2}", "--closed", "{1}"]}
 
 
 @pytest.mark.parametrize("name", OTHERS)
@@ -109,17 +109,19 @@ def test_the_other_tools_end_with_one_line(
     status, out, error = tool(name, "-h")
     assert (status, error) == (0, "") and out.startswith(f"usage: {command} ")
     closed = str(TOP / "examples/central-server.toml")
-    calls = [[word.format(file) for word in OTHERS[name]] for file in [*files(tmp_path), NET]]
-    calls += [[], ["a"], [closed, "x", "2"], [closed, "257", "2"], [closed, "6", "-2"]]
+    named = [(file, "6", "2") for file in [*files(tmp_path), NET]]
+    named += [(closed, "x", "2"), (closed, "257", "2"), (closed, "6", "-2")]
+    calls = [[], ["a"], *([word.format(*each) for word in OTHERS[name]] for each in named)]
     for words, (status, out, error) in zip(calls, side_by_side(tool, name, calls)):
         assert status in (2, 3, 6, 11) and out == "", (words, status, error)
         assert re.fullmatch(rf"{command}: [^\n]+\n", error), (words, error)
     with open("/dev/full", "wb") as full:
         done = subprocess.run(
-            [TOP / "tools" / name, closed, "6", "2"],
+            [TOP / "tools" / name, *(word.format(closed, "6", "2") for word in OTHERS[name])],
             stdout=full,
             stderr=subprocess.PIPE,
             text=True,
+            cwd=tmp_path,
             timeout=SECONDS,
             env=environment,
         )

@@ -4,17 +4,18 @@ Prints a line `NAME MEAN` for each queue. With COUNT the mean over that many sam
 with half its interval of some 95 %: those of the streams from 0 on and the seed 0.
 """
 
+import functools
 import math
 from collections.abc import Sequence
 
-from psi_tools.cli.options import Parser, closed_parser
-from psi_tools.draw.closed import samples_of, texts_of
+from psi_tools.cli.options import TOTAL, Parser, number
+from psi_tools.draw.closed import samples_of
 from psi_tools.draw.program import Program
 from psi_tools.errors import PsiError
 from psi_tools.io.output import write_answer
 from psi_tools.io.tables import ended
 from psi_tools.model.networks import checked
-from psi_tools.stats.mean_values import MOST_TOTAL, means_of, rates_of
+from psi_tools.stats.mean_values import means_of, rates_of
 
 COMMAND = "mean_values"
 ABOUT = """Prints how many customers each queue of a closed network holds on average, by mean value
@@ -23,7 +24,8 @@ analysis, and beside that the mean over samples with half its interval of some 9
 
 def states_of(psi: Program, net: bytes, total: int, count: int) -> list[list[int]]:
     """The states of samples of seed 0, as rows; all of them have to be coupled."""
-    found = samples_of(texts_of(psi, net, total, count)) or []
+    calls = [functools.partial(psi.ask, "closed", net, 0, stream, total, statuses=(0, 1)) for stream in range(count)]
+    found = samples_of("".join(answer.out for answer in psi.all(calls)).encode()) or []
     if None in found:
         raise PsiError("psi closed ended with 1", 1)
     return [sample[1] for sample in found if sample]
@@ -38,8 +40,13 @@ def estimate(values: Sequence[int]) -> tuple[float, float]:
 
 def parser() -> Parser:
     """The parser of the arguments."""
-    help_of_count = "the number of samples that are drawn; none by default"
-    return closed_parser(COMMAND, ABOUT, MOST_TOTAL, (0, 2**24), help_of_count, nargs="?", default=0)
+    parser = Parser(COMMAND, ABOUT)
+    parser.add("net", "NET", "the file of a closed network")
+    parser.add("total", "TOTAL", "the number of customers, 0 to 256", type=TOTAL)
+    text = "the number of samples that are drawn; none by default"
+    parser.add("count", "COUNT", text, type=number(0, 2**24), nargs="?", default=0)
+    parser.add("psi", "PSI", "the built program", nargs="?")
+    return parser
 
 
 def work(arguments: list[str]) -> int:

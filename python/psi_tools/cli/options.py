@@ -10,35 +10,24 @@ from psi_tools.errors import PsiError
 from psi_tools.io.output import check_writable
 
 
-def add_guaranteed(parser: argparse.ArgumentParser) -> None:
-    """The options of guaranteed intervals."""
-    parser.add_argument(
-        "--guaranteed",
-        action="store_true",
-        help="intervals whose coverage is a theorem, docs/LAW.md, and not common statistics",
-    )
-    parser.add_argument(
-        "--certificate",
-        metavar="FILE",
-        help="with --guaranteed, the file for the certificates of the intervals, as JSON, which "
-        "tools/check_interval.py checks",
-    )
-
-
-USAGE = 2
-
-
 class Parser(argparse.ArgumentParser):
     """The parser of a command's arguments, which reports in one line what is wrong."""
 
-    def __init__(self, command: str, about: str | None, **more: Any) -> None:
+    def __init__(self, prog: str, description: str | None = None, **more: Any) -> None:
         form = argparse.RawDescriptionHelpFormatter
-        super().__init__(prog=command, description=about, allow_abbrev=False, formatter_class=form, **more)
-        version = f"{command} {__version__}"
-        self.add_argument("--version", action="version", version=version, help="print the version")
+        super().__init__(prog, description=description, allow_abbrev=False, formatter_class=form, **more)
+        self.add_argument("--version", action="version", version=f"{prog} {__version__}", help="print the version")
+
+    def add(self, names: str, metavar: str, text: str, **more: Any) -> None:
+        """Adds an argument, or an option with a value, by its names, what its value is called, and its help."""
+        self.add_argument(*names.split(), metavar=metavar, help=text, **more)
+
+    def flag(self, name: str, text: str) -> None:
+        """Adds an option without a value."""
+        self.add_argument(name, action="store_true", help=text)
 
     def error(self, message: str) -> NoReturn:
-        raise PsiError(f"{message}; `{self.prog} --help` lists the arguments", USAGE)
+        raise PsiError(f"{message}; `{self.prog} --help` lists the arguments")
 
 
 def number(least: int, most: int) -> Callable[[str], int]:
@@ -52,75 +41,57 @@ def number(least: int, most: int) -> Callable[[str], int]:
     return read
 
 
-def add_streams(parser: argparse.ArgumentParser, count: int) -> None:
+# A seed or a stream, the customers of a closed network, the steps of a path, and how many pilot streams there are.
+STREAM, TOTAL, STEPS, PILOTS = number(0, GREATEST), number(0, 256), number(0, 2**32 - 2**22), number(0, 2**20)
+
+
+def add_streams(parser: Parser, count: int) -> None:
     """The options that choose the samples; `count` is the default number of them."""
-    parser.add_argument(
-        "--seed",
-        metavar="SEED",
-        type=number(0, GREATEST),
-        default=0,
-        help="the seed of the random words, 0 to 2^64 - 1; 0 by default",
-    )
-    parser.add_argument(
-        "--first",
-        metavar="STREAM",
-        type=number(0, GREATEST),
-        default=0,
-        help="the first stream, 0 to 2^64 - 1; 0 by default",
-    )
-    parser.add_argument(
-        "--count",
-        metavar="N",
-        type=number(1, 2**36),
-        default=count,
-        help=f"the number of streams that are drawn, from the first on; {count:,} by default",
-    )
+    seed = "the seed of the random words, 0 to 2^64 - 1; 0 by default"
+    parser.add("--seed", "SEED", seed, type=STREAM, default=0)
+    parser.add("--first", "STREAM", "the first stream, 0 to 2^64 - 1; 0 by default", type=STREAM, default=0)
+    text = f"the number of streams that are drawn, from the first on; {count:,} by default"
+    parser.add("--count", "N", text, type=number(1, 2**36), default=count)
 
 
-def add_psi(parser: argparse.ArgumentParser, more: str = "", default: str | None = None) -> None:
+def add_psi(parser: Parser, more: str = "", default: str | None = None) -> None:
     """The option that names the program psi; `more` states what it is for."""
-    help_of_count = f"the built program; crates/psi/out/psi, or psi on the PATH, by default{more}"
-    parser.add_argument("--psi", metavar="PSI", default=default, help=help_of_count)
+    text = f"the built program; crates/psi/out/psi, or psi on the PATH, by default{more}"
+    parser.add("--psi", "PSI", text, default=default)
 
 
-def add_program(parser: argparse.ArgumentParser) -> None:
+def add_program(parser: Parser) -> None:
     """The options that name the program psi, and the number of processes."""
     add_psi(parser)
-    parser.add_argument(
-        "--jobs",
-        metavar="N",
-        type=number(1, 1024),
-        help="the number of processes that draw at the same time; that of the processors by default",
-    )
+    text = "the number of processes that draw at the same time; that of the processors by default"
+    parser.add("--jobs", "N", text, type=number(1, 1024))
 
 
-def closed_parser(
-    command: str, about: str, totals: int, counts: tuple[int, int], help_of_count: str, **more: Any
-) -> Parser:
-    """The parser of NET TOTAL COUNT [PSI], of a tool of closed networks; `told` and `more` are of COUNT."""
-    parser = Parser(command, about)
-    parser.add_argument("net", metavar="NET", help="the file of a closed network")
-    parser.add_argument(
-        "total", metavar="TOTAL", type=number(0, totals), help=f"the number of customers, 0 to {totals}"
-    )
-    parser.add_argument("count", metavar="COUNT", type=number(*counts), help=help_of_count, **more)
-    parser.add_argument("psi", metavar="PSI", nargs="?", help="the built program")
-    return parser
-
-
-def add_form(parser: argparse.ArgumentParser, forms: Sequence[str] = ("text", "csv", "json")) -> None:
+def add_form(parser: Parser, forms: Sequence[str] = ("text", "csv", "json")) -> None:
     """The options for the form of the answer, and for where it is written."""
-    parser.add_argument(
-        "--format", choices=forms, default="text", help="text for people, csv or json for programs; text by default"
-    )
-    parser.add_argument(
-        "-o", "--out", metavar="FILE", help="the file that the answer is written to; standard output by default"
-    )
+    text = "text for people, csv or json for programs; text by default"
+    parser.add_argument("--format", choices=forms, default="text", help=text)
+    parser.add("-o --out", "FILE", "the file that the answer is written to; standard output by default")
 
 
-def add_picture(parser: argparse.ArgumentParser) -> None:
+def add_picture(parser: Parser) -> None:
     """The options of a picture."""
-    parser.add_argument("--picture", metavar="FILE", help="draw a picture, too: .svg, .png or .pdf by its name")
+    parser.add("--picture", "FILE", "draw a picture, too: .svg, .png or .pdf by its name")
+
+
+def add_guaranteed(parser: Parser) -> None:
+    """The options of guaranteed intervals."""
+    parser.flag("--guaranteed", "intervals whose coverage is a theorem, docs/LAW.md, and not common statistics")
+    text = "the file for the certificates of the intervals, as JSON, which tools/check_interval.py checks"
+    parser.add("--certificate", "FILE", f"with --guaranteed, {text}")
+
+
+def check_guaranteed(args: argparse.Namespace) -> None:
+    """Refuses options that go with guaranteed intervals alone, and a certificate that can't be written."""
+    for option in ("certificate", "pilot"):
+        if getattr(args, option) is not None and not args.guaranteed:
+            raise PsiError(f"--{option} goes with --guaranteed")
+    check_writable(args.certificate, "--certificate")
 
 
 def check_last_stream(args: argparse.Namespace) -> None:
@@ -129,8 +100,8 @@ def check_last_stream(args: argparse.Namespace) -> None:
         raise PsiError(f"the last stream would be above {GREATEST}")
 
 
-def check_picture(path: str | None, forms: Sequence[str] = ("svg", "png", "pdf")) -> None:
+def check_picture(path: str | None) -> None:
     """Refuses a picture whose form isn't known, or that can't be written, before any work."""
-    if path is not None and path.rpartition(".")[2].lower() not in forms:
+    if path is not None and path.rpartition(".")[2].lower() not in ("svg", "png", "pdf"):
         raise PsiError("--picture names no .svg, .png or .pdf")
     check_writable(path, "--picture")

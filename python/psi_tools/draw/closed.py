@@ -5,17 +5,15 @@ states are taken in its form, and the values of rewards by the guide's rules.
 """
 
 import collections
-import functools
 import re
 
-from psi_tools.draw.program import Program
 from psi_tools.io.reports import Figure, Report
 from psi_tools.model.networks import Network, values_of
 
 # The horizon and the state of a sample; none where it is not coupled.
 Sample = tuple[int, list[int]] | None
 
-MOST_TOTAL, MOST_COUNT = 256, 2**20
+MOST_TOTAL = 256
 SAMPLE = re.compile(rb"met (\d+)\nstate (\d+(?:,\d+)*)\n|not coupled within \d+\n")
 
 
@@ -30,15 +28,6 @@ def samples_of(text: bytes) -> list[Sample] | None:
         met = sample[1] is not None
         found.append((int(sample[1]), [*map(int, sample[2].split(b","))]) if met else None)
     return found if end == len(text) else None
-
-
-def texts_of(psi: Program, data: bytes, total: int, count: int) -> bytes:
-    """What psi closed prints of the streams from 0 on of seed 0, one after the other."""
-
-    def drawn(stream: int) -> bytes:
-        return psi.ask("closed", data, 0, stream, total, statuses=(0, 1)).out.encode()
-
-    return b"".join(psi.all(functools.partial(drawn, stream) for stream in range(count)))
 
 
 def report_of_text(net: Network, text: bytes, count: int) -> bytes | None:
