@@ -5,15 +5,16 @@ import functools
 from collections.abc import Callable
 
 from psi_tools.cli.options import (
+    PILOTS,
     Parser,
     add_form,
     add_guaranteed,
     add_picture,
     add_program,
     add_streams,
+    check_guaranteed,
     check_last_stream,
     check_picture,
-    number,
 )
 from psi_tools.draw.law import COUNT, Samples
 from psi_tools.draw.program import Program
@@ -51,34 +52,22 @@ values make it. With --guaranteed the coverage of each interval is a theorem."""
 def parser() -> Parser:
     """The parser of the arguments."""
     parser = Parser(COMMAND, ABOUT)
-    parser.add_argument("net", metavar="NET", help="a network file")
-    parser.add_argument(
-        "names", metavar="QUEUE|REWARD", nargs="*", help="queues and rewards of the network; one, or several jointly"
-    )
-    parser.add_argument(
-        "--reward",
-        action="store_true",
-        help="the names are those of rewards; a queue is meant where both have it. queue.NAME and reward.NAME "
-        "are understood, too",
-    )
-    parser.add_argument(
-        "--where",
-        metavar="CONDITION",
-        help="print the probability of a condition: comparisons of queues, rewards and whole numbers, with and, "
-        "or, not, +, - and *; names with a hyphen stand in quotes",
-    )
+    parser.add("net", "NET", "a network file")
+    parser.add("names", "QUEUE|REWARD", "queues and rewards of the network; one, or several jointly", nargs="*")
+    text = "the names are those of rewards; a queue is meant where both have it"
+    parser.flag("--reward", f"{text}. queue.NAME and reward.NAME are understood, too")
+    text = "print the probability of a condition: comparisons of queues, rewards and whole numbers, with and, or, not"
+    parser.add("--where", "CONDITION", f"{text}, +, - and *; names with a hyphen stand in quotes")
     add_streams(parser, COUNT)
     add_program(parser)
     add_form(parser)
     add_picture(parser)
     add_guaranteed(parser)
-    parser.add_argument(
-        "--pilot",
-        metavar="N",
-        type=number(0, 2**20),
-        help="with --guaranteed, the number of further streams that choose the stakes of the mean's bets and "
-        "aren't counted; by default a twentieth of --count, at most 1,000; with 0 the stakes are those of the range",
+    text = (
+        "with --guaranteed, the number of further streams that choose the stakes of the mean's bets and aren't counted"
     )
+    more = "by default a twentieth of --count, at most 1,000; with 0 the stakes are those of the range"
+    parser.add("--pilot", "N", f"{text}; {more}", type=PILOTS)
     return parser
 
 
@@ -176,14 +165,11 @@ def check_args(args: argparse.Namespace) -> None:
         raise PsiError("a queue or a reward is expected, or --where with a condition")
     if args.names and args.where is not None:
         raise PsiError("--where goes without a queue or a reward")
-    for option in ("certificate", "pilot"):
-        if getattr(args, option) is not None and not args.guaranteed:
-            raise PsiError(f"--{option} goes with --guaranteed")
     for option in ("guaranteed", "picture"):
         if getattr(args, option) and len(args.names) != 1:
             raise PsiError(f"--{option} goes with one queue or reward")
+    check_guaranteed(args)
     check_writable(args.out)
-    check_writable(args.certificate, "--certificate")
     check_picture(args.picture)
 
 

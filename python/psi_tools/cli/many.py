@@ -21,9 +21,8 @@ from collections.abc import Iterator
 from typing import NoReturn
 
 from psi_tools.arguments import GREATEST
-from psi_tools.cli.options import Parser, add_psi, number
+from psi_tools.cli.options import STREAM, TOTAL, Parser, add_psi, number
 from psi_tools.draw.blocks import MOST_BLOCKS, Folder
-from psi_tools.draw.closed import MOST_TOTAL
 from psi_tools.draw.engines import SHARE, SSH, Here, Hosts, Slurm, Way, run_task
 from psi_tools.draw.many import COMMAND, draw_all, joined, merge
 from psi_tools.draw.program import Program, built_companion, built_program, companion_of, program_of
@@ -60,73 +59,32 @@ def merger_of(args: argparse.Namespace, psi: str) -> str | None:
 def parser() -> Parser:
     """The parser of the arguments."""
     parser = Parser(COMMAND, ABOUT)
-    parser.add_argument("net", metavar="NET", help="a network file")
-    last = "0 to 2^64 - 1"
-    parser.add_argument("seed", metavar="SEED", type=number(0, GREATEST), help=f"the seed, {last}")
-    parser.add_argument("first", metavar="FIRST", type=number(0, GREATEST), help=f"the first stream, {last}")
-    parser.add_argument(
-        "count",
-        metavar="COUNT",
-        type=number(1, MOST_COUNT),
-        help=f"how many streams are drawn, 1 to {MOST_COUNT:,}: at most {MOST_BLOCKS:,} blocks",
-    )
-    parser.add_argument(
-        "-o",
-        "--out",
-        metavar="FILE",
-        help="where the report is written, under another name until it is whole; standard output by default",
-    )
-    parser.add_argument(
-        "--closed",
-        metavar="TOTAL",
-        type=number(0, MOST_TOTAL),
-        help="sample a closed network that holds TOTAL customers, by psi closed",
-    )
-    parser.add_argument(
-        "--states",
-        action="store_true",
-        help="print the samples themselves, a row for each stream, by psi_states on this machine",
-    )
-    add_blocks(parser)
-    add_ways(parser)
-    parser.add_argument(
-        "--merge",
-        metavar="PROGRAM",
-        help="the program that merges reports; by default psi_merge where it is built, else merge_reports.py",
-    )
-    return parser
-
-
-def add_blocks(parser: argparse.ArgumentParser) -> None:
-    """The options for how blocks are drawn and kept."""
-    parser.add_argument(
-        "--folder", metavar="FOLDER", help="where finished blocks are kept; NET.SEED.FIRST.COUNT.many by default"
-    )
+    parser.add("net", "NET", "a network file")
+    parser.add("seed", "SEED", "the seed, 0 to 2^64 - 1", type=STREAM)
+    parser.add("first", "FIRST", "the first stream, 0 to 2^64 - 1", type=STREAM)
+    text = f"how many streams are drawn, 1 to {MOST_COUNT:,}: at most {MOST_BLOCKS:,} blocks"
+    parser.add("count", "COUNT", text, type=number(1, MOST_COUNT))
+    text = "where the report is written, under another name until it is whole; standard output by default"
+    parser.add("-o --out", "FILE", text)
+    text = "sample a closed network that holds TOTAL customers, by psi closed"
+    parser.add("--closed", "TOTAL", text, type=TOTAL)
+    text = "print the samples themselves, a row for each stream, by psi_states on this machine"
+    parser.flag("--states", text)
+    parser.add("--folder", "FOLDER", "where finished blocks are kept; NET.SEED.FIRST.COUNT.many by default")
     add_psi(parser, default=built_program())
-    parser.add_argument(
-        "--block",
-        metavar="N",
-        type=number(1, MOST_STREAMS),
-        help="the number of streams in a block; by default such that there are 20 blocks or more",
-    )
-    parser.add_argument(
-        "--jobs",
-        metavar="N",
-        type=number(1, MOST_BLOCKS),
-        help="the number of blocks that are drawn at the same time, or of tasks in Slurm; by default that of the "
-        "processors, or 100 tasks",
-    )
-
-
-def add_ways(parser: argparse.ArgumentParser) -> None:
-    """The options for where blocks are drawn."""
+    text = "the number of streams in a block; by default such that there are 20 blocks or more"
+    parser.add("--block", "N", text, type=number(1, MOST_STREAMS))
+    text = "the number of blocks that are drawn at the same time, or of tasks in Slurm"
+    more = "by default that of the processors, or 100 tasks"
+    parser.add("--jobs", "N", f"{text}; {more}", type=number(1, MOST_BLOCKS))
     ways = parser.add_mutually_exclusive_group()
     ways.add_argument("--hosts", metavar="FILE", help="draw on the machines of this file, by ssh")
     ways.add_argument("--slurm", action="store_true", help="draw as a Slurm job array")
-    parser.add_argument(
-        "--ssh", metavar="COMMAND", default=SSH, help="how machines are reached; by default ssh, without any question"
-    )
-    parser.add_argument("--sbatch", metavar="OPTIONS", default="", help="more options of sbatch, as one argument")
+    parser.add("--ssh", "COMMAND", "how machines are reached; by default ssh, without any question", default=SSH)
+    parser.add("--sbatch", "OPTIONS", "more options of sbatch, as one argument", default="")
+    text = "the program that merges reports; by default psi_merge where it is built, else merge_reports.py"
+    parser.add("--merge", "PROGRAM", text)
+    return parser
 
 
 def parse(arguments: list[str]) -> argparse.Namespace:

@@ -3,7 +3,18 @@
 import argparse
 
 from psi_tools.arguments import LEAST_LEVEL, MOST_LEVEL
-from psi_tools.cli.options import Parser, add_form, add_guaranteed, add_program, add_streams, check_last_stream, number
+from psi_tools.cli.options import (
+    PILOTS,
+    STEPS,
+    TOTAL,
+    Parser,
+    add_form,
+    add_guaranteed,
+    add_program,
+    add_streams,
+    check_guaranteed,
+    check_last_stream,
+)
 from psi_tools.draw.reports import read_any
 from psi_tools.errors import PsiError
 from psi_tools.io import tables
@@ -11,10 +22,10 @@ from psi_tools.io.output import check_writable, write, write_answer
 from psi_tools.io.tables import Record
 from psi_tools.io.terminal import print_note
 from psi_tools.model.networks import Network
-from psi_tools.stats.batches import REWARD, Batches
+from psi_tools.stats.batches import Batches
 from psi_tools.stats.intervals import LEAST_BATCHES
-from psi_tools.stats.means import is_horizon, mean_of, notes_of, records_of, remarks, share_of
-from psi_tools.stats.text import ends_shown, figures, half_shown
+from psi_tools.stats.means import KINDS, mean_of, notes_of, records_of, remarks, table_of
+from psi_tools.stats.text import with_interval
 
 COMMAND = "psi-means"
 ABOUT = """Prints the mean of every row of a report with its interval. Each report is a batch: their
@@ -46,9 +57,8 @@ def parse(arguments: list[str]) -> argparse.Namespace:
     args = parser().parse_args(arguments)
     if not LEAST_LEVEL <= args.level / 100 <= MOST_LEVEL:
         raise PsiError(f"--level is from {100 * LEAST_LEVEL:g} to {100 * MOST_LEVEL:g}")
-    if args.certificate is not None and not args.guaranteed:
-        raise PsiError("--certificate goes with --guaranteed")
     check_paths(args)
+    check_guaranteed(args)
     return args
 
 
@@ -61,57 +71,32 @@ def check_paths(args: argparse.Namespace) -> None:
         return
     if len(args.reports) > 1 or args.net is not None:
         raise PsiError("--paths is of one network, which is given instead of reports")
-    if args.pilot is not None and not args.guaranteed:
-        raise PsiError("--pilot goes with --guaranteed")
-    args.seed, args.first = args.seed or 0, args.first or 0
-    args.count = args.count or PATHS
+    args.seed, args.first, args.count = args.seed or 0, args.first or 0, args.count or PATHS
     check_last_stream(args)
 
 
 def parser() -> Parser:
     """The parser of the arguments."""
     parser = Parser(COMMAND, ABOUT)
-    parser.add_argument(
-        "reports",
-        metavar="REPORT",
-        nargs="+",
-        help="reports of psi report, at least 20, or one folder of psi-many; with --paths a network file",
-    )
-    parser.add_argument(
-        "--level",
-        metavar="PERCENT",
-        type=float,
-        default=95.0,
-        help="the confidence level of the intervals, in per cent; 95 by default",
-    )
-    parser.add_argument(
-        "--net",
-        metavar="NET",
-        help="the network file of the reports, which gives the range of each row; a folder of psi-many has it",
-    )
+    text = "reports of psi report, at least 20, or one folder of psi-many; with --paths a network file"
+    parser.add("reports", "REPORT", text, nargs="+")
+    text = "the confidence level of the intervals, in per cent; 95 by default"
+    parser.add("--level", "PERCENT", text, type=float, default=95.0)
+    text = "the network file of the reports, which gives the range of each row; a folder of psi-many has it"
+    parser.add("--net", "NET", text)
     add_form(parser)
     add_guaranteed(parser)
-    parser.add_argument(
-        "--paths",
-        metavar="STEPS",
-        type=number(0, 2**32 - 2**22),
-        help="draw paths of this number of steps of the network NET, which is given instead of reports",
-    )
+    text = "draw paths of this number of steps of the network NET, which is given instead of reports"
+    parser.add("--paths", "STEPS", text, type=STEPS)
     add_streams(parser, PATHS)
     parser.set_defaults(seed=None, first=None, count=None)
-    parser.add_argument(
-        "--total",
-        metavar="TOTAL",
-        type=number(0, 256),
-        help="with --paths, the number of customers in a closed network; an open one by default",
+    text = "with --paths, the number of customers in a closed network; an open one by default"
+    parser.add("--total", "TOTAL", text, type=TOTAL)
+    text = (
+        "with --paths and --guaranteed, the number of further paths that choose the stakes of bets and aren't counted"
     )
-    parser.add_argument(
-        "--pilot",
-        metavar="N",
-        type=number(0, 2**20),
-        help="with --paths and --guaranteed, the number of further paths that choose the stakes of bets and aren't "
-        "counted; a twentieth of --count by default; with 0 the stakes are those of the range",
-    )
+    more = "a twentieth of --count by default; with 0 the stakes are those of the range"
+    parser.add("--pilot", "N", f"{text}; {more}", type=PILOTS)
     add_program(parser)
     return parser
 
@@ -127,38 +112,25 @@ def head_of(batches: Batches, level: float, kind: str = "intervals") -> str:
 def text_of(batches: Batches, records: list[Record], notes: list[str], level: float) -> str:
     """The answer for people."""
     lines = [*notes, head_of(batches, level)]
-    kinds = {"mean": "queue", f"{REWARD}mean": "reward"}
-    rows: list[tuple[object, ...]] = [("", "", "mean", "", "from", "to", "least", "greatest")]
-    for each in records:
-        if each["item"] not in kinds:
-            continue
-        mean = mean_of(each)
-        extremes = ["-" if each[end] is None else each[end] for end in ("least", "greatest")]
-        shown = figures(mean.mean, mean.half), half_shown(mean), *ends_shown(mean)
-        rows.append((kinds[each["item"]], each["name"], *shown, *extremes))
-    lines += tables.aligned(rows, right=(2, 4, 5, 6, 7))
+    lines += table_of((each for each in records if each["item"] in KINDS), has_extremes=True)
     lines.append("share of the samples that are met at a horizon, or not coupled")
-    shares = [("met at", each["name"], share_of(each)) for each in records if is_horizon(each)]
+    shares = [("met at", each["name"], with_interval(mean_of(each))) for each in records if each["item"] == "horizon"]
     if batches.uncoupled:
-        shares.append(("not coupled", "", share_of(records[0])))
+        shares.append(("not coupled", "", with_interval(mean_of(records[0]))))
     lines += tables.aligned(shares, right=(1,))
-    lines += remarks(batches)
-    return tables.ended(lines)
+    return tables.ended([*lines, *remarks(batches)])
 
 
-def guaranteed_text_of(records: list[Record], notes: list[str], head: str, d: int) -> str:
-    """The answer for people where the intervals carry a theorem; ends are rounded outwards."""
-    from psi_tools.stats.guaranteed import ASSUMED, misses, shown_out
+def in_form(heads: Record, records: list[Record], args: argparse.Namespace, notes: list[str]) -> tuple[str, list[str]]:
+    """The answer for programs, and what is noted beside it."""
+    if args.format == "csv":
+        return tables.as_csv(records), notes
+    return tables.as_json({**heads, "level": args.level / 100, "notes": notes, "rows": records}), notes
 
-    rows: list[tuple[object, ...]] = [("", "", "mean", "from", "to", "least", "greatest")]
-    for each in records:
-        kind = "queue" if each["item"] == "mean" else "reward"
-        mean = mean_of(each)
-        extremes = ["-" if each[end] is None else each[end] for end in ("least", "greatest")]
-        shown = figures(mean.mean, mean.half), *shown_out(mean)
-        rows.append((kind, each["name"], *shown, *extremes))
-    table = tables.aligned(rows, right=(2, 3, 4, 5, 6))
-    return tables.ended([*notes, head, *table, misses(d), ASSUMED])
+
+def heads_of(batches: Batches) -> Record:
+    """How many samples there are, how many are coupled, and in how many batches."""
+    return {"samples": sum(batches.samples), "met": sum(batches.met), "batches": len(batches.samples)}
 
 
 def check_guarantee(batches: Batches, wanted: int) -> None:
@@ -178,24 +150,18 @@ def guaranteed_answer(args: argparse.Namespace, batches: Batches, wanted: int) -
     from psi_tools.stats.guaranteed_rows import guaranteed_means
 
     check_guarantee(batches, wanted)
-    notes = notes_of(batches, wanted)
     rows, records = guaranteed_means(batches, args.level / 100)
     if args.certificate:
-        drawn = {"reports": args.reports}
-        write(args.certificate, tables.as_json(file_of(rows, drawn)).encode())
-    if args.format == "csv":
-        return tables.as_csv(records), [*notes, ASSUMED]
-    if args.format == "json":
-        heads = {"samples": sum(batches.samples), "met": sum(batches.met)}
-        notes += [misses(rows[0].d), ASSUMED]
-        more = {"level": args.level / 100, "notes": notes, "rows": records}
-        return tables.as_json({**heads, "batches": len(batches.samples), **more}), []
-    head = head_of(batches, args.level, "guaranteed intervals")
-    return guaranteed_text_of(records, notes, head, rows[0].d), []
+        write(args.certificate, tables.as_json(file_of(rows, {"reports": args.reports})).encode())
+    notes, remarks = notes_of(batches, wanted), [misses(rows[0].d), ASSUMED]
+    if args.format != "text":
+        return in_form(heads_of(batches), records, args, [*notes, *remarks])
+    table = table_of(records, is_guaranteed=True, has_extremes=True)
+    return tables.ended([*notes, head_of(batches, args.level, "guaranteed intervals"), *table, *remarks]), []
 
 
 def answer(args: argparse.Namespace) -> tuple[str, list[str]]:
-    """The text of the answer."""
+    """The text of the answer, and what is noted beside it."""
     net = Network.read(args.net) if args.net else None
     batches, wanted = read_any(args.reports, net)
     if args.guaranteed:
@@ -206,22 +172,15 @@ def answer(args: argparse.Namespace) -> tuple[str, list[str]]:
             f"there are {count} batches, and {LEAST_BATCHES} are wanted: draw smaller ones, as by "
             f"psi-many .. --block N"
         )
-    level = args.level / 100
-    notes, records = notes_of(batches, wanted), [*records_of(batches, level)]
-    if args.format != "text":
-        notes += batches.carried()
-    if args.format == "csv":
-        return tables.as_csv(records), notes
-    if args.format == "json":
-        heads = {"samples": sum(batches.samples), "met": sum(batches.met), "batches": count}
-        return tables.as_json({**heads, "level": level, "notes": notes, "rows": records}), notes
-    return text_of(batches, records, notes, args.level), []
+    notes, records = notes_of(batches, wanted), [*records_of(batches, args.level / 100)]
+    if args.format == "text":
+        return text_of(batches, records, notes, args.level), []
+    return in_form(heads_of(batches), records, args, [*notes, *batches.carried()])
 
 
 def work(arguments: list[str]) -> int:
     args = parse(arguments)
     check_writable(args.out)
-    check_writable(args.certificate, "--certificate")
     if args.paths is None:
         text, notes = answer(args)
     else:

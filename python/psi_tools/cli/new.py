@@ -79,18 +79,18 @@ def some(read: Callable[[str], Value]) -> Callable[[str], list[Value]]:
 
 
 PLACES = number(1, 65_535)
-# For each option its type, its form and its help.
+# For each option, which is called by its first word, its type, its form and its help.
 OPTIONS: dict[str, tuple[Callable[[str], Any], str, str]] = {
     "arrival": (rate, "R", "the rate at which customers come"),
-    "arrivals": (some(rate), "R,R", "the rates at which the classes come; one stands for both"),
+    "arrival of each": (some(rate), "R,R", "the rates at which the classes come; one stands for both"),
     "service": (rate, "R", "the rate at which one server serves"),
-    "services": (some(rate), "R,..", "the rates of the queues' servers"),
+    "service of each": (some(rate), "R,..", "the rates of the queues' servers"),
     "servers": (number(1, 1_023), "N", "how many servers there are"),
-    "few": (number(1, 64), "N", "how many servers there are, at most 64"),
-    "servers-each": (some(number(1, 64)), "N,..", "the servers of each queue; one stands for all"),
-    "lines": (some(number(1, 64)), "N,..", "the lines of each group"),
+    "servers up to 64": (number(1, 64), "N", "how many servers there are, at most 64"),
+    "servers of each": (some(number(1, 64)), "N,..", "the servers of each queue; one stands for all"),
+    "servers of groups": (some(number(1, 64)), "N,..", "the lines of each group"),
     "places": (PLACES, "N", "how many customers there is room for, those in service too"),
-    "places-each": (some(PLACES), "N,..", "the places of each queue; one stands for all"),
+    "places of each": (some(PLACES), "N,..", "the places of each queue; one stands for all"),
     "patience": (rate, "R", "the rate at which each customer who waits gives up"),
     "size": (number(2, 65_535), "N", "how many come together"),
     "customers": (number(1, 256), "N", "how many customers go round"),
@@ -100,80 +100,51 @@ OPTIONS: dict[str, tuple[Callable[[str], Any], str, str]] = {
     "quick": (share, "P", "the probability of a quick service"),
     "again": (share, "P", "the probability that a part goes back"),
 }
-# What an option is called on the command line, where its type differs from that of its name.
-CALLED = {
-    "arrivals": "arrival",
-    "services": "service",
-    "few": "servers",
-    "servers-each": "servers",
-    "lines": "servers",
-    "places-each": "places",
-}
 KINDS = {
     "mm1k": (models.single_server, ("arrival", "service", "places")),
     "mmck": (models.several_servers, ("arrival", "service", "servers", "places")),
     "erlang-loss": (models.erlang_loss, ("arrival", "service", "servers")),
     "abandonment": (models.abandonment, ("arrival", "service", "servers", "places", "patience")),
-    "batch": (models.batches, ("arrival", "size", "service", "few", "places")),
-    "line": (models.line, ("arrival", "services", "places-each", "servers-each?", "lost!")),
-    "overflow": (models.overflow, ("arrival", "service", "lines")),
-    "shortest-queue": (models.shortest_queue, ("arrival", "services", "places")),
-    "closed": (models.closed, ("services", "customers")),
+    "batch": (models.batches, ("arrival", "size", "service", "servers up to 64", "places")),
+    "line": (models.line, ("arrival", "service of each", "places of each", "servers of each?", "lost!")),
+    "overflow": (models.overflow, ("arrival", "service", "servers of groups")),
+    "shortest-queue": (models.shortest_queue, ("arrival", "service of each", "places")),
+    "closed": (models.closed, ("service of each", "customers")),
     "breakdowns": (models.breakdowns, ("arrival", "service", "places", "break", "repair")),
-    "priority": (models.priority, ("arrivals", "services", "places-each")),
-    "fork-join": (models.fork_join, ("arrival", "services", "places-each")),
+    "priority": (models.priority, ("arrival of each", "service of each", "places of each")),
+    "fork-join": (models.fork_join, ("arrival", "service of each", "places of each")),
     "erlang-service": (models.erlang_service, ("arrival", "service", "phases", "places")),
-    "hyperexponential": (models.hyperexponential, ("arrival", "services", "quick", "places")),
-    "rework": (models.rework, ("arrival", "services", "again", "places-each")),
+    "hyperexponential": (models.hyperexponential, ("arrival", "service of each", "quick", "places")),
+    "rework": (models.rework, ("arrival", "service of each", "again", "places of each")),
 }
 
 
 def parser() -> Parser:
     """The parser of the arguments, with a subparser for each kind."""
     parser = Parser(COMMAND, ABOUT)
-    kinds = parser.add_subparsers(metavar="KIND", dest="kind", parser_class=KindParser, help="what is modelled:")
+    kinds = parser.add_subparsers(metavar="KIND", dest="kind", help="what is modelled:")
     for name, (model, options) in KINDS.items():
         kind = kinds.add_parser(name, help=model.__doc__)
         for option in options:
             add(kind, option)
-        kind.add_argument("-o", "--out", metavar="FILE", help="the file that is written; standard output by default")
-        kind.add_argument("--psi", metavar="PSI", help="the built program, which has to take the file")
-        kind.add_argument(
-            "--anyway", action="store_true", help="write the file though a rate is off by more than 1 %% of itself"
-        )
+        kind.add("-o --out", "FILE", "the file that is written; standard output by default")
+        kind.add("--psi", "PSI", "the built program, which has to take the file")
+        kind.flag("--anyway", "write the file though a rate is off by more than 1 %% of itself")
     return parser
 
 
-class KindParser(Parser):
-    """The parser of the arguments after a kind."""
-
-    def __init__(self, **keys: Any) -> None:
-        command = keys.pop("prog")
-        super().__init__(command, keys.pop("description", None), **keys)
-
-
-def add(kind: argparse.ArgumentParser, option: str) -> None:
+def add(kind: Parser, option: str) -> None:
     """Adds an option to a kind; one with a question mark may be absent, and one with an exclamation
     mark has no value."""
     if option.endswith("!"):
-        kind.add_argument(
-            f"--{option[:-1]}",
-            action="store_true",
-            help="who finds the next queue full is lost; without it it stays (blocking)",
-        )
+        kind.flag(f"--{option[:-1]}", "who finds the next queue full is lost; without it it stays (blocking)")
         return
     name = option.removesuffix("?")
-    read, form, message = OPTIONS[name]
+    read, form, text = OPTIONS[name]
     keys = {"dest": "breaks"} if name == "break" else {}
     is_wanted = name == option
-    kind.add_argument(
-        f"--{CALLED.get(name, name)}",
-        type=read,
-        metavar=form,
-        required=is_wanted,
-        help=message + ("" if is_wanted else "; one by default"),
-        **keys,
-    )
+    text += "" if is_wanted else "; one by default"
+    kind.add(f"--{name.split()[0]}", form, text, type=read, required=is_wanted, **keys)
 
 
 def comment_of(made: models.Made, factor: Fraction, off: Fraction) -> str:

@@ -32,13 +32,11 @@ Python. A log of more than 20,000,000 bytes is refused."""
 def parser() -> Parser:
     """The reader of the arguments."""
     parser = Parser(COMMAND, ABOUT)
-    parser.add_argument("net", metavar="NET", help="a network file")
-    parser.add_argument("streams", metavar="SEED STREAM", nargs="*", help="the sample's seed and stream, 0 to 2^64 - 1")
-    parser.add_argument(
-        "--log", metavar="FILE", help="a log of `psi sample NET SEED STREAM log`, instead of SEED STREAM"
-    )
-    parser.add_argument("-o", "--out", metavar="FILE", required=True, help="the page that is written, one HTML file")
-    parser.add_argument("-t", "--title", metavar="TITLE", default="", help="a title instead of the file's name")
+    parser.add("net", "NET", "a network file")
+    parser.add("streams", "SEED STREAM", "the sample's seed and stream, 0 to 2^64 - 1", nargs="*")
+    parser.add("--log", "FILE", "a log of `psi sample NET SEED STREAM log`, instead of SEED STREAM")
+    parser.add("-o --out", "FILE", "the page that is written, one HTML file", required=True)
+    parser.add("-t --title", "TITLE", "a title instead of the file's name", default="")
     add_psi(parser)
     return parser
 

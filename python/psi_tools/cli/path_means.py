@@ -3,6 +3,7 @@
 import argparse
 
 from psi_tools.arguments import GREATEST
+from psi_tools.cli.means import COMMAND, in_form
 from psi_tools.draw.blocks import digest_of
 from psi_tools.draw.paths import paths_of
 from psi_tools.draw.program import Program
@@ -14,12 +15,10 @@ from psi_tools.io.tables import Record
 from psi_tools.io.terminal import Progress
 from psi_tools.model.networks import Network, checked
 from psi_tools.stats.intervals import LEAST_BATCHES, reading_ahead
-from psi_tools.stats.means import mean_of
+from psi_tools.stats.means import table_of
 from psi_tools.stats.paths import Paths, paths_of_rows, records_of
-from psi_tools.stats.text import ends_shown, figures, half_shown, not_coupled
+from psi_tools.stats.text import not_coupled
 
-COMMAND = "psi-means"
-KINDS = {"mean": "queue", "reward-mean": "reward", "moved-rate": "moved", "chosen-rate": "chosen"}
 RATES = "rates of events, in the unit of the file: how often one changes the state, and how often it is chosen"
 
 
@@ -48,33 +47,10 @@ def head_of(paths: Paths, level: float, kind: str = "intervals") -> str:
 
 def text_of(paths: Paths, records: list[Record], level: float) -> str:
     """The answer for people."""
-    lines = [*notes_of(paths), head_of(paths, level)]
-    means: list[tuple[object, ...]] = [("", "", "mean", "", "from", "to")]
-    rates: list[tuple[object, ...]] = [("", "", "rate", "", "from", "to")]
-    for each in records:
-        mean = mean_of(each)
-        rows = rates if each["item"].endswith("rate") else means
-        rows.append(
-            (KINDS[each["item"]], each["name"], figures(mean.mean, mean.half), half_shown(mean), *ends_shown(mean))
-        )
-    lines += tables.aligned(means, right=(2, 4, 5))
-    if paths.steps:
-        lines += [RATES, *tables.aligned(rates, right=(2, 4, 5))]
-    lines += paths.carried()
-    return tables.ended(lines)
-
-
-def guaranteed_text_of(paths: Paths, records: list[Record], level: float, remarks: list[str]) -> str:
-    """The answer for people where the intervals carry a theorem; ends are rounded outwards."""
-    from psi_tools.stats.guaranteed import shown_out
-
-    rows: list[tuple[object, ...]] = [("", "", "mean", "from", "to")]
-    for each in records:
-        mean = mean_of(each)
-        rows.append((KINDS[each["item"]], each["name"], figures(mean.mean, mean.half), *shown_out(mean)))
-    table = tables.aligned(rows, right=(2, 3, 4))
-    lines = [*notes_of(paths), head_of(paths, level, "guaranteed intervals"), *table, *remarks]
-    return tables.ended(lines)
+    means, rates = ([each for each in records if each["item"].endswith("rate") == is_rate] for is_rate in (False, True))
+    lines = [*notes_of(paths), head_of(paths, level), *table_of(means)]
+    lines += [RATES, *table_of(rates, "rate")] if rates else []
+    return tables.ended([*lines, *paths.carried()])
 
 
 def guaranteed_answer(psi: Program, net: Network, args: argparse.Namespace, paths: Paths) -> tuple[str, list[str]]:
@@ -96,17 +72,15 @@ def guaranteed_answer(psi: Program, net: Network, args: argparse.Namespace, path
         write(args.certificate, tables.as_json(file_of(rows, {**of, **more})).encode())
     ways: list[str] = next((row.ways() for row in rows if row.ways()), [])
     remarks = [*ways, misses(rows[0].d), ASSUMED]
-    if args.format == "text":
-        return guaranteed_text_of(paths, records, args.level, remarks), []
-    return in_form(paths, records, args, [*notes_of(paths), *remarks])
+    if args.format != "text":
+        return in_form(heads_of(paths), records, args, [*notes_of(paths), *remarks])
+    head, table = head_of(paths, args.level, "guaranteed intervals"), table_of(records, is_guaranteed=True)
+    return tables.ended([*notes_of(paths), head, *table, *remarks]), []
 
 
-def in_form(paths: Paths, records: list[Record], args: argparse.Namespace, notes: list[str]) -> tuple[str, list[str]]:
-    """The answer for programs, and what is to be noted beside it."""
-    if args.format == "csv":
-        return tables.as_csv(records), notes
-    heads = {"paths": paths.count, "coupled": len(paths.horizons), "steps": paths.steps}
-    return tables.as_json({**heads, "level": args.level / 100, "notes": notes, "rows": records}), notes
+def heads_of(paths: Paths) -> Record:
+    """How many paths there are, how many are coupled, and of how many steps."""
+    return {"paths": paths.count, "coupled": len(paths.horizons), "steps": paths.steps}
 
 
 def answer(args: argparse.Namespace) -> tuple[str, list[str]]:
@@ -123,4 +97,4 @@ def answer(args: argparse.Namespace) -> tuple[str, list[str]]:
     records = records_of(paths, args.level / 100)
     if args.format == "text":
         return text_of(paths, records, args.level), []
-    return in_form(paths, records, args, [*notes_of(paths), *paths.carried()])
+    return in_form(heads_of(paths), records, args, [*notes_of(paths), *paths.carried()])

@@ -8,7 +8,7 @@ from collections.abc import Callable
 from typing import TYPE_CHECKING, Any, TypeVar
 
 from psi_tools.arguments import GREATEST, NUMBER
-from psi_tools.cli.options import Parser, add_psi, number
+from psi_tools.cli.options import STEPS, Parser, add_psi
 from psi_tools.draw.program import Program
 from psi_tools.draw.reports import as_printed, read_folder, read_report
 from psi_tools.errors import InputError, PsiError, reason, require
@@ -31,7 +31,7 @@ Value = TypeVar("Value")
 
 COMMAND = "psi-plot"
 # The steps of a path, and the queues that are drawn of it at most, where the call names none.
-STEPS, MOST_QUEUES = 100, 16
+USUAL_STEPS, MOST_QUEUES = 100, 16
 # The most bytes that are read of a file: one more than a log may have.
 LONGEST, MOST_REPORTS, FORMATS = 33_554_433, 8, ("svg", "png", "pdf")
 ABOUT = """Draws what psi prints, and forward runs, as pictures for a lecture or a page.
@@ -61,36 +61,18 @@ drawn."""
 def parser() -> Parser:
     """The parser of the arguments."""
     parser = Parser(COMMAND, ABOUT)
-    parser.add_argument(
-        "-o", "--out", metavar="FILE", default="", help="the picture: SVG, PNG or PDF, by the ending of its name"
-    )
-    parser.add_argument("-t", "--title", metavar="TITLE", default="", help="a title in place of the picture's own")
+    parser.add("-o --out", "FILE", "the picture: SVG, PNG or PDF, by the ending of its name", default="")
+    parser.add("-t --title", "TITLE", "a title in place of the picture's own", default="")
     add_psi(parser, ", of which forward, past, path and network ask")
-    parser.add_argument("--legend", action="store_true", help="of network: explain the arrows below the picture")
-    parser.add_argument("--tables", action="store_true", help="of network: print the tables of choices by an index")
-    parser.add_argument(
-        "--queue",
-        metavar="QUEUE",
-        help="of past and path: the queue that is drawn; if not given, of past all customers, and of path each queue",
-    )
-    parser.add_argument(
-        "--steps",
-        metavar="N",
-        type=number(0, 2**32 - 2**22),
-        help="of path: its steps; 100 if not given, 4,096 at most",
-    )
-    parser.add_argument(
-        "--new-words", action="store_true", help="of past: new random words for each run, the wrong way"
-    )
-    parser.add_argument(
-        "what", nargs="?", metavar="WHAT", help="coupling, report, exact, forward, past, path or network"
-    )
-    parser.add_argument(
-        "files",
-        nargs="*",
-        metavar="FILE",
-        help="what psi has printed; of forward NET and STEPS, of past and path NET SEED STREAM",
-    )
+    parser.flag("--legend", "of network: explain the arrows below the picture")
+    parser.flag("--tables", "of network: print the tables of choices by an index")
+    text = "of past and path: the queue that is drawn; if not given, of past all customers, and of path each queue"
+    parser.add("--queue", "QUEUE", text)
+    parser.add("--steps", "N", "of path: its steps; 100 if not given, 4,096 at most", type=STEPS)
+    parser.flag("--new-words", "of past: new random words for each run, the wrong way")
+    parser.add("what", "WHAT", "coupling, report, exact, forward, past, path or network", nargs="?")
+    text = "what psi has printed; of forward NET and STEPS, of past and path NET SEED STREAM"
+    parser.add("files", "FILE", text, nargs="*")
     return parser
 
 
@@ -206,7 +188,7 @@ def path(args: argparse.Namespace, path: str, *streams: str) -> "tuple[Stationar
     from psi_tools.plot.path import path_of
 
     seed, stream = streams_of("path", streams)
-    found = path_of(args.psi, path, seed, stream, STEPS if args.steps is None else args.steps)
+    found = path_of(args.psi, path, seed, stream, USUAL_STEPS if args.steps is None else args.steps)
     queues = found.past.queues
     require(args.queue is None or args.queue in queues, f"{path}: there is no queue {args.queue}")
     require(args.queue is not None or len(queues) <= MOST_QUEUES, f"{path}: of more than 16 queues --queue names one")

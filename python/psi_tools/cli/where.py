@@ -22,7 +22,7 @@ The status is 0 where psi accepts the file, and 3, as that of psi check, where i
 def parser() -> Parser:
     """The parser of the arguments."""
     parser = Parser(COMMAND, ABOUT)
-    parser.add_argument("net", metavar="NET", help="a network file")
+    parser.add("net", "NET", "a network file")
     add_psi(parser)
     add_form(parser, ("text", "json"))
     return parser

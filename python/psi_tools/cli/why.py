@@ -2,8 +2,7 @@
 
 import argparse
 
-from psi_tools.arguments import GREATEST
-from psi_tools.cli.options import Parser, add_form, add_psi, number
+from psi_tools.cli.options import STREAM, Parser, add_form, add_psi, number
 from psi_tools.draw.diagnosis import Findings, findings_of
 from psi_tools.draw.program import Program
 from psi_tools.io import tables
@@ -31,28 +30,12 @@ BALANCE = 0.9, 1.1
 def parser() -> Parser:
     """The parser of the arguments."""
     parser = Parser(COMMAND, ABOUT)
-    parser.add_argument("net", metavar="NET", help="a network file")
-    parser.add_argument(
-        "--seed",
-        metavar="SEED",
-        type=number(0, GREATEST),
-        default=0,
-        help="the seed of the streams that are tried; 0 by default",
-    )
-    parser.add_argument(
-        "--count",
-        metavar="N",
-        type=number(1, 65_536),
-        default=STREAMS,
-        help=f"the number of streams that are tried, from 0 on; {STREAMS} by default",
-    )
-    parser.add_argument(
-        "--seconds",
-        metavar="N",
-        type=number(1, 86_400),
-        default=SECONDS,
-        help=f"the number of seconds after which no longer limit is tried; {SECONDS} by default",
-    )
+    parser.add("net", "NET", "a network file")
+    parser.add("--seed", "SEED", "the seed of the streams that are tried; 0 by default", type=STREAM, default=0)
+    text = f"the number of streams that are tried, from 0 on; {STREAMS} by default"
+    parser.add("--count", "N", text, type=number(1, 65_536), default=STREAMS)
+    text = f"the number of seconds after which no longer limit is tried; {SECONDS} by default"
+    parser.add("--seconds", "N", text, type=number(1, 86_400), default=SECONDS)
     add_psi(parser)
     add_form(parser, ("text", "json"))
     return parser

@@ -1,12 +1,14 @@
-"""The means of batches as rows of a table, with their intervals and remarks."""
+"""The means of batches and of paths as rows of a table, with their intervals and remarks."""
 
-from collections.abc import Iterator
-from typing import Any
+from collections.abc import Iterable, Iterator
 
-from psi_tools.io.tables import Record
+from psi_tools.io.tables import Record, aligned
 from psi_tools.stats.batches import Batches
 from psi_tools.stats.intervals import Mean
-from psi_tools.stats.text import with_interval
+from psi_tools.stats.text import ends_shown, figures, half_shown
+
+# The rows that are means or rates, and what they are called for people.
+KINDS = {"mean": "queue", "reward-mean": "reward", "moved-rate": "moved", "chosen-rate": "chosen"}
 
 
 def notes_of(batches: Batches, wanted: int) -> list[str]:
@@ -45,19 +47,29 @@ def record(item: str, name: str, mean: Mean, least: int | None, greatest: int | 
     return {"item": item, "name": name, **ends, "least": least, "greatest": greatest}
 
 
-def mean_of(each: dict[str, Any]) -> Mean:
+def mean_of(each: Record) -> Mean:
     """The mean of a row of the answer."""
     ends = None if each["half"] is None else (each["low"], each["high"])
     return Mean(each["mean"], each["half"], ends)
 
 
-def is_horizon(each: Record) -> bool:
-    return bool(each["item"] == "horizon")
+def table_of(
+    records: Iterable[Record], head: str = "mean", is_guaranteed: bool = False, has_extremes: bool = False
+) -> list[str]:
+    """The lines of some rows for people. Guaranteed ends are rounded outwards, and have no half between them."""
+    extremes = ("least", "greatest") if has_extremes else ()
+    halves = () if is_guaranteed else ("",)
+    rows: list[tuple[object, ...]] = [("", "", head, *halves, "from", "to", *extremes)]
+    for each in records:
+        mean, values = mean_of(each), ("-" if each[end] is None else each[end] for end in extremes)
+        if is_guaranteed:
+            from psi_tools.stats.guaranteed import shown_out
 
-
-def share_of(each: dict[str, Any]) -> str:
-    """The share of a row as text."""
-    return with_interval(mean_of(each))
+            shown: tuple[str, ...] = shown_out(mean)
+        else:
+            shown = half_shown(mean), *ends_shown(mean)
+        rows.append((KINDS[each["item"]], each["name"], figures(mean.mean, mean.half), *shown, *values))
+    return aligned(rows, right=(2, *range(3 + len(halves), 8)))
 
 
 def remarks(batches: Batches) -> list[str]:
