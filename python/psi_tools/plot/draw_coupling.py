@@ -5,7 +5,6 @@ from typing import Any
 
 import matplotlib.colors
 import matplotlib.patches
-import matplotlib.ticker
 import numpy
 
 from psi_tools.plot import style
@@ -78,10 +77,9 @@ def draw_queue(axes: Any, log: Coupling, queue: int) -> None:
     few = 4 if columns_of(len(log.names)) == 1 else 2
     if high - low <= few:
         axes.set_yticks(range(low, high + 1))
+        axes.yaxis.set_major_formatter(lambda number, _: style.whole(round(number)))
     else:
-        locator = matplotlib.ticker.MaxNLocator(few, integer=True, steps=style.STEPS)
-        axes.yaxis.set_major_locator(locator)
-    axes.yaxis.set_major_formatter(lambda number, _: style.whole(round(number)))
+        style.whole_ticks(axes.yaxis, few, steps=style.STEPS)
     name, size = style.fitted(log.names[queue], NAME_WIDTHS[columns_of(len(log.names))], 8)
     axes.set_title(name, loc="left", pad=2, fontsize=size)
 
@@ -98,8 +96,7 @@ def draw_band(axes: Any, log: Coupling, queue: int, kind: Kind) -> None:
     half, width = one_state if kind == Kind.ONE else (0.5, 0.5)
     face = FAINT if kind == Kind.SET else COLOURS[kind]
     band = axes.stairs(highs + half, log.edges(), baseline=lows - half, fill=True)
-    band.set(facecolor=face, edgecolor=COLOURS[kind], linewidth=width)
-    band.set_gid(f"band-{queue}-{kind.name.lower()}")
+    band.set(facecolor=face, edgecolor=COLOURS[kind], linewidth=width, gid=f"band-{queue}-{kind.name.lower()}")
 
 
 def draw_shades(axes: Any, log: Coupling, queue: int) -> None:
@@ -118,18 +115,11 @@ def draw_shades(axes: Any, log: Coupling, queue: int) -> None:
     dots = dots.repeat(-(-wide_dots // width // columns_of(len(log.names))), 1)
     # The last bin may have fewer times than the others, so the picture goes beyond time zero.
     end = log.edges()[0] + log.width * width
+    extent = log.edges()[0], end, low - 0.5, high + 0.5
     image = axes.imshow(
-        dots,
-        SHADES,
-        vmin=0,
-        vmax=1,
-        origin="lower",
-        aspect="auto",
-        interpolation="none",
-        extent=(log.edges()[0], end, low - 0.5, high + 0.5),
-        zorder=1.5,
+        dots, SHADES, vmin=0, vmax=1, origin="lower", aspect="auto", interpolation="none", extent=extent
     )
-    image.set_gid(f"shades-{queue}")
+    image.set(zorder=1.5, gid=f"shades-{queue}")
 
 
 def draw_states(axes: Any, log: Coupling) -> None:
@@ -138,8 +128,8 @@ def draw_states(axes: Any, log: Coupling) -> None:
     for kind in reversed(Kind):
         counts = [float(each.states) if each.kind == kind else math.nan for each in log.bins]
         if not numpy.isnan(counts).all():
-            line = axes.stairs(counts, edges, baseline=None, color=COLOURS[kind], lw=1.6)
-            line.set_gid(f"states-{kind.name.lower()}")
+            gid = f"states-{kind.name.lower()}"
+            axes.stairs(counts, edges, baseline=None, color=COLOURS[kind], lw=1.6, gid=gid)
     axes.set_yscale("log")
     most = float(max(each.states for each in log.bins))
     axes.set_ylim(0.7, max(most, 2) ** 1.12)
@@ -150,23 +140,13 @@ def draw_states(axes: Any, log: Coupling) -> None:
     axes.set_axisbelow(True)
     axes.grid(axis="y", lw=0.3, color="#CCCCCC")
     mark_met(axes, log, "states")
-    is_late = log.met > -log.horizon / 2
-    axes.annotate(
-        f"one state from {style.whole(log.met)} on",
-        (log.met - 0.5, max(most, 2) ** 1.12),
-        xytext=(-4 if is_late else 4, -2),
-        textcoords="offset points",
-        ha="right" if is_late else "left",
-        va="top",
-        color=style.VERMILION,
-        fontsize=8,
-    )
+    place, text = (log.met - 0.5, max(most, 2) ** 1.12), f"one state from {style.whole(log.met)} on"
+    style.put_beside(axes, place, text, log.met > -log.horizon / 2, color=style.VERMILION, fontsize=8)
 
 
 def mark_met(axes: Any, log: Coupling, name: object) -> None:
     """The time from which on one state is left, at the beginning of its step."""
-    line = axes.axvline(log.met - 0.5, color=style.VERMILION, lw=0.9, ls=(0, (3, 2)), zorder=3)
-    line.set_gid(f"met-{name}")
+    axes.axvline(log.met - 0.5, color=style.VERMILION, lw=0.9, ls=(0, (3, 2)), zorder=3, gid=f"met-{name}")
 
 
 def label_times(axes: Any, log: Coupling, parts: int, is_labelled: bool) -> None:

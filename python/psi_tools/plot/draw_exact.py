@@ -59,20 +59,11 @@ def draw_images(axes: Any, found: Shrinking) -> None:
     if found.constant is not None:
         points[found.constant] = 1
     times = sorted(points)
-    (line,) = axes.plot(times, [points[time] for time in times], color=style.BLUE, lw=1.2, zorder=2)
-    line.set_gid("line")
-    times, sizes = [*found.images], [*found.images.values()]
-    (marks,) = axes.plot(times, sizes, "o", color=style.BLUE, ms=5, zorder=3)
-    marks.set_gid("images")
+    axes.plot(times, [points[time] for time in times], color=style.BLUE, lw=1.2, zorder=2, gid="line")
+    axes.plot([*found.images], [*found.images.values()], "o", color=style.BLUE, ms=5, zorder=3, gid="images")
     axes.axhline(found.states, color=style.GREY, lw=0.9, ls=(0, (1, 2)))
-    axes.annotate(
-        f"all {style.whole(found.states)} states",
-        (0.85, found.states),
-        xytext=(3, 6),
-        textcoords="offset points",
-        color=style.GREY,
-        fontsize=7.5,
-    )
+    text, place = f"all {style.whole(found.states)} states", (0.85, found.states)
+    axes.annotate(text, place, xytext=(3, 6), textcoords="offset points", color=style.GREY, fontsize=7.5)
 
 
 def mark_horizons(axes: Any, found: Shrinking) -> None:
@@ -90,16 +81,6 @@ def mark_horizons(axes: Any, found: Shrinking) -> None:
 def mark(axes: Any, found: Shrinking, time: int, what: str, name: str, place: int) -> None:
     """A line at a horizon, and what it is beside it."""
     colour, dashes = ((style.VERMILION, (0, (4, 2))), (style.BLACK, (0, (1, 1))))[place]
-    line = axes.axvline(time, color=colour, lw=1.3, ls=dashes, zorder=1.5)
-    line.set_gid(name)
-    is_late = time**2 > found.longest()
+    axes.axvline(time, color=colour, lw=1.3, ls=dashes, zorder=1.5, gid=name)
     text = "\n".join(textwrap.wrap(f"{what}: {style.whole(time)} steps", LABEL_WIDTH))
-    axes.annotate(
-        text,
-        (time, top(found)),
-        xytext=(-4 if is_late else 4, -2 - 12 * place),
-        textcoords="offset points",
-        ha="right" if is_late else "left",
-        va="top",
-        color=colour,
-    )
+    style.put_beside(axes, (time, top(found)), text, time**2 > found.longest(), 2 + 12 * place, color=colour)

@@ -3,7 +3,6 @@
 from typing import Any
 
 import matplotlib.colors
-import matplotlib.ticker
 import numpy
 
 from psi_tools.plot import style
@@ -45,8 +44,7 @@ def draw_ends(axes: Any, found: Forward, steps: int, ends: Any) -> None:
     numbers = numpy.arange(len(found.law))
     for begin, shares in enumerate(ends):
         colour = BEGINNINGS(begin / max(1, len(ends) - 1))
-        (line,) = axes.plot(numbers, shares, color=colour, lw=1, zorder=2)
-        line.set_gid(f"after-{steps}-from-{begin}")
+        axes.plot(numbers, shares, color=colour, lw=1, zorder=2, gid=f"after-{steps}-from-{begin}")
     draw_law(axes, found, f"law-{steps}")
     axes.set_title(f"after {style.whole(steps)} steps: off by at most {off(found.distance(steps))}")
 
@@ -64,12 +62,11 @@ def draw_met(axes: Any, found: Forward) -> None:
 
 def draw_law(axes: Any, found: Forward, name: str) -> None:
     """The law that is wanted, and what the axes are."""
-    (law,) = axes.plot(found.law, "_", color=style.BLACK, ms=9, mew=1.6, zorder=3)
-    law.set_gid(name)
+    axes.plot(found.law, "_", color=style.BLACK, ms=9, mew=1.6, zorder=3, gid=name)
     axes.set_xlabel(f"customers in {style.printable(found.name)}", parse_math=False)
     axes.set_ylabel("probability")
     axes.set_xlim(-0.6, len(found.law) - 0.4)
-    axes.xaxis.set_major_locator(matplotlib.ticker.MaxNLocator(11, integer=True))
+    style.whole_ticks(axes.xaxis, 11)
     axes.set_ylim(0, None)
 
 

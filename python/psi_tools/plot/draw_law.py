@@ -2,7 +2,6 @@
 
 from typing import Any
 
-import matplotlib.ticker
 import numpy
 
 from psi_tools.io.tables import Record
@@ -23,7 +22,7 @@ def draw_law(law: Law, title: str) -> style.Figure:
     draw_probabilities(upper, law, records, values)
     draw_shares(lower, law, records, values)
     lower.set_xlabel("customers" if law.what == "customers" else f"value of {law.name}")
-    lower.xaxis.set_major_locator(matplotlib.ticker.MaxNLocator(10, integer=True))
+    style.whole_ticks(lower.xaxis, 10)
     return figure
 
 
@@ -36,16 +35,8 @@ def draw_probabilities(axes: Any, law: Law, records: list[Record], values: Any) 
         bars = axes.bar(values, shares, 0.8, color=style.SKY, zorder=2)
         for bar, value in zip(bars, values):
             bar.set_gid(f"probability-{value}")
-        axes.errorbar(
-            values,
-            shares,
-            [shares - lows, highs - shares],
-            fmt="none",
-            ecolor=style.BLACK,
-            elinewidth=0.8,
-            capsize=2 if len(values) < 60 else 0,
-            zorder=3,
-        )
+        size, sides = 2 if len(values) < 60 else 0, [shares - lows, highs - shares]
+        axes.errorbar(values, shares, sides, fmt="none", ecolor=style.BLACK, elinewidth=0.8, capsize=size, zorder=3)
     else:
         axes.fill_between(values, lows, highs, color=style.SKY, step="mid", lw=0, zorder=2)
         axes.plot(values, shares, color=style.BLUE, lw=0.8, drawstyle="steps-mid", zorder=3)
@@ -73,8 +64,7 @@ def draw_shares(axes: Any, law: Law, records: list[Record], values: Any) -> None
         for key in ("at_most", "at_most_low", "at_most_high")
     )
     axes.fill_between(ends, low, high, step="post", color=style.SKY, lw=0, alpha=0.6)
-    (line,) = axes.step(ends, shares, where="post", color=style.BLUE, lw=1.2)
-    line.set_gid("at-most")
+    axes.step(ends, shares, where="post", color=style.BLUE, lw=1.2, gid="at-most")
     quantiles = [*law.quantiles((0.5, 0.9, 0.95, 0.99))]
     for share, value, *_ in quantiles:
         axes.plot([value], [share], "o", color=style.VERMILION, ms=3.5, zorder=4)

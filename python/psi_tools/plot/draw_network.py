@@ -12,7 +12,7 @@ import matplotlib.path
 
 from psi_tools.plot import style
 from psi_tools.plot.network_folding import folded
-from psi_tools.plot.network_layout import Curve, Layout, Point, laid_out, size_of
+from psi_tools.plot.network_layout import Curve, Point, laid_out, size_of
 from psi_tools.plot.network_scene import Arrow, NetworkPicture, Node, QueueBox, Scene, SceneArrow, SceneNode, scene_of
 
 # The most places of a waiting line, and the most servers, that are drawn one by one.
@@ -34,6 +34,8 @@ DASHES = {
     Arrow.GUARDED: (0, (1, 1)),
     Arrow.READ: (0, (1, 2)),
 }
+# How wide arrows are whose lines are not thin.
+WIDTHS = {Arrow.MOVE: 1.5}
 MEANINGS = {
     Arrow.MOVE: "where customers go, or go first",
     Arrow.OVERFLOW: "overflow, by its number, where all earlier choices are full",
@@ -49,37 +51,14 @@ EDGE, TITLE_HEIGHT, LEGEND_LINE = 0.18, 0.42, 0.18
 NOTE_SIZE, MOST_LETTERS, AFTER_SAMPLE = 8, 120, 0.38
 
 
-class Canvas:
-    """The axes of a picture, in inches, and the pens that draw on them."""
+def put_line(axes: Any, points: list[Point], colour: str, width: float, **more: Any) -> None:
+    """A line through points, in inches as all places on the axes of a picture."""
+    axes.add_line(matplotlib.lines.Line2D(*zip(*points), color=colour, lw=width, **more))
 
-    def __init__(self, axes: Any) -> None:
-        self.axes = axes
 
-    def line(self, points: list[Point], gid: str, colour: str = INK, width: float = 0.9) -> None:
-        """A line through points."""
-        across, up = zip(*points)
-        drawn = matplotlib.lines.Line2D(across, up, color=colour, lw=width, solid_capstyle="butt")
-        drawn.set_gid(gid)
-        self.axes.add_line(drawn)
-
-    def patch(self, patch: Any, gid: str) -> None:
-        """A shape."""
-        patch.set_gid(gid)
-        self.axes.add_patch(patch)
-
-    def text(self, place: Point, text: str, size: float, colour: str = INK, **more: Any) -> None:
-        """A text, never read as a formula; it covers what is below it."""
-        self.axes.text(
-            *place,
-            style.printable(text),
-            fontsize=size,
-            color=colour,
-            parse_math=False,
-            ha=more.pop("ha", "center"),
-            va=more.pop("va", "center"),
-            zorder=6,
-            **more,
-        )
+def put_text(axes: Any, place: Point, text: str, size: float, colour: str = INK, **more: Any) -> None:
+    """A text around a place; it covers what is below it."""
+    style.put(axes, place, style.printable(text), size, colour, ha="center", va="center", zorder=6, **more)
 
 
 @style.styled
@@ -100,157 +79,130 @@ def draw_network(picture: NetworkPicture, title: str = "") -> Any:
     left = (layout.size[0] - width) / 2
     axes.set_xlim(left, left + width)
     axes.set_ylim(low, top)
-    canvas = Canvas(axes)
     if title:
-        canvas.text((left + width / 2, top - TITLE_HEIGHT / 2), title, 10, weight="bold")
-    draw_scene(canvas, scene, layout)
+        put_text(axes, (left + width / 2, top - TITLE_HEIGHT / 2), title, 10, weight="bold")
+    for number, (arrow, curve) in enumerate(zip(scene.arrows, layout.curves)):
+        draw_arrow(axes, arrow, curve, f"arrow-{number}-{arrow.kind.value}")
+    for node in scene.nodes:
+        DRAW[node.kind](axes, node, layout.centres[node.key])
     for row, note in enumerate(notes):
-        draw_note(canvas, (left + EDGE, -EDGE - LEGEND_LINE * (row + 0.2)), note)
+        draw_note(axes, (left + EDGE, -EDGE - LEGEND_LINE * (row + 0.2)), note)
     return figure
 
 
-def draw_scene(canvas: Canvas, scene: Scene, layout: Layout) -> None:
-    """Draws the arrows, then the nodes above them."""
-    for number, (arrow, curve) in enumerate(zip(scene.arrows, layout.curves)):
-        draw_arrow(canvas, arrow, curve, f"arrow-{number}-{arrow.kind.value}")
-    for node in scene.nodes:
-        DRAW[node.kind](canvas, node, layout.centres[node.key])
-
-
-def draw_arrow(canvas: Canvas, arrow: SceneArrow, curve: Curve, gid: str) -> None:
+def draw_arrow(axes: Any, arrow: SceneArrow, curve: Curve, gid: str) -> None:
     """An arrow along its spline, with its label, and with a bar at its source where it blocks."""
     colour, points = COLOURS[arrow.kind], [*curve.points]
     codes = [matplotlib.path.Path.MOVETO] + [matplotlib.path.Path.CURVE4] * (len(points) - 1)
-    width = 1.5 if arrow.kind is Arrow.MOVE else 0.9
+    drawn = {"ec": colour, "lw": WIDTHS.get(arrow.kind, 0.9), "ls": DASHES[arrow.kind], "gid": gid}
     shaft = matplotlib.path.Path(points, codes)
-    canvas.patch(
-        matplotlib.patches.PathPatch(shaft, fill=False, ec=colour, lw=width, ls=DASHES[arrow.kind], zorder=1), gid
-    )
+    axes.add_patch(matplotlib.patches.PathPatch(shaft, fill=False, zorder=1, **drawn))
     if arrow.kind is not Arrow.READ:
-        draw_head(canvas, points[-1], curve.tip, colour, gid)
-    if arrow.blocks:
-        draw_bar_across(canvas, points, f"{gid}-blocks")
+        corners = [curve.tip, *bar_across(points[-1], curve.tip, 0, 0.035)]
+        head = matplotlib.patches.Polygon(corners, fc=colour, ec=colour, lw=0.5, zorder=2, gid=f"{gid}-head")
+        axes.add_patch(head)
+    # A short double bar: the source is blocked where the target is full.
+    for far in (0.05, 0.09) if arrow.blocks else ():
+        ends = bar_across(points[0], points[1], far, 0.075)
+        put_line(axes, ends, style.VERMILION, 1.4, solid_capstyle="butt", gid=f"{gid}-blocks")
     if curve.label:
         box = {"fc": PAPER, "ec": "none", "pad": 0}
         above = (curve.label[0], curve.label[1] + 0.02)
-        canvas.text(above, arrow.label, 8, TEXTS.get(arrow.kind, colour), bbox=box)
+        put_text(axes, above, arrow.label, 8, TEXTS.get(arrow.kind, colour), bbox=box)
 
 
-def draw_head(canvas: Canvas, before: Point, tip: Point, colour: str, gid: str) -> None:
-    """The head of an arrow, from where its shaft ends to its tip."""
-    across, up = tip[0] - before[0], tip[1] - before[1]
-    length = math.hypot(across, up) or 1.0
-    side = (-up / length * 0.035, across / length * 0.035)
-    corners = [tip, (before[0] + side[0], before[1] + side[1]), (before[0] - side[0], before[1] - side[1])]
-    canvas.patch(matplotlib.patches.Polygon(corners, fc=colour, ec=colour, lw=0.5, zorder=2), f"{gid}-head")
+def bar_across(begin: Point, end: Point, far: float, half: float) -> list[Point]:
+    """The ends of a line across the way from one point to another, that far from the first; `half` is half of it."""
+    length = math.dist(begin, end) or 1.0
+    right, up = ((after - before) / length for before, after in zip(begin, end))
+    left, low = begin[0] + right * far, begin[1] + up * far
+    side = -up * half, right * half
+    return [(left + side[0], low + side[1]), (left - side[0], low - side[1])]
 
 
-def draw_bar_across(canvas: Canvas, points: list[Point], gid: str) -> None:
-    """A short double bar across the start of an arrow: its source is blocked where the target is full."""
-    (left, low), (right, high) = points[0], points[1]
-    length = math.hypot(right - left, high - low) or 1.0
-    along = ((right - left) / length, (high - low) / length)
-    for far in (0.05, 0.09):
-        centre = (left + along[0] * far, low + along[1] * far)
-        side = (-along[1] * 0.075, along[0] * 0.075)
-        ends = [(centre[0] + side[0], centre[1] + side[1]), (centre[0] - side[0], centre[1] - side[1])]
-        canvas.line(ends, gid, style.VERMILION, 1.4)
-
-
-def draw_queue(canvas: Canvas, node: SceneNode, centre: Point) -> None:
+def draw_queue(axes: Any, node: SceneNode, centre: Point) -> None:
     """A waiting line with its places, then its servers; the name above, the numbers below."""
     queue = node.queue
     assert queue is not None
     left, low = centre[0] - 0.68, centre[1] - 0.15
     server_room = 0.36 if queue.is_served else 0.0
-    draw_line(canvas, queue, node.key, (left, low), 1.36 - server_room)
+    draw_line(axes, queue, node.key, (left, low), 1.36 - server_room)
     if queue.is_served:
-        draw_servers(canvas, queue, node.key, (left + 1.36 - server_room / 2, centre[1]))
+        draw_servers(axes, queue, node.key, (left + 1.36 - server_room / 2, centre[1]))
     name, size = style.fitted(queue.name, 98, 9)
-    canvas.text((centre[0], centre[1] + 0.28), name, size, weight="bold")
+    put_text(axes, (centre[0], centre[1] + 0.28), name, size, weight="bold")
     servers = f", {queue.servers} servers" if queue.servers > 1 else ""
     numbers, size = style.fitted(f"capacity {queue.capacity}{servers}", 98, 7.5)
-    canvas.text((centre[0], centre[1] - 0.31), numbers, size, DARK_GREY)
+    put_text(axes, (centre[0], centre[1] - 0.31), numbers, size, DARK_GREY)
 
 
-def draw_line(canvas: Canvas, queue: QueueBox, key: str, corner: Point, width: float) -> None:
+def draw_line(axes: Any, queue: QueueBox, key: str, corner: Point, width: float) -> None:
     """The waiting line: open where customers come, closed at the servers, with places while there are few."""
     (left, low), high = corner, corner[1] + 0.3
-    canvas.patch(matplotlib.patches.Rectangle(corner, width, 0.3, fc="#EEF3F8", ec="none", zorder=3), f"queue-{key}")
-    canvas.axes.add_line(
-        matplotlib.lines.Line2D(
-            [left, left + width, left + width, left], [high, high, low, low], color=INK, lw=1.1, zorder=4
-        )
-    )
+    floor = matplotlib.patches.Rectangle(corner, width, 0.3, fc="#EEF3F8", ec="none", zorder=3, gid=f"queue-{key}")
+    axes.add_patch(floor)
+    right = left + width
+    put_line(axes, [(left, high), (right, high), (right, low), (left, low)], INK, 1.1, zorder=4)
     waiting = queue.capacity - (queue.servers if queue.is_served else 0)
     places = min(waiting, MOST_PLACES)
     cell = width / (MOST_PLACES + 1)
     for place in range(1, places + 1):
-        across = left + width - place * cell
-        canvas.axes.add_line(matplotlib.lines.Line2D([across, across], [low, high], color=INK, lw=0.6, zorder=4))
+        put_line(axes, [(right - place * cell, low), (right - place * cell, high)], INK, 0.6, zorder=4)
     if waiting > MOST_PLACES:
-        canvas.text((left + cell / 2, corner[1] + 0.15), "…", 7)
+        put_text(axes, (left + cell / 2, low + 0.15), "…", 7)
 
 
-def draw_servers(canvas: Canvas, queue: QueueBox, key: str, centre: Point) -> None:
+def draw_servers(axes: Any, queue: QueueBox, key: str, centre: Point) -> None:
     """A circle for each server while they are few, else one with their number."""
     few = queue.servers <= MOST_SERVERS
     count = queue.servers if few else 1
     radius = {1: 0.16, 2: 0.1, 3: 0.07}[count]
     for place in range(count):
         up = centre[1] + ((count - 1) / 2 - place) * 2.2 * radius
-        circle = matplotlib.patches.Circle((centre[0], up), radius, fc=PAPER, ec=INK, lw=1.1, zorder=4)
-        canvas.patch(circle, f"server-{key}-{place}")
+        drawn = {"fc": PAPER, "ec": INK, "lw": 1.1, "zorder": 4, "gid": f"server-{key}-{place}"}
+        axes.add_patch(matplotlib.patches.Circle((centre[0], up), radius, **drawn))
     if not few:
-        canvas.text(centre, f"×{queue.servers}", 7 if queue.servers < 100 else 5.5)
+        put_text(axes, centre, f"×{queue.servers}", 7 if queue.servers < 100 else 5.5)
 
 
-def draw_point(canvas: Canvas, node: SceneNode, centre: Point) -> None:
+def draw_point(axes: Any, node: SceneNode, centre: Point) -> None:
     """A point outside: filled where customers come from, a ring where they leave."""
     fill = INK if node.kind is Node.SOURCE else PAPER
-    circle = matplotlib.patches.Circle(centre, 0.045, fc=fill, ec=INK, lw=0.9, zorder=4)
-    canvas.patch(circle, f"{node.kind.value}-{node.key}")
+    gid = f"{node.kind.value}-{node.key}"
+    axes.add_patch(matplotlib.patches.Circle(centre, 0.045, fc=fill, ec=INK, lw=0.9, zorder=4, gid=gid))
 
 
-def draw_loss(canvas: Canvas, node: SceneNode, centre: Point) -> None:
+def draw_loss(axes: Any, node: SceneNode, centre: Point) -> None:
     """A cross: customers are lost here."""
     for turn in (1, -1):
         ends = [(centre[0] - 0.05, centre[1] - 0.05 * turn), (centre[0] + 0.05, centre[1] + 0.05 * turn)]
-        canvas.line(ends, f"loss-{node.key}", style.VERMILION, 1.4)
+        put_line(axes, ends, style.VERMILION, 1.4, solid_capstyle="butt", gid=f"loss-{node.key}")
 
 
-def draw_bar(canvas: Canvas, node: SceneNode, centre: Point) -> None:
+def draw_bar(axes: Any, node: SceneNode, centre: Point) -> None:
     """The bar of a fork or join."""
-    bar = matplotlib.patches.Rectangle((centre[0] - 0.035, centre[1] - 0.31), 0.07, 0.62, fc=INK, ec=INK, zorder=4)
-    canvas.patch(bar, f"bar-{node.key}")
+    corner, drawn = (centre[0] - 0.035, centre[1] - 0.31), {"fc": INK, "ec": INK, "zorder": 4, "gid": f"bar-{node.key}"}
+    axes.add_patch(matplotlib.patches.Rectangle(corner, 0.07, 0.62, **drawn))
 
 
-def draw_choice(canvas: Canvas, node: SceneNode, centre: Point) -> None:
+def draw_choice(axes: Any, node: SceneNode, centre: Point) -> None:
     """The diamond of a choice by an index."""
     across, up = centre
     corners = [(across - 0.17, up), (across, up + 0.17), (across + 0.17, up), (across, up - 0.17)]
-    canvas.patch(matplotlib.patches.Polygon(corners, fc="#FFF7DC", ec=INK, lw=1.0, zorder=4), f"choice-{node.key}")
-    canvas.text(centre, "min", 6.5)
+    gid = f"choice-{node.key}"
+    axes.add_patch(matplotlib.patches.Polygon(corners, fc="#FFF7DC", ec=INK, lw=1.0, zorder=4, gid=gid))
+    put_text(axes, centre, "min", 6.5)
 
 
-def draw_guard(canvas: Canvas, node: SceneNode, centre: Point) -> None:
+def draw_guard(axes: Any, node: SceneNode, centre: Point) -> None:
     """The box of a guarded event, with its guards and changes."""
     width, height = size_of(node)
-    corner = (centre[0] - width / 2, centre[1] - height / 2)
-    box = matplotlib.patches.FancyBboxPatch(
-        (corner[0] + 0.04, corner[1] + 0.04),
-        width - 0.08,
-        height - 0.08,
-        boxstyle="round,pad=0.04",
-        fc="#EAF6F1",
-        ec=style.GREEN,
-        lw=1.0,
-        zorder=4,
-    )
-    canvas.patch(box, f"guard-{node.key}")
+    corner, form = (centre[0] - width / 2 + 0.04, centre[1] - height / 2 + 0.04), "round,pad=0.04"
+    drawn = {"fc": "#EAF6F1", "ec": style.GREEN, "lw": 1.0, "zorder": 4, "gid": f"guard-{node.key}"}
+    axes.add_patch(matplotlib.patches.FancyBboxPatch(corner, width - 0.08, height - 0.08, boxstyle=form, **drawn))
     for row, line in enumerate(node.lines):
         up = centre[1] + (len(node.lines) - 1) * 0.075 - row * 0.15
-        canvas.text((centre[0], up), line, 7.5, weight="bold" if row == 0 else "normal")
+        put_text(axes, (centre[0], up), line, 7.5, weight="bold" if row == 0 else "normal")
 
 
 DRAW = {
@@ -296,24 +248,11 @@ def width_of(note: Note) -> float:
     return float(points) / 72 + 2 * EDGE + AFTER_SAMPLE * (kind is not None)
 
 
-def draw_note(canvas: Canvas, place: Point, note: Note) -> None:
+def draw_note(axes: Any, place: Point, note: Note) -> None:
     """A line below the picture, with a piece of the arrow that it explains."""
     kind, text = note
     if kind is not None:
-        sample = matplotlib.lines.Line2D(
-            [place[0], place[0] + 0.3],
-            [place[1]] * 2,
-            color=COLOURS[kind],
-            ls=DASHES[kind],
-            lw=1.5 if kind is Arrow.MOVE else 0.9,
-        )
-        canvas.axes.add_line(sample)
-    canvas.axes.text(
-        place[0] + AFTER_SAMPLE * (kind is not None),
-        place[1],
-        style.printable(text, MOST_LETTERS),
-        fontsize=NOTE_SIZE,
-        color=INK,
-        va="center",
-        parse_math=False,
-    )
+        ends = [place, (place[0] + 0.3, place[1])]
+        put_line(axes, ends, COLOURS[kind], WIDTHS.get(kind, 0.9), ls=DASHES[kind])
+    begin = place[0] + AFTER_SAMPLE * (kind is not None), place[1]
+    style.put(axes, begin, style.printable(text, MOST_LETTERS), NOTE_SIZE, INK, va="center")

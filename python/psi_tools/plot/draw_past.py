@@ -4,10 +4,8 @@ from __future__ import annotations
 
 from typing import Any
 
-import matplotlib.lines
 import matplotlib.patches
 import matplotlib.path
-import matplotlib.ticker
 
 from psi_tools.plot import style
 from psi_tools.plot.past import Past, Run, State
@@ -17,6 +15,8 @@ MOST_DRAWN, MOST_NAMED = 600, 32
 ROW_HEIGHT, HEAD_HEIGHT, FOOT_HEIGHT = 0.78, 0.75, 0.55
 NAMES_HEIGHT = 0.6
 MARGINS = {"left": 0.09, "right": 0.83}
+# How the name of an event stands below its step.
+SLANTED = {"rotation": 60, "rotation_mode": "anchor", "ha": "right", "va": "top"}
 # The most letters of a line beside a run.
 MOST_LETTERS = 17
 
@@ -74,22 +74,9 @@ def draw_run(axes: Any, past: Past, run: Run, queue: int | None) -> None:
         draw_paths(axes, run, queue, colour)
     mark = style.VERMILION if run.has_coalesced else style.GREY
     axes.plot([0, 0], [low[-1], high[-1]], color=mark, lw=2.4, marker="o", ms=3.2, solid_capstyle="round", gid="end")
-    greatest = sum(past.capacities) if queue is None else past.capacities[queue]
-    axes.set_ylim(-0.08 * greatest - 0.2, 1.08 * greatest + 0.2)
-    axes.yaxis.set_major_locator(matplotlib.ticker.MaxNLocator(3, integer=True))
-    axes.xaxis.set_major_locator(matplotlib.ticker.MaxNLocator(8, integer=True))
-    axes.xaxis.set_major_formatter(lambda time, _: style.whole(round(time)))
-    axes.text(
-        1.015,
-        0.5,
-        verdict(run),
-        transform=axes.transAxes,
-        va="center",
-        fontsize=7.5,
-        color=mark,
-        weight="bold" if run.has_coalesced else "normal",
-        parse_math=False,
-    )
+    style.scale(axes, sum(past.capacities) if queue is None else past.capacities[queue], 8)
+    weight = "bold" if run.has_coalesced else "normal"
+    style.put(axes, (1.015, 0.5), verdict(run), 7.5, mark, transform=axes.transAxes, va="center", weight=weight)
 
 
 def draw_paths(axes: Any, run: Run, queue: int | None, colour: str) -> None:
@@ -125,16 +112,5 @@ def label_events(axes: Any, past: Past) -> None:
         return
     for place, name in enumerate(past.events):
         text, size = style.fitted(name, 62, 6.5)
-        axes.text(
-            place - past.runs[-1].horizon + 0.5,
-            -0.36,
-            text,
-            transform=axes.get_xaxis_transform(),
-            rotation=60,
-            fontsize=size,
-            ha="right",
-            va="top",
-            rotation_mode="anchor",
-            color=style.GREY,
-            parse_math=False,
-        )
+        below = place - past.runs[-1].horizon + 0.5, -0.36
+        style.put(axes, below, text, size, style.GREY, transform=axes.get_xaxis_transform(), **SLANTED)

@@ -4,8 +4,6 @@ from __future__ import annotations
 
 from typing import Any
 
-import matplotlib.ticker
-
 from psi_tools.plot import style
 from psi_tools.plot.path import StationaryPath
 
@@ -36,7 +34,7 @@ def draw_path(picture: tuple[StationaryPath, list[int]], title: str) -> Any:
         draw_states(after, path, queue)
         for axes in (before, after):
             axes.tick_params(labelbottom=row == len(queues) - 1)
-            scale(axes, path.past.capacities[queue])
+            style.scale(axes, path.past.capacities[queue], 5)
         after.tick_params(labelleft=False)
     before.set_xlabel("steps before time 0")
     after.set_xlabel("steps of the path")
@@ -51,14 +49,6 @@ def about(path: StationaryPath) -> str:
         f"customers in each queue; seed {past.seed}, stream {past.stream}\n"
         f"left: all states, from {path.run.horizon:,} steps before time 0; right: {many} from the sample"
     )
-
-
-def scale(axes: Any, capacity: int) -> None:
-    """The axis of the customers of a queue."""
-    axes.set_ylim(-0.08 * capacity - 0.2, 1.08 * capacity + 0.2)
-    axes.yaxis.set_major_locator(matplotlib.ticker.MaxNLocator(3, integer=True))
-    axes.xaxis.set_major_locator(matplotlib.ticker.MaxNLocator(5, integer=True))
-    axes.xaxis.set_major_formatter(lambda time, _: style.whole(round(time)))
 
 
 def draw_past_of(axes: Any, path: StationaryPath, queue: int) -> None:
@@ -82,6 +72,4 @@ def draw_states(axes: Any, path: StationaryPath, queue: int) -> None:
     axes.set_xlim(0, max(1, len(numbers) - 1))
     name, size = style.fitted(path.past.queues[queue], 78, 7.5)
     text = f"{name}\nmean {style.mean(mean)}\nalong the path"
-    axes.text(
-        1.03, 0.5, text, transform=axes.transAxes, va="center", fontsize=size, color=style.BLACK, parse_math=False
-    )
+    style.put(axes, (1.03, 0.5), text, size, style.BLACK, transform=axes.transAxes, va="center")

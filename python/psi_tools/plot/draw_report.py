@@ -116,15 +116,8 @@ def draw_horizons(axes: Any, reports: list[Report]) -> None:
     for k, report in enumerate(reports):
         counts = [report.horizons.get(1 << power, 0) for power in powers] + [report.uncoupled]
         places = [place - 0.42 + (k + 0.5) * width for place in (*range(len(powers)), lost)]
-        bars = axes.bar(
-            places,
-            [100 * count / report.samples for count in counts],
-            width,
-            fc=COLOURS[k],
-            ec="white",
-            hatch=HATCHES[k],
-            lw=0.4,
-        )
+        heights = [100 * count / report.samples for count in counts]
+        bars = axes.bar(places, heights, width, fc=COLOURS[k], ec="white", hatch=HATCHES[k], lw=0.4)
         for bar, power in zip(bars, [*powers, "none"]):
             bar.set_gid(f"horizon-{k}-{power}")
     is_lost = any(report.uncoupled for report in reports)
@@ -162,9 +155,7 @@ def label_rows(axes: Any, rows: Rows) -> None:
     """The ticks, and what they are."""
     if rows.is_queues:
         axes.set_xlim(-0.03 * rows.greatest, 1.03 * rows.greatest)
-        locator = matplotlib.ticker.MaxNLocator(5, integer=True, steps=style.STEPS)
-        axes.xaxis.set_major_locator(locator)
-        axes.xaxis.set_major_formatter(lambda number, _: style.whole(round(number)))
+        style.whole_ticks(axes.xaxis, 5, steps=style.STEPS)
         axes.grid(axis="x", lw=0.3, color="#CCCCCC")
         axes.set_xlabel("customers")
     else:
@@ -179,13 +170,10 @@ def draw_spread(axes: Any, k: int, spread: Spread, y: float, place: Callable[[fl
         put(axes, 1.015, y, "no sample is met", "left", 6.5)
         return
     ends = [place(spread.least), place(spread.greatest)]
-    (line,) = axes.plot(ends, [y, y], color=COLOURS[k], lw=1.6, marker="|", ms=5)
-    line.set_solid_capstyle("butt")
-    (mark,) = axes.plot([place(spread.mean)], [y], MARKS[k], color=COLOURS[k], ms=5, mec="white")
-    mark.set(markeredgewidth=0.5, zorder=4)
+    drawn, name = {"color": COLOURS[k], "ms": 5}, f"{k}-{spread.name}"
+    axes.plot(ends, [y, y], lw=1.6, marker="|", solid_capstyle="butt", gid=f"spread-{name}", **drawn)
+    axes.plot([place(spread.mean)], [y], MARKS[k], mec="white", mew=0.5, zorder=4, gid=f"mean-{name}", **drawn)
     half = draw_interval(axes, k, spread, y, place)
-    line.set_gid(f"spread-{k}-{spread.name}")
-    mark.set_gid(f"mean-{k}-{spread.name}")
     text = f"{style.whole(spread.least)} to {style.whole(spread.greatest)}"
     put(axes, 1.015, y, f"{style.mean(spread.mean)}{half} ({text})", "left", 6.5)
 
@@ -195,9 +183,8 @@ def draw_interval(axes: Any, k: int, spread: Spread, y: float, place: Callable[[
     if spread.interval is None:
         return ""
     low, high = spread.interval
-    (box,) = axes.plot([place(low), place(high)], [y, y], color=COLOURS[k], lw=5, alpha=0.45)
-    box.set_solid_capstyle("butt")
-    box.set_gid(f"interval-{k}-{spread.name}")
+    ends, gid = [place(low), place(high)], f"interval-{k}-{spread.name}"
+    axes.plot(ends, [y, y], color=COLOURS[k], lw=5, alpha=0.45, solid_capstyle="butt", gid=gid)
     return f" ± {(high - low) / 2:.2g}"
 
 

@@ -58,23 +58,11 @@ def draw_points(axes: Any, places: Sequence[float], group: list[Record], value: 
     for place, record in zip(places, group):
         middle, low, high = (record[key] for key in (value, f"{front}low", f"{front}high"))
         if middle is not None:
-            found.append(
-                (place, middle, middle - (middle if low is None else low), (middle if high is None else high) - middle)
-            )
+            below, above = 0 if low is None else middle - low, 0 if high is None else high - middle
+            found.append((place, middle, max(0, below), max(0, above)))
     if not found:
         return
-    xs, ys, below, above = zip(*found)
-    axes.errorbar(
-        xs,
-        ys,
-        [[max(0, part) for part in below], [max(0, part) for part in above]],
-        fmt="o",
-        ms=3.5,
-        color=colour,
-        ecolor=colour,
-        elinewidth=1,
-        capsize=2.5,
-        zorder=3,
-    )
+    xs, ys, *errors = zip(*found)
+    axes.errorbar(xs, ys, errors, fmt="o", ms=3.5, color=colour, elinewidth=1, capsize=2.5, zorder=3)
     axes.grid(axis="y", lw=0.3, color="#CCCCCC")
     axes.margins(0.08, 0.15)

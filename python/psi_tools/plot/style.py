@@ -200,6 +200,30 @@ def raised(exponent: int) -> str:
     return str(exponent).translate(SUPERSCRIPT)
 
 
+def whole_ticks(axis: Any, parts: int, **more: Any) -> None:
+    """Ticks of an axis at whole numbers, which are at most this number of parts apart."""
+    axis.set_major_locator(matplotlib.ticker.MaxNLocator(parts, integer=True, **more))
+    axis.set_major_formatter(lambda number, _: whole(round(number)))
+
+
+def scale(axes: Any, most: int, parts: int) -> None:
+    """The axes of up to so many customers over the time, which has this number of parts."""
+    axes.set_ylim(-0.08 * most - 0.2, 1.08 * most + 0.2)
+    whole_ticks(axes.yaxis, 3)
+    whole_ticks(axes.xaxis, parts)
+
+
+def put(axes: Any, place: tuple[float, float], text: str, size: float, colour: str, **more: Any) -> None:
+    """A text at a place, which is never read as a formula."""
+    axes.text(*place, text, fontsize=size, color=colour, parse_math=False, **more)
+
+
+def put_beside(axes: Any, place: tuple[float, float], text: str, is_left: bool, down: float = 2, **more: Any) -> None:
+    """A text below a place, in points, to the left of it or to the right."""
+    side, away = ("right", -4) if is_left else ("left", 4)
+    axes.annotate(text, place, xytext=(away, -down), textcoords="offset points", ha=side, va="top", **more)
+
+
 def label_counts(axes: Any, most: float) -> None:
     """Ticks of a logarithmic axis from 1 on: powers of ten, with 2 and 5 between while there are
     few."""
