@@ -1,18 +1,24 @@
 """What is compared before a change lands: crates, edges, lemmas, definitions, the statement."""
 
+import pathlib
 import sys
 from collections.abc import Callable, Iterable
+from typing import NoReturn
+
+TOP = pathlib.Path(__file__).resolve().parent.parent
 
 
-def run(faults: Callable[[], Iterable[str]], write: Callable[[], None] | None = None, option: str = "--check") -> int:
-    """The exit status of a check: 1 where it finds faults, which are printed, and 2 for other arguments than
+def run(
+    faults: Callable[[], Iterable[str]], write: Callable[[], object] | None = None, option: str = "--check"
+) -> NoReturn:
+    """Ends a check with the status 1 where it finds faults, which are printed, and 2 for other arguments than
     its option. A check that writes a page does so first: unless `--check` is given, or where `--write` is."""
     words = sys.argv[1:]
     if words and (write is None or words != [option]):
         print(f"usage: python3 {sys.argv[0]}{f' [{option}]' * bool(write)}", file=sys.stderr)
-        return 2
+        sys.exit(2)
     if write and bool(words) == (option == "--write"):
         write()
     found = [*faults()]
     print("".join(f"{fault}\n" for fault in found) + f"{len(found)} faults")
-    return 1 if found else 0
+    sys.exit(1 if found else 0)

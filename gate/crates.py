@@ -12,13 +12,11 @@ The exit status is 1 where something is told, and 2 where the words aren't right
 
 import pathlib
 import re
-import sys
 from collections.abc import Iterator
 
-from gate import run
+from gate import TOP, run
 from tools.build.crates import crates_below
 
-TOP = pathlib.Path(__file__).resolve().parent.parent
 ROW = re.compile(r"^\| `(\w+)` \| (.*) \|$", re.M)
 
 
@@ -29,20 +27,9 @@ def rows() -> list[tuple[str, str]]:
     return ROW.findall(text, begin, text.index("\n## ", begin + 1))
 
 
-def readme(name: str) -> pathlib.Path:
-    """Where a crate says what it is for."""
-    return TOP / "crates" / name / "README.md"
-
-
-def line_of(name: str, what: str) -> str:
-    """What a crate's README.md says."""
-    return f"`{name}`: {what}.\n"
-
-
-def root(name: str) -> pathlib.Path:
-    """The root file of a crate."""
-    source = TOP / "crates" / name / "src"
-    return next(file for file in (source / "lib.rt", source / "main.rt") if file.exists())
+def readme(name: str, what: str) -> tuple[pathlib.Path, str]:
+    """Where a crate says what it is for, and how."""
+    return TOP / "crates" / name / "README.md", f"`{name}`: {what}.\n"
 
 
 def faults() -> Iterator[str]:
@@ -61,17 +48,20 @@ def faults() -> Iterator[str]:
         late = [below for below in known[name] if below in names[place:]]
         if late:
             yield f"the row of {name} stands before those of {', '.join(late)}"
-        if not readme(name).exists() or readme(name).read_text() != line_of(name, what):
+        file, line = readme(name, what)
+        if not file.exists() or file.read_text() != line:
             yield f"the README.md of {name} isn't its row: run `python3 -m gate.crates`"
-        if not root(name).read_text().startswith("//! "):
+        source = file.parent / "src"
+        root = next(file for file in (source / "lib.rt", source / "main.rt") if file.exists())
+        if not root.read_text().startswith("//! "):
             yield f"the root file of {name} doesn't begin with a comment on what it holds"
 
 
 def write() -> None:
     """Writes the README.md of each crate."""
-    for name, what in rows():
-        readme(name).write_text(line_of(name, what))
+    for file, line in (readme(*row) for row in rows()):
+        file.write_text(line)
 
 
 if __name__ == "__main__":
-    sys.exit(run(faults, write))
+    run(faults, write)

@@ -8,13 +8,11 @@ The exit status is 1 where something is told, and 2 where the words aren't right
 """
 
 import collections
-import pathlib
 import re
-import sys
 
-from gate import run
+from gate import TOP, run
 
-DOCS = pathlib.Path(__file__).resolve().parent.parent / "docs"
+DOCS = TOP / "docs"
 PAGE = DOCS / "DEFINITIONS.md"
 BLOCK = re.compile(r"^\[`(\w+)`: ([\w/.]+)\]\(.*?\n\n```\n(.*?)^```$", re.M | re.S)
 DEFINED = re.compile(r"^ *(?:\w+ )*pub (?:data |record |enum |struct |trait )?([^\s:({<]+)", re.M)
@@ -63,10 +61,5 @@ def faults() -> list[str]:
     return [f"the mark is wrong: {own}" for new, own in lines if own != new]
 
 
-def write() -> None:
-    """Writes the page."""
-    PAGE.write_text(marked())
-
-
 if __name__ == "__main__":
-    sys.exit(run(faults, write))
+    run(faults, lambda: PAGE.write_text(marked()))

@@ -9,8 +9,9 @@ import re
 from typing import Literal, TypeVar
 from collections.abc import Mapping
 
-ROOT = pathlib.Path(__file__).resolve().parent.parent
-CRATES = ROOT / "crates"
+from gate import TOP
+
+CRATES = TOP / "crates"
 # What belongs to the language, and so has no definition.
 LANGUAGE = set(
     "abbrev unfoldable pub record data where module infixl infixr infix let in then else " "Type Unit tt".split()
@@ -49,7 +50,7 @@ class Item:
         return [s for s in self.text[len(self.head) :] if not s.lstrip().startswith(("--", "//"))]
 
     def missing(self, name: str) -> Missing:
-        place = self.file.path.relative_to(ROOT)
+        place = self.file.path.relative_to(TOP)
         return Missing(f"{place}: {self.name} names {name}, which is nothing")
 
 
@@ -87,7 +88,7 @@ class File:
     def read_use(self, line: str) -> None:
         found = re.match(r"(pub |ghost )?use (Rattle\.[\w.]+?)(?:\.\{([^{}]*)\}| as (\w+))?$", line)
         if not found and re.match(r"(pub |ghost )?use Rattle", line):
-            raise Missing(f"{self.path.relative_to(ROOT)}: a line isn't read: {line}")
+            raise Missing(f"{self.path.relative_to(TOP)}: a line isn't read: {line}")
         if not found:
             return
         shown, module, names, alias = found.groups()
@@ -135,7 +136,7 @@ class Spec(File):
             elif re.match(r"(pub )?(use|mod) ", words):
                 comment = []
             elif words == "mutual":
-                raise Missing(f"{path.relative_to(ROOT)}: a mutual block is not read")
+                raise Missing(f"{path.relative_to(TOP)}: a mutual block is not read")
             elif words.startswith("module _"):
                 modules.append((indent, comment + [line]))
                 comment = []
@@ -231,7 +232,7 @@ class Sources:
         """A file of this kind, which is read once."""
         if path not in self.files:
             if not path.is_file():
-                raise Missing(f"there is no {path.relative_to(ROOT)}")
+                raise Missing(f"there is no {path.relative_to(TOP)}")
             self.files[path] = kind(path)
         file = self.files[path]
         assert isinstance(file, kind)

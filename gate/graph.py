@@ -8,13 +8,11 @@ graph than this.
 
 import pathlib
 import re
-import sys
 from collections.abc import Iterator
 
-from gate import run
+from gate import TOP, run
 from tools.build.crates import crates_below
 
-TOP = pathlib.Path(__file__).resolve().parent.parent
 PAGE = TOP / "docs/ARCHITECTURE.md"
 BLOCK = re.compile(r"(?<=^```mermaid\n).*?(?=^```$)", re.M | re.S)
 LAYER = re.compile(r"^# (.+)\n((?:\w+:.*\n)+)", re.M)
@@ -61,10 +59,5 @@ def faults() -> Iterator[str]:
         yield "docs/ARCHITECTURE.md has another graph of the crates: run `python3 -m gate.graph`"
 
 
-def write() -> None:
-    """Writes the page."""
-    PAGE.write_text(drawn())
-
-
 if __name__ == "__main__":
-    sys.exit(run(faults, write))
+    run(faults, lambda: PAGE.write_text(drawn()))

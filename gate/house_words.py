@@ -11,14 +11,11 @@ that it has to find; one that does not find it is reported as well.
 
 import bisect
 import itertools
-import pathlib
 import re
 import sys
 from collections.abc import Iterator
 
-from gate import run
-
-TOP = pathlib.Path(__file__).resolve().parent.parent
+from gate import TOP, run
 
 # The pages, each with the line before which its part ends; none where all of it counts.
 PAGES = (
@@ -114,4 +111,4 @@ def faults() -> Iterator[str]:
 
 
 if __name__ == "__main__":
-    sys.exit(run(faults))
+    run(faults)

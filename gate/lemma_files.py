@@ -5,13 +5,11 @@ Tells each file right in a crate's proofs/ whose name doesn't say what it holds:
 stand in specs/Inner/. The exit status is 1 where one is told.
 """
 
-import pathlib
 import re
-import sys
 
-from gate import run
+from gate import TOP, run
 
-CRATES = pathlib.Path(__file__).resolve().parent.parent / "crates"
+CRATES = TOP / "crates"
 RIGHT = re.compile(r"(?:\w+Lemmas|Worked|Lib)\.antt")
 
 
@@ -23,4 +21,4 @@ def faults() -> list[str]:
 
 
 if __name__ == "__main__":
-    sys.exit(run(faults))
+    run(faults)

@@ -16,7 +16,8 @@ import sys
 from collections import defaultdict
 from collections.abc import Collection, Iterator
 
-ROOT = pathlib.Path(__file__).resolve().parent.parent
+from gate import TOP
+
 USE = re.compile(r"use Rattle\.(\w+)\.([\w.]+?)(?:\.\{(.*)\}| as \w+|);?$")
 PATH = re.compile(r"\b(\w+)::(proofs|specs)::(\w+)::(\w+)")
 # A crate, a module of it, and a name there.
@@ -104,8 +105,8 @@ class File:
 
 def files_of_crates() -> dict[tuple[str, str], File]:
     files = {}
-    for path in sorted(ROOT.glob("crates/*/*/**/*")):
-        crate, folder, *rest = path.relative_to(ROOT / "crates").parts
+    for path in sorted(TOP.glob("crates/*/*/**/*")):
+        crate, folder, *rest = path.relative_to(TOP / "crates").parts
         if folder in ("src", "specs", "proofs") and path.suffix in COMMENT:
             module = ".".join([folder, *rest])[: -len(path.suffix)]
             files[crate, module] = File(path, crate, module)
@@ -115,7 +116,7 @@ def files_of_crates() -> dict[tuple[str, str], File]:
 def documented() -> set[str]:
     """The names that guides have between backticks."""
     names = set()
-    for path in [*ROOT.glob("*.md"), *ROOT.glob("docs/*.md")]:
+    for path in [*TOP.glob("*.md"), *TOP.glob("docs/*.md")]:
         names |= set(re.findall(r"`([^`\s]+)`", path.read_text()))
     return names
 
@@ -148,7 +149,7 @@ def main(names: Collection[str]) -> int:
         for name, line in file.lines.items() if file.has_lemmas() else ():
             if (*key, name) not in reached and (not names or file.crate in names):
                 found += 1
-                print(f"{file.path.relative_to(ROOT)}:{line}: {name}")
+                print(f"{file.path.relative_to(TOP)}:{line}: {name}")
     return 1 if found else 0
 
 

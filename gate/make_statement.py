@@ -12,15 +12,14 @@ import contextlib
 import dataclasses
 import pathlib
 import re
-import sys
 from collections.abc import Sequence
 
-from gate import run
-from gate.definitions import CRATES, ROOT, File, Item, Missing, Source, Sources, uses
+from gate import TOP, run
+from gate.definitions import CRATES, File, Item, Missing, Source, Sources, uses
 
 # The definitions that were shown, by their files and names.
 Shown = dict[tuple[pathlib.Path, str], Item]
-PAGE = ROOT / "docs" / "STATEMENT.md"
+PAGE = TOP / "docs" / "STATEMENT.md"
 
 
 def clause(sources: Sources, path: str, function: str, label: str = "") -> Item:
@@ -91,7 +90,7 @@ def outline() -> tuple[list[str], list[Part]]:
     """The parts of the page, as gate/statement.txt tells them."""
     head: list[str] = []
     parts: list[Part] = []
-    for line in (ROOT / "gate" / "statement.txt").read_text(encoding="utf-8").split("\n"):
+    for line in (TOP / "gate" / "statement.txt").read_text(encoding="utf-8").split("\n"):
         key, _, rest = line.partition(": ")
         if not head:
             head.append(line)
@@ -257,7 +256,7 @@ def ending(sources: Sources, counts: list[tuple[str, list[Item]]]) -> list[str]:
 
 def kit_names() -> dict[str, str]:
     """What the names of the kit mean, by their names."""
-    text = (ROOT / "gate" / "kit_names.txt").read_text(encoding="utf-8")
+    text = (TOP / "gate" / "kit_names.txt").read_text(encoding="utf-8")
     return dict(line.split("\t") for line in text.splitlines())
 
 
@@ -283,4 +282,4 @@ def write() -> None:
 
 
 if __name__ == "__main__":
-    sys.exit(run(faults, write))
+    run(faults, write)

@@ -12,15 +12,13 @@ The exit status is 0 where each call is made or has such a line, and each line i
 
 import pathlib
 import re
-import sys
 from collections.abc import Iterator
 
-from gate import run
+from gate import TOP, run
 from tools.build.crates import crates_below
 
-ROOT = pathlib.Path(__file__).resolve().parent.parent
-TESTS = ROOT / "crates/psi_test_memory/src"
-LISTED = ROOT / "gate/memory_calls.txt"
+TESTS = TOP / "crates/psi_test_memory/src"
+LISTED = TOP / "gate/memory_calls.txt"
 FUNCTION = re.compile(r"^( *)pub fn (\w+)(.*?)(?=^\1    (?:requires|ensures|decreases|where)\b|^\1\{)", re.M | re.S)
 BODY = re.compile(r"^( *)(?:pub(?:\(crate\))? )?fn (\w+)(.*?)^\1\}", re.M | re.S)
 OWNER = re.compile(r"^(?:unsafe )?impl(?:<[^{]*?>)? (?:.* for )?(\w+)", re.M)
@@ -39,9 +37,9 @@ BORROWED = re.compile(r"&(?:'\w+ )?self\b")
 
 def sources() -> Iterator[tuple[str, pathlib.Path, str]]:
     """The sources of all crates that are libraries, with their crates."""
-    for name in crates_below(ROOT):
-        if not name.startswith("psi_test_") and (ROOT / "crates" / name / "src/lib.rt").exists():
-            for file in sorted((ROOT / "crates" / name / "src").rglob("*.rt")):
+    for name in crates_below(TOP):
+        if not name.startswith("psi_test_") and (TOP / "crates" / name / "src/lib.rt").exists():
+            for file in sorted((TOP / "crates" / name / "src").rglob("*.rt")):
                 yield name, file, COMMENT.sub("", file.read_text())
 
 
@@ -137,4 +135,4 @@ def faults() -> Iterator[str]:
 
 
 if __name__ == "__main__":
-    sys.exit(run(faults))
+    run(faults)

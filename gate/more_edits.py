@@ -33,9 +33,9 @@ import time
 from concurrent.futures import ThreadPoolExecutor
 from collections.abc import Iterable
 
+from gate import TOP
 from tools.build.crates import crates_below
 
-TOP = pathlib.Path(__file__).resolve().parent.parent
 PROVED_CRATE = re.compile(r"^(\w+): ok$", re.M)
 SAID = re.compile(r"(?:rt: )?must-fail (\w+)/(\S+\.edit): (.*)")
 MISNAMED = re.compile(r"(?:rt: )?\S*/(\w+)/must-fail/(\S+): (BAD EDIT.*)")
@@ -180,26 +180,21 @@ def try_all(clone: pathlib.Path, names: Iterable[str], jobs: int) -> list[str]:
 
 def words_of() -> argparse.Namespace:
     """The words of the call."""
-    parser = argparse.ArgumentParser(
-        add_help=False, usage="python3 -m gate.more_edits [--jobs N] [--keep FOLDER] [NAME..]"
-    )
-    parser.add_argument("-h", "--help", action="store_true")
+    form = argparse.RawDescriptionHelpFormatter
+    parser = argparse.ArgumentParser("python3 -m gate.more_edits", description=__doc__, formatter_class=form)
     parser.add_argument("--jobs", type=int, default=usual_jobs())
     parser.add_argument("--keep", type=pathlib.Path)
     parser.add_argument("names", nargs="*", metavar="NAME")
     words = parser.parse_args()
     if words.jobs < 1:
         parser.error("--jobs takes a number above 0")
-    if shutil.which("rt") is None and not words.help:
+    if shutil.which("rt") is None:
         raise Wrong("the toolchain's command 'rt' isn't on the PATH")
     return words
 
 
 def main() -> int:
     words = words_of()
-    if words.help:
-        print(__doc__, end="")
-        return 0
     crates = crates_below(TOP)
     lacking = [name for name in words.names if name not in crates]
     if lacking:

@@ -11,19 +11,15 @@ Compares the version that CITATION.cff has, the one place where a release sets i
 Each place that has another version is printed; the exit status is 1 where there is one.
 """
 
-import pathlib
 import re
-import subprocess
-import sys
 import tomllib
 from collections.abc import Iterator
 
-from gate import run
-from release import make_package
+from gate import TOP, run
+from release.make_package import printed_by, version_of
 import tools.packaged  # noqa: F401
 import psi_tools
 
-TOP = pathlib.Path(__file__).resolve().parent.parent
 VERSION = re.compile(r'^version: "(\d+\.\d+\.\d+)"$', re.M)
 DATE = re.compile(r'^date-released: "(\d{4}-\d\d-\d\d)"$', re.M)
 RELEASE = re.compile(r"^## (\d+\.\d+\.\d+), (\d{4}-\d\d-\d\d)$", re.M)
@@ -32,11 +28,6 @@ RELEASE = re.compile(r"^## (\d+\.\d+\.\d+), (\d{4}-\d\d-\d\d)$", re.M)
 def text_of(name: str) -> str:
     """The text of a file."""
     return (TOP / name).read_text()
-
-
-def printed_by(*command: str) -> str:
-    """What a command prints, at the top."""
-    return subprocess.check_output(command, cwd=TOP, text=True).strip()
 
 
 def places(version: str, date: str) -> Iterator[tuple[str, str, str]]:
@@ -51,7 +42,7 @@ def places(version: str, date: str) -> Iterator[tuple[str, str, str]]:
     yield "the module psi", printed_by("/usr/bin/python3", "-c", module), version
     dynamic = tomllib.loads(text_of("python/pyproject.toml"))["tool"]["setuptools"]["dynamic"]
     yield "python/pyproject.toml", dynamic["version"]["attr"], "psi_tools.__version__"
-    yield "the package", make_package.version_of()[0].partition("+git")[0], version
+    yield "the package", version_of()[0].partition("+git")[0], version
     yield "tools/psi-means", printed_by("tools/psi-means", "--version"), f"psi-means {version}"
     for tag in printed_by("git", "tag", "--points-at", "HEAD").split():
         if re.match(r"v\d", tag):
@@ -71,4 +62,4 @@ def faults() -> list[str]:
 
 
 if __name__ == "__main__":
-    sys.exit(run(faults))
+    run(faults)
