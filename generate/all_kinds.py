@@ -10,7 +10,7 @@ import itertools
 import tomllib
 from collections.abc import Iterator, Sequence
 
-from generate.case_text import Output, case
+from generate.case_text import case, write
 from generate.small_networks import Entry
 from generate.toml_text import table
 from oracle import plain
@@ -45,8 +45,13 @@ def indexes(caps: dict[str, int], origin: str | None, to: list[str]) -> Iterator
                 yield {"kind": "index", **keys, "to": to, "table": rows, "full": full, "size": size}
 
 
-def part(queue: str, cap: int, pattern: int) -> Entry:
-    """A part of a guarded event, by a pattern."""
+def part(queue: str, numbers: Sequence[int]) -> Entry:
+    """A part of a guarded event: its least, most, shift, floor and ceiling."""
+    return {"queue": queue, **dict(zip(("least", "most", "shift", "floor", "ceiling"), numbers))}
+
+
+def patterns(queue: str, cap: int) -> list[Entry]:
+    """The parts that are tried with each other on a queue."""
     numbers = (
         (0, cap, 1, 0, cap),
         (1, cap, -1, 0, cap),
@@ -56,18 +61,16 @@ def part(queue: str, cap: int, pattern: int) -> Entry:
         (0, cap // 2, 0, cap, cap),
         (cap // 2, cap, -65535, cap // 2, cap),
         (0, cap - 1, 1, 1, cap),
-    )[pattern]
-    return {"queue": queue, **dict(zip(("least", "most", "shift", "floor", "ceiling"), numbers))}
+    )
+    return [part(queue, own) for own in numbers]
 
 
 def guarded(caps: dict[str, int]) -> Iterator[Entry]:
     first, last = list(caps)[0], list(caps)[-1]
-    for pattern in range(8):
-        own = part(first, caps[first], pattern)
+    for own in patterns(first, caps[first]):
         yield {"kind": "guarded", "part": [own]}
         if first != last:
-            for other in range(8):
-                yield {"kind": "guarded", "part": [part(last, caps[last], other), own]}
+            yield from ({"kind": "guarded", "part": [other, own]} for other in patterns(last, caps[last]))
 
 
 def without_source(caps: dict[str, int], to: list[str]) -> Iterator[Entry]:
@@ -133,11 +136,5 @@ def cases() -> Iterator[bytes]:
             yield case(name, ["check", "net.toml"], files, 0, out)
 
 
-def main() -> None:
-    with Output() as output:
-        for data in cases():
-            output.put(data)
-
-
 if __name__ == "__main__":
-    main()
+    write(cases())

@@ -7,8 +7,9 @@ table of a network: `shared` writes so what `case` has written.
 import collections
 import re
 import sys
-import types
 from collections.abc import Callable, Iterable, Iterator, Mapping, Sequence
+
+from generate.case_files import Texts
 
 # The lines of a text.
 Lines = tuple[bytes, ...]
@@ -47,20 +48,6 @@ def _text(data: bytes) -> list[bytes]:
         lines += [*_plain(data[at : run.start()]), b"repeat %d %s" % (count, run[1])]
         at = run.end()
     return lines + _plain(data[at:])
-
-
-def bytes_of(lines: Iterable[bytes]) -> bytes:
-    """The bytes that the lines of a text stand for."""
-    data = b""
-    for line in lines:
-        if line[:1] == b"|":
-            data += line[1:] + b"\n"
-        elif line[:1] == b"\\":
-            data += line[1:]
-        else:
-            count, text = line.split(b" ", 2)[1:]
-            data += int(count) * text
-    return data
 
 
 def _word(word: str) -> list[bytes]:
@@ -131,7 +118,8 @@ class _Shared:
         self.names: dict[Lines, bytes] = {}
         self.numbers: collections.Counter[str] = collections.Counter()
         wholes = collections.Counter(block for block in blocks if TEXT.match(block[0]))
-        self.bytes = {lines: bytes_of(lines) for lines in wholes}
+        plain = Texts()
+        self.bytes = {lines: b"".join(plain.of(line) or b"" for line in lines) for lines in wholes}
         again = {lines for lines, count in wholes.items() if _is_worth(lines, count)}
         self.longer = {
             lines: other for lines, other in _longer(self.bytes).items() if lines not in again and _size(lines) >= SHORT
@@ -209,21 +197,6 @@ def shared(data: bytes) -> bytes:
     return b"\n".join([*file.written, b""])
 
 
-class Output:
-    """The file of cases that a program writes to its standard output: its end writes it."""
-
-    def __init__(self) -> None:
-        self.cases: list[bytes] = []
-
-    def __enter__(self) -> "Output":
-        return self
-
-    def put(self, data: bytes) -> None:
-        """Adds the bytes of a case."""
-        self.cases.append(data)
-
-    def __exit__(
-        self, kind: type[BaseException] | None, fault: BaseException | None, trace: types.TracebackType | None
-    ) -> None:
-        if kind is None:
-            sys.stdout.buffer.write(shared(b"".join(self.cases)))
+def write(cases: Iterable[bytes]) -> None:
+    """Writes the file of some cases, each its bytes, to standard output."""
+    sys.stdout.buffer.write(shared(b"".join(cases)))

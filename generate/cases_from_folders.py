@@ -10,17 +10,16 @@ left out, as are those of other commands than --commands. The name of a case is 
 without a number in front.
 """
 
-import argparse
 import pathlib
 import re
 import shutil
 import subprocess
 import sys
 import tempfile
-from collections.abc import Collection
+from collections.abc import Collection, Iterator
 
-from generate.case_text import Output, case
-from generate.cases_from_json import COMMANDS, command_of
+from generate.case_text import case, write
+from generate.cases_from_json import command_of, options_of
 
 APART = {"words", "status", "out", "err", "since", "make.py"}
 
@@ -52,17 +51,13 @@ def written(name: str, folder: pathlib.Path, commands: Collection[str]) -> bytes
     return case(re.sub(r"^r(ow)?\d+[a-z]?-", "", name), words, files, status, out, err)
 
 
-def main() -> None:
-    parser = argparse.ArgumentParser(description="Writes the cases of a folder's subfolders.")
-    parser.add_argument("folder", type=pathlib.Path)
-    parser.add_argument("--commands", default=",".join(COMMANDS))
-    options = parser.parse_args()
-    commands = options.commands.split(",")
-    with tempfile.TemporaryDirectory() as room, Output() as output:
-        for folder in sorted(path for path in options.folder.iterdir() if path.is_dir()):
+def cases(path: str, commands: Collection[str]) -> Iterator[bytes]:
+    """The cases of these commands in a folder."""
+    with tempfile.TemporaryDirectory() as room:
+        for folder in sorted(part for part in pathlib.Path(path).iterdir() if part.is_dir()):
             for name, part in cases_in(folder, pathlib.Path(room)).items():
-                output.put(written(name, part, commands))
+                yield written(name, part, commands)
 
 
 if __name__ == "__main__":
-    main()
+    write(cases(*options_of("a folder's subfolders")))

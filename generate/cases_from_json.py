@@ -12,10 +12,10 @@ asked for by `check` instead, which refuses it in the same line.
 import argparse
 import base64
 import json
-from collections.abc import Collection
+from collections.abc import Collection, Iterator
 from typing import Any
 
-from generate.case_text import Output, case
+from generate.case_text import case, write
 
 COMMANDS = "check sample log replay report trial couple reward exact closed".split()
 REFUSED = 3
@@ -45,22 +45,24 @@ def bytes_of(file: dict[str, str]) -> bytes:
     return file["text"].encode() if "text" in file else base64.b64decode(file["base64"])
 
 
-def main() -> None:
-    parser = argparse.ArgumentParser(description="Writes the cases of a file of JSON objects.")
-    parser.add_argument("file")
+def options_of(of: str) -> tuple[str, list[str]]:
+    """The path of what cases are made of, and the commands of which they are kept."""
+    parser = argparse.ArgumentParser(description=f"Writes the cases of {of}.")
+    parser.add_argument("path")
     parser.add_argument("--commands", default=",".join(COMMANDS))
     options = parser.parse_args()
-    commands = options.commands.split(",")
-    with open(options.file, encoding="utf-8") as lines, Output() as output:
+    return options.path, options.commands.split(",")
+
+
+def cases(path: str, commands: Collection[str]) -> Iterator[bytes]:
+    """The cases of these commands in a file."""
+    with open(path, encoding="utf-8") as lines:
         for entry in map(json.loads, lines):
             words = words_of(entry, commands)
-            files = {name: bytes_of(file) for name, file in entry["files"].items()}
-            if words is None:
-                continue
-            files = {name: data for name, data in files.items() if name in words}
-            out, err = entry["out"].encode(), entry["err"].encode()
-            output.put(case(entry["name"], words, files, entry["status"], out, err))
+            if words is not None:
+                files = {name: bytes_of(file) for name, file in entry["files"].items() if name in words}
+                yield case(entry["name"], words, files, entry["status"], entry["out"].encode(), entry["err"].encode())
 
 
 if __name__ == "__main__":
-    main()
+    write(cases(*options_of("a file of JSON objects")))

@@ -19,23 +19,17 @@ from collections.abc import Callable, Iterable, Iterator
 
 from generate import all_kinds
 from generate.small_networks import Dice, Entry
-from generate.toml_text import written
+from generate.toml_text import lists
 from oracle.plain import text_of
 from oracle.plain_network import Event, Network, State, box, is_below
 
 # The capacities, the servers and the events of a network.
 Described = tuple[dict[str, int], dict[str, int], list[Entry]]
-# The least, most, shift, floor and ceiling of a part.
-NUMBERS = ("least", "most", "shift", "floor", "ceiling")
-
-
-def parts(**numbers: tuple[int, ...]) -> list[Entry]:
-    """The parts of a guarded event: for each queue its five numbers."""
-    return [{"queue": queue, **dict(zip(NUMBERS, own))} for queue, own in numbers.items()]
 
 
 def guarded(**numbers: tuple[int, ...]) -> Entry:
-    return {"kind": "guarded", "part": parts(**numbers)}
+    """A guarded event by the numbers of the part of each queue."""
+    return {"kind": "guarded", "part": [all_kinds.part(queue, own) for queue, own in numbers.items()]}
 
 
 # Two queues, the first with two servers.
@@ -180,13 +174,10 @@ def networks() -> Iterator[tuple[str, Described]]:
 
 
 def file_of(caps: dict[str, int], servers: dict[str, int], entries: list[Entry]) -> str:
-    """The file of a network, a line for each queue and event."""
+    """The file of a network."""
     queues = [{"name": q, "capacity": cap, "servers": servers[q]} for q, cap in caps.items()]
     events = [{"name": f"e{i}", "rate": 1, **entry} for i, entry in enumerate(entries)]
-    lines = ["version = 2"]
-    for key, tables in (("queue", queues), ("event", events)):
-        lines += [f"{key} = [", *(f"    {written(table)}," for table in tables), "]"]
-    return "\n".join([*lines, ""])
+    return lists({"version": 2, "queue": queues, "event": events})
 
 
 class Table:

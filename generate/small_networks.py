@@ -18,7 +18,7 @@ import tomllib
 from collections.abc import Iterator, Sequence
 from typing import Any, TypeVar
 
-from generate.case_text import Output, case
+from generate.case_text import case, write
 from generate.toml_text import table
 from oracle import plain
 from oracle.plain_network import Network
@@ -194,11 +194,5 @@ def cases(count: int, command: str) -> Iterator[bytes]:
         yield case(name, words, files, status, out, err)
 
 
-def main() -> None:
-    with Output() as output:
-        for data in cases(int(sys.argv[1]), sys.argv[2] if len(sys.argv) > 2 else "sample"):
-            output.put(data)
-
-
 if __name__ == "__main__":
-    main()
+    write(cases(int(sys.argv[1]), sys.argv[2] if len(sys.argv) > 2 else "sample"))

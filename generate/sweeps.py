@@ -24,9 +24,9 @@ from collections.abc import Iterator, Sequence
 from typing import Any
 
 from generate import all_kinds
-from generate.case_text import Output, case
+from generate.case_text import case, write
 from generate.small_networks import Dice, Entry
-from generate.toml_text import written
+from generate.toml_text import lists
 from oracle import plain
 from oracle.plain_network import Network
 
@@ -52,14 +52,12 @@ PARTS = (
     (2, 2, -1, 0, 1),
     (1, 2, 1, 0, 1),
 )
-NUMBERS: tuple[str, ...] = ("least", "most", "shift", "floor", "ceiling")
 
 
 def guarded() -> Iterator[Entry]:
     """The guarded events of two queues, one after another."""
     for first, last in itertools.product(PARTS, repeat=2):
-        own = [(queue, part) for queue, part in (("b", last), ("a", first)) if part]
-        parts: list[Entry] = [{"queue": queue, **dict(zip(NUMBERS, part))} for queue, part in own]
+        parts = [all_kinds.part(queue, part) for queue, part in (("b", last), ("a", first)) if part]
         if parts:
             yield {"kind": "guarded", "part": parts}
 
@@ -128,17 +126,6 @@ def network(caps: dict[str, int], servers: dict[str, int], split: int, entries: 
     }
 
 
-def text_of(table: dict[str, Any]) -> str:
-    """The file of a network, a line for each queue and event."""
-    lines: list[str] = []
-    for key, value in table.items():
-        if isinstance(value, list):
-            lines += [f"{key} = [", *(f"    {written(item)}," for item in value), "]"]
-        else:
-            lines.append(f"{key} = {value}")
-    return "\n".join([*lines, ""])
-
-
 def runnable(table: dict[str, Any]) -> Network:
     """The plain program's network, which keeps the images that it has worked out."""
     net = Network(table)
@@ -163,57 +150,47 @@ def distinguishing(seed: int, net: Network, others: list[Network]) -> Iterator[t
 
 
 class Sweep:
-    """Puts out the cases of a list of events, numbered; those of `check` where it is described."""
+    """The cases of a list of events, numbered; those of `check` where it is described."""
 
-    def __init__(self, output: Output, name: str, dice: Dice, is_described: bool) -> None:
-        self.output, self.name, self.dice = output, name, dice
-        self.is_described, self.count = is_described, 0
+    def __init__(self, name: str, dice: Dice, is_described: bool) -> None:
+        self.name, self.dice, self.is_described, self.count = name, dice, is_described, 0
 
-    def put(self, name: str, words: list[str], files: dict[str, bytes], status: int, out: str) -> None:
-        """Puts out a case."""
-        self.output.put(case(name, words, files, status, out.encode()))
-
-    def write(
+    def cases(
         self, caps: dict[str, int], servers: dict[str, int], entry: Entry, entries: list[Entry], splits: Sequence[int]
-    ) -> None:
-        """Writes the cases of one event among others."""
+    ) -> Iterator[bytes]:
+        """The cases of one event among others."""
         moving = movers(self.dice, caps)
         name = f"sweep-{self.name}-{self.count:03}"
         for split in splits:
-            text = text_of(network(caps, servers, split, [entry, *moving]))
+            text = lists(network(caps, servers, split, [entry, *moving]))
             net = runnable(tomllib.loads(text))
             others = [runnable(network(caps, servers, split, [other, *moving])) for other in entries if other != entry]
             files = {"net.toml": text.encode()}
             if self.is_described and split == splits[0]:
-                self.put(name, ["check", "net.toml"], files, 0, plain.description(net))
-            for stream, answer in distinguishing(self.count, net, others):
+                yield case(name, ["check", "net.toml"], files, 0, plain.description(net).encode())
+            for stream, (status, out) in distinguishing(self.count, net, others):
                 mode = "boxes" if split == BOXES else "sets"
                 words = ["sample", "net.toml", str(self.count), str(stream)]
-                self.put(f"{name}-{mode}-{stream}", words, files, *answer)
+                yield case(f"{name}-{mode}-{stream}", words, files, status, out.encode())
         self.count += 1
 
 
-def write(output: Output) -> None:
-    """Puts out the cases of all three lists."""
+def cases() -> Iterator[bytes]:
+    """The cases of all three lists."""
     dice = Dice(0)
-    sweep, entries = Sweep(output, "guarded", dice, True), list(guarded())
+    sweep, entries = Sweep("guarded", dice, True), list(guarded())
     for entry in entries:
-        sweep.write({"a": 2, "b": 2}, {"a": 1, "b": 1}, entry, entries, (BOXES, SETS))
-    sweep = Sweep(output, "routes", dice, True)
+        yield from sweep.cases({"a": 2, "b": 2}, {"a": 1, "b": 1}, entry, entries, (BOXES, SETS))
+    sweep = Sweep("routes", dice, True)
     for caps, entry in drawn_routes(dice):
         servers = {queue: caps[queue] if queue == "a" else 1 for queue in caps}
-        sweep.write(caps, servers, entry, list(routes(caps)), [dice.pick((BOXES, SETS))])
-    sweep = Sweep(output, "kinds", dice, False)
+        yield from sweep.cases(caps, servers, entry, list(routes(caps)), [dice.pick((BOXES, SETS))])
+    sweep = Sweep("kinds", dice, False)
     for sizes in all_kinds.CAPACITIES:
         caps = dict(zip(all_kinds.NAMES, sizes))
         for entry, entries in drawn_kinds(dice, caps):
-            sweep.write(caps, caps, entry, entries, (BOXES, SETS))
-
-
-def main() -> None:
-    with Output() as output:
-        write(output)
+            yield from sweep.cases(caps, caps, entry, entries, (BOXES, SETS))
 
 
 if __name__ == "__main__":
-    main()
+    write(cases())
