@@ -20,8 +20,7 @@ import signal
 from collections.abc import Iterator
 from typing import NoReturn
 
-from psi_tools.arguments import GREATEST
-from psi_tools.cli.options import STREAM, TOTAL, Parser, add_psi, number
+from psi_tools.cli.options import STREAM, TOTAL, Parser, add_psi, check_last_stream, number
 from psi_tools.draw.blocks import MOST_BLOCKS, Folder
 from psi_tools.draw.engines import SHARE, SSH, Here, Hosts, Slurm, Way, run_task
 from psi_tools.draw.many import COMMAND, draw_all, joined, merge
@@ -45,15 +44,6 @@ intervals.
     psi-many desk.toml 0 0 1000000 --out desk.csv
     psi-many ring.toml 0 0 10000 --closed 6
     psi-many desk.toml 0 0 1000000 --states --out samples.csv"""
-
-
-def merger_of(args: argparse.Namespace, psi: str) -> str | None:
-    """The program that merges: the one that the call names; else psi_merge, which is proved, where
-    it stands beside PSI or is built; else none, and merge_reports.py does it.
-    """
-    if args.merge:
-        return program_of(args.merge)
-    return companion_of(psi, "psi_merge")
 
 
 def parser() -> Parser:
@@ -98,8 +88,7 @@ def parse(arguments: list[str]) -> argparse.Namespace:
     others = [option for option in ("hosts", "slurm", "merge") if args.states and getattr(args, option)]
     if others:
         raise PsiError(f"--{others[0]} goes without --states: samples are drawn on this machine, and not merged")
-    if args.first + args.count - 1 > GREATEST:
-        raise PsiError(f"the last stream is above {GREATEST}")
+    check_last_stream(args)
     if args.block and args.count > MOST_BLOCKS * args.block:
         raise PsiError(f"there would be more than {MOST_BLOCKS} blocks of {args.block} streams")
     return args
@@ -142,8 +131,9 @@ def blocks_of(args: argparse.Namespace, psi: str) -> tuple[Folder, list[pathlib.
 
 
 def write_report(args: argparse.Namespace, psi: str) -> None:
-    """Draws and writes the report that the arguments ask for."""
-    program = merger_of(args, psi)
+    """Draws and writes the report that the arguments ask for. It is merged by the program that the call
+    names; else by psi_merge, which is proved, where it stands beside PSI or is built; else by merge_reports.py."""
+    program = program_of(args.merge) if args.merge else companion_of(psi, "psi_merge")
     folder, files = blocks_of(args, psi)
     text = merge(folder, files, program)
     write_answer(text.decode(), args.out)

@@ -31,17 +31,13 @@ def samples_of(text: bytes) -> list[Sample] | None:
 
 
 def report_of_text(net: Network, text: bytes, count: int) -> bytes | None:
-    """The report of what psi closed printed of this number of streams; none where it isn't whole."""
+    """The report of what psi closed printed of this number of streams, in psi report's form; none where it isn't
+    whole."""
     found = samples_of(text)
     if found is None or len(found) != count:
         return None
     if any(sample and len(sample[1]) != len(net.queues) for sample in found):
         return None
-    return report_of(net, found)
-
-
-def report_of(net: Network, found: list[Sample]) -> bytes:
-    """The report of some samples, each a horizon and a state or none, in psi report's form."""
     met, report = [sample for sample in found if sample], Report()
     report.samples, report.met = len(found), len(met)
     report.horizons = sorted(collections.Counter(horizon for horizon, _ in met).items())

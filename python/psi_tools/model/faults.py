@@ -1,10 +1,20 @@
 """What is wrong with the one value that psi refuses: its range, and what was meant by a name."""
 
 from collections.abc import Iterable, Sequence
-from typing import Any
 
 from psi_tools.io.toml import Array, Table
-from psi_tools.model.refusals import KEYS, NAME, OF_PARTS, Finding, capacities_of, in_parts, items_of, offends
+from psi_tools.model.refusals import (
+    KEYS,
+    NAME,
+    OF_PARTS,
+    Finding,
+    capacities_of,
+    in_parts,
+    items_of,
+    least_of,
+    offending,
+    wrong_rows,
+)
 
 KINDS = ("arrival", "service", "index", "batch", "negative", "fork", "join", "guarded")
 REWARDS = ("linear", "table", "greatest", "least", "above")
@@ -67,17 +77,10 @@ def table_at(document: Table, found: Finding) -> Table | None:
     table = tables[found["number"] - 1]
     if type(table) is not Table or found["section"] != "event":
         return table if type(table) is Table else None
-    if not in_parts(table, found["name"], found["key"]):
-        return table
-    capacities: dict[str, int] = capacities_of(document)
-    seen: set[Any] = set()
-    for part in table["part"]:
-        if type(part) is not Table:
-            return None
-        if offends(part, found["name"], found["key"], capacities, seen):
-            return part
-        seen.add(part.get("queue"))
-    return None
+    if in_parts(table, found["name"], found["key"]):
+        place = offending(document, table["part"], found["name"], found["key"])
+        table = None if place is None else table["part"][place]
+    return table if type(table) is Table else None
 
 
 def remark_on_value(document: Table, found: Finding) -> str | None:
@@ -146,12 +149,11 @@ def on_range(document: Table, table: Table, key: str, found: Finding) -> str | N
     if type(value) is Array and not value:
         return f"{key} is empty"
     if type(value) is Array:
-        least = -(10**9) if table.get("kind") in ("linear", "table") else 0
-        message = (out_of(f"a value of {key}", item, least, 10**9) for item, _ in items_of(value))
+        message = (out_of(f"a value of {key}", item, least_of(table), 10**9) for item, _ in items_of(value))
         return next(filter(None, message), None)
     if key == "full" and isinstance(value, str):
         return "; ".join(filter(None, [f"full is {value}", meant(value, ("lost", "stay"))]))
-    if isinstance(value, str) and not (value and len(value) <= 32 and {*value} <= NAME):
+    if isinstance(value, str) and not NAME.fullmatch(value):
         return f"{key} has {len(value)} characters; 1 to 32 letters, digits, _ and - make a name"
     return None
 
@@ -165,17 +167,15 @@ def on_batch(document: Table, table: Table, key: str, found: Finding) -> str | N
 
 def on_length(document: Table, table: Table, key: str, found: Finding) -> str | None:
     """How long the table, row or list is that has another length, and how long it is to be."""
-    value, known = table.get(key), capacities_of(document)
-    names = table.get("queues", table.get("to", []))
+    value, names = table.get(key), table.get("queues", table.get("to", []))
     if type(value) is not Array or type(names) is not Array:
         return None
     if len(value) != len(names):
         return f"{key} has the length {len(value)}; {len(names)} is wanted"
-    more = 1 if "queues" in table else 0
-    for row, name in zip(value, names):
-        if type(row) is Array and name in known and len(row) != known[name] + more:
-            return f"the row of {name} has the length {len(row)}; {known[name] + more} is wanted"
-    return None
+    rows = wrong_rows(document, table) if key == "table" else ()
+    return next(
+        (f"the row of {name} has the length {long}; {wanted} is wanted" for _, name, long, wanted in rows), None
+    )
 
 
 def on_guard(document: Table, table: Table, key: str, found: Finding) -> str | None:

@@ -6,19 +6,25 @@ customers whatever the other queues hold. Nothing is sampled here.
 
 import collections
 import dataclasses
-import fractions
 import math
 from collections.abc import Callable
+from fractions import Fraction
 from typing import Any
 
 import numpy
 
 from psi_tools.model.networks import Network, Table
+from psi_tools.stats.kernel import kernel
 
 # By how much an event changes each queue, by its place; numbers before and after; rates from queue to queue.
 Change = dict[int, int]
 Steps = tuple[Any, Any]
 Routes = dict[tuple[int, int], float]
+
+
+def names_in(value: Any) -> list[str]:
+    """The names in `from` or `to`: none, one, or a list."""
+    return [value] if isinstance(value, str) else [*(value or ())]
 
 
 class Moves:
@@ -29,23 +35,16 @@ class Moves:
         self.place = {name: place for place, name in enumerate(net.queues)}
         self.capacities = net.capacities
 
-    def targets(self, event: Table) -> list[int]:
-        """The places of the queues of `to`."""
-        to = event.get("to", [])
-        return [self.place[name] for name in ([to] if isinstance(to, str) else to)]
-
-    def sources(self, event: Table) -> list[int]:
-        """The places of the queues of `from`."""
-        names = event.get("from", [])
-        return [self.place[name] for name in ([names] if isinstance(names, str) else names)]
+    def places(self, event: Table, key: str) -> list[int]:
+        """The places of the queues of `from` or `to`."""
+        return [self.place[name] for name in names_in(event.get(key))]
 
     def changes(self, event: Table) -> list[Change]:
         """Changes of states by an event, each a dict of a queue's place and by how much its number
         changes, whose differences and sums span all that it may do."""
-        kind, sources = event["kind"], self.sources(event)
+        kind, sources, targets = event["kind"], self.places(event, "from"), self.places(event, "to")
         if kind == "guarded":
             return self.changes_of_parts(event["part"])
-        targets = self.targets(event)
         taken = {place: -1 for place in sources}
         if kind in ("fork", "join"):
             return [{**taken, **dict.fromkeys(targets, 1)}]
@@ -74,19 +73,15 @@ class Moves:
     def kept_sums(self) -> list[list[int]]:
         """Weights of the queues whose sums no event changes: a basis, of whole numbers. States with
         another such sum never meet."""
-        rows = Rows(len(self.capacities))
-        for event in self.net.table["event"]:
-            for change in self.changes(event):
-                rows.add(change)
-        return rows.kept()
+        places = range(len(self.capacities))
+        changes = (change for event in self.net.table["event"] for change in self.changes(event))
+        rows = ([change.get(place, 0) for place in places] for change in changes)
+        return [whole(weights) for weights in kernel(rows, len(places))]
 
     def steps(self, place: int) -> list[Steps]:
         """Where a queue may go from each of its numbers: pairs of arrays, the numbers before and
         after, as if all other queues held what lets it."""
-        pairs = []
-        for event in self.net.table["event"]:
-            pairs += self.steps_of(event, place)
-        return pairs
+        return [pair for event in self.net.table["event"] for pair in self.steps_of(event, place)]
 
     def steps_of(self, event: Table, place: int) -> list[Steps]:
         """The steps that one event may make a queue take."""
@@ -101,11 +96,11 @@ class Moves:
             numbers = numbers[least : most + 1]
             return [(numbers, numpy.clip(numbers + part.get("shift", 0), *ends_of(part, capacity)))]
         found = []
-        if place in self.sources(event):
+        if place in self.places(event, "from"):
             found.append((numbers[1:], numbers[1:] - 1))
         if kind == "negative" and self.place[event["on"]] == place:
             found.append((numbers, numpy.maximum(numbers - event.get("amount", 1), 0)))
-        if place in self.targets(event):
+        if place in self.places(event, "to"):
             size = event.get("size", 1)
             found.append((numbers[: capacity + 1 - size], numbers[size:]))
         return found
@@ -161,43 +156,12 @@ def bends(part: Table, least: int, most: int) -> list[int]:
     return [number for number in found if least <= number <= most]
 
 
-class Rows:
-    """The span of some vectors, row by row in echelon form."""
-
-    def __init__(self, width: int) -> None:
-        self.width = width
-        self.rows: dict[int, list[fractions.Fraction]] = {}
-
-    def add(self, change: Change) -> None:
-        """Takes a vector in, given by its places."""
-        vector = [fractions.Fraction(change.get(place, 0)) for place in range(self.width)]
-        for place in range(self.width):
-            if not vector[place]:
-                continue
-            if place not in self.rows:
-                pivot = vector[place]
-                self.rows[place] = [value / pivot for value in vector]
-                return
-            factor, row = vector[place], self.rows[place]
-            vector = [value - factor * other for value, other in zip(vector, row)]
-
-    def kept(self) -> list[list[int]]:
-        """A basis of the weights under which all the vectors sum to zero, as whole numbers."""
-        found = []
-        for free in range(self.width):
-            if free in self.rows:
-                continue
-            weights = [fractions.Fraction(0)] * self.width
-            weights[free] = fractions.Fraction(1)
-            for place in sorted(self.rows, reverse=True):
-                row = self.rows[place]
-                weights[place] -= sum(row[k] * weights[k] for k in range(place + 1, self.width))
-            whole = math.lcm(*(weight.denominator for weight in weights))
-            numbers = [int(weight * whole) for weight in weights]
-            common = math.gcd(*numbers)
-            sign = 1 if next(number for number in numbers if number) > 0 else -1
-            found.append([sign * number // common for number in numbers])
-        return found
+def whole(weights: list[Fraction]) -> list[int]:
+    """The least whole numbers in proportion to some weights, the first of which that isn't 0 is above it."""
+    factor = math.lcm(*(weight.denominator for weight in weights))
+    numbers = [int(weight * factor) for weight in weights]
+    common = math.gcd(*numbers) * (1 if next(filter(None, numbers)) > 0 else -1)
+    return [number // common for number in numbers]
 
 
 @dataclasses.dataclass
@@ -264,9 +228,9 @@ def flows_of(moves: Moves, event: Table, outer: list[float], served: list[float]
         targets = [(place, shift) for place, shift in shifts if shift > 0]
         taken = {place: -shift for place, shift in shifts if shift < 0}
     else:
-        sources = moves.sources(event)
+        sources = moves.places(event, "from")
         size = event.get("size", 1) if event["kind"] in ("batch", "index") else 1
-        found = moves.targets(event)
+        found = moves.places(event, "to")
         if event["kind"] == "index":
             size /= len(found)
         every = event["kind"] in ("fork", "join", "index")

@@ -1,5 +1,6 @@
 """Where in a network file stands what psi refuses, and the guide's sentences on it."""
 
+import re
 from collections.abc import Callable, Iterable, Iterator
 from typing import Any
 
@@ -45,7 +46,7 @@ SENTENCES = {
 MOST = {"queue": 32, "event": 1_024, "reward": 64, "part": 32}
 # What a part of a guarded event may have.
 OF_PARTS = "queue", "least", "most", "shift", "floor", "ceiling"
-NAME = frozenset("abcdefghijklmnopqrstuvwxyzABCDEFGHIJKLMNOPQRSTUVWXYZ0123456789_-")
+NAME = re.compile("[a-zA-Z0-9_-]{1,32}")
 KEYS = {
     "top": ("version", "limit", "split", "queue", "event", "reward"),
     "queue": ("name", "capacity", "servers"),
@@ -88,11 +89,15 @@ def place_at_top(document: Table, name: str, key: str) -> Place:
     return 1, "the first line; it isn't in the file" if name in ("MissingKey", "NoEvents") else None
 
 
+def odd_keys(table: Table) -> list[str]:
+    """The keys that aren't of the form of a name, in byte order."""
+    return sorted((key for key in table if not NAME.fullmatch(key)), key=str.encode)
+
+
 def place_of_odd_key(table: Table) -> int:
-    """The line of the first key, in byte order, that isn't of the form of a name."""
-    odd = [key for key in table if not (key and len(key) <= 32 and set(key) <= NAME)]
-    first = min(odd, key=str.encode, default=None)
-    return table.line if first is None else table.places[first]
+    """The line of the first key that isn't of the form of a name."""
+    odd = odd_keys(table)
+    return table.places[odd[0]] if odd else table.line
 
 
 def place_of_name(tables: Array, place: int) -> Place:
@@ -107,37 +112,40 @@ def in_parts(event: Table, name: str, key: str) -> bool:
     """Whether what is refused stands in a part of an event."""
     if event.get("kind") != "guarded" or type(event.get("part")) is not Array:
         return False
-    if name == "UnknownKey" and (key in event or key == "-" and place_odd(event)):
+    if name == "UnknownKey" and (key in event or key == "-" and odd_keys(event)):
         return False
     return key in OF_PARTS or name == "UnknownKey" or key == "part" and name == "WrongType"
 
 
-def place_odd(table: Table) -> bool:
-    """Whether a table has a key that isn't of the form of a name."""
-    return any(not (key and len(key) <= 32 and set(key) <= NAME) for key in table)
+def offending(document: Table, parts: Array, name: str, key: str) -> int | None:
+    """The place of the first part of an event that offends, or that is no table; none where there is none."""
+    capacities: dict[str, int] = capacities_of(document)
+    seen: set[Any] = set()
+    for place, part in enumerate(parts):
+        if type(part) is not Table or offends(part, name, key, capacities, seen):
+            return place
+        if type(part.get("queue")) is str:
+            seen.add(part["queue"])
+    return None
 
 
 def place_in_parts(document: Table, event: Table, name: str, key: str) -> Place:
     """The line in the first part that offends."""
-    capacities: dict[str, int] = capacities_of(document)
-    seen: set[Any] = set()
-    for number, part in enumerate(event["part"]):
-        line = event["part"].places[number]
-        if type(part) is not Table:
-            return line, "this part is no table"
-        if offends(part, name, key, capacities, seen):
-            odd = place_of_odd_key(part) if key == "-" else None
-            return odd or part.places.get(key, part.line or line), f"part {number + 1}"
-        if type(part.get("queue")) is str:
-            seen.add(part["queue"])
-    return event.places["part"], None
+    place = offending(document, event["part"], name, key)
+    if place is None:
+        return event.places["part"], None
+    part, line = event["part"][place], event["part"].places[place]
+    if type(part) is not Table:
+        return line, "this part is no table"
+    odd = place_of_odd_key(part) if key == "-" else None
+    return odd or part.places.get(key, part.line or line), f"part {place + 1}"
 
 
 def offends(part: Table, name: str, key: str, capacities: dict[str, int], seen: set[Any]) -> bool:
     """Whether a part is the one that is refused, by its refusal."""
     value, capacity = part.get(key), capacities.get(part.get("queue", ""))
     if name == "UnknownKey":
-        return place_odd(part) if key == "-" else key in part and key not in OF_PARTS
+        return bool(odd_keys(part)) if key == "-" else key in part and key not in OF_PARTS
     if name == "MissingKey":
         return key not in part
     if name == "WrongType":
@@ -168,22 +176,21 @@ def place_in_value(document: Table, table: Table, name: str, key: str) -> Place:
     value, line = table[key], table.places[key]
     if type(value) is not Array:
         return line, None
-    items = [*items_of(value)]
-    if name == "UnknownQueue":
-        known = capacities_of(document)
-        return first_line(items, lambda item: item not in known, line), None
-    if name == "RepeatedTarget":
-        return first_line(repeats(items), lambda item: True, line), None
-    if name == "SelfTarget":
-        return first_line(items, lambda item: bool(item == table.get("from")), line), None
-    if name == "WrongType":
-        wanted = (int, Array) if key in ("table", "weights") else (str,)
-        return first_line(items, lambda item: type(item) not in wanted, line), None
-    if name == "OutOfRange":
-        return first_line(items, lambda item: is_out(item, table), line), None
-    if name == "TableLength":
-        return line_of_length(document, table, key, line), None
-    return line, None
+    types = (int, Array) if key in ("table", "weights") else (str,)
+    wrong: dict[str, Callable[[Any], object]] = {
+        "UnknownQueue": lambda item: item not in capacities_of(document),
+        "SelfTarget": lambda item: item == table.get("from"),
+        "WrongType": lambda item: type(item) not in types,
+        "OutOfRange": lambda item: type(item) is int and not least_of(table) <= item <= 10**9,
+    }
+    lines: Iterable[int] = ()
+    if name in wrong:
+        lines = (place for item, place in items_of(value) if wrong[name](item))
+    elif name == "RepeatedTarget":
+        lines = repeats(items_of(value))
+    elif name == "TableLength" and key == "table":
+        lines = (place for place, *_ in wrong_rows(document, table))
+    return next(iter(lines), line), None
 
 
 def items_of(value: Array) -> Iterator[tuple[Any, int]]:
@@ -195,35 +202,24 @@ def items_of(value: Array) -> Iterator[tuple[Any, int]]:
             yield item, line
 
 
-def first_line(items: Iterable[tuple[Any, int]], is_wrong: Callable[[Any], bool], line: int) -> int:
-    """The line of the first item that is wrong, or that of the key."""
-    return next((place for item, place in items if is_wrong(item)), line)
-
-
-def repeats(items: Iterable[tuple[Any, int]]) -> Iterator[tuple[Any, int]]:
-    """The items that stood before."""
+def repeats(items: Iterable[tuple[Any, int]]) -> Iterator[int]:
+    """The lines of the items that stood before."""
     seen = set()
     for item, line in items:
         if type(item) is str and item in seen:
-            yield item, line
+            yield line
         seen.add(item if type(item) is str else None)
 
 
-def is_out(item: Any, table: Table) -> bool:
-    """Whether a value of a table or of weights is out of its range."""
-    least = -(10**9) if table.get("kind") in ("linear", "table") else 0
-    return type(item) is int and not least <= item <= 10**9
+def least_of(table: Table) -> int:
+    """The least value that a table or weights may have."""
+    return -(10**9) if table.get("kind") in ("linear", "table") else 0
 
 
-def line_of_length(document: Table, table: Table, key: str, line: int) -> int:
-    """The line of the first row that is too long or too short."""
-    if key != "table":
-        return line
-    names = table.get("queues", table.get("to", ()))
-    more = 1 if "queues" in table else 0
-    known = capacities_of(document)
-    places: list[int] = table[key].places
-    for row, place, name in zip(table[key], places, names):
-        if type(row) is Array and name in known and len(row) != known[name] + more:
-            return place
-    return line
+def wrong_rows(document: Table, table: Table) -> Iterator[tuple[int, str, int, int]]:
+    """The rows that are too long or too short: the line of each, its queue, its length, and the one that is wanted."""
+    names, known = table.get("queues", table.get("to", ())), capacities_of(document)
+    for row, line, name in zip(table["table"], table["table"].places, names):
+        wanted = known.get(name, 0) + ("queues" in table)
+        if type(row) is Array and name in known and len(row) != wanted:
+            yield line, name, len(row), wanted

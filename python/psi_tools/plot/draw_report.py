@@ -122,7 +122,7 @@ def draw_horizons(axes: Any, reports: list[Report]) -> None:
             bar.set_gid(f"horizon-{k}-{power}")
     is_lost = any(report.uncoupled for report in reports)
     is_short = len(powers) <= 12
-    labels = [str(1 << k) if is_short and k < 10 else style.power_of_two(k) for k in powers]
+    labels = [str(1 << k) if is_short and k < 10 else f"2{style.raised(k)}" for k in powers]
     labels += ["not\ncoupled"] * is_lost
     axes.set_xticks([*range(len(powers)), *[lost] * is_lost], labels)
     axes.set_xlim(-0.6, (lost if is_lost else len(powers) - 1) + 0.6)

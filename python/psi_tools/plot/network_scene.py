@@ -11,6 +11,7 @@ import dataclasses
 import enum
 from typing import Any
 
+from psi_tools.model.moves import names_in
 from psi_tools.model.networks import OF_SERVERS, Network
 
 Table = dict[str, Any]
@@ -94,13 +95,6 @@ class Scene:
         return sum(node.kind is kind for node in self.nodes)
 
 
-def names_in(value: Any) -> list[str]:
-    """The names in `from` or `to`: none, one, or a list."""
-    if value is None:
-        return []
-    return [value] if isinstance(value, str) else list(value)
-
-
 def scene_of(net: Network) -> Scene:
     """The scene of a network that psi accepts."""
     return Builder(net).built()
@@ -143,9 +137,10 @@ class Builder:
         """Adds the small crossed arrow by which customers are lost."""
         self.arrow(tail, self.node(f"loss{number}", Node.LOSS), Arrow.LOSS, number)
 
-    def add_list(self, number: int, event: Table, label: str) -> None:
-        """An event whose customers join the first queue of a list that has room."""
+    def add_list(self, number: int, event: Table) -> None:
+        """An event whose customers join the first queue of a list that has room; of a batch several at once."""
         tail, targets = self.origin(number, event), names_in(event.get("to"))
+        label = label_of(event) + (f", {event['size']} at once" if event["kind"] == "batch" else "")
         blocks = event.get("full") == "stay" and bool(targets)
         if not targets:
             self.arrow(tail, self.node(f"out{number}", Node.SINK), Arrow.MOVE, number, label)
@@ -157,17 +152,7 @@ class Builder:
         if not blocks:
             self.lose(tail, number)
 
-    def add_arrival(self, number: int, event: Table) -> None:
-        """Customers from outside."""
-        self.add_list(number, event, label_of(event))
-
-    def add_service(self, number: int, event: Table) -> None:
-        """A customer served, who moves on or leaves."""
-        self.add_list(number, event, label_of(event))
-
-    def add_batch(self, number: int, event: Table) -> None:
-        """Several customers from outside at once."""
-        self.add_list(number, event, f"{label_of(event)}, {event['size']} at once")
+    add_arrival = add_service = add_batch = add_list
 
     def add_index(self, number: int, event: Table) -> None:
         """A customer who goes to the queue of the least index."""

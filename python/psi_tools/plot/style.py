@@ -115,11 +115,6 @@ def columns_of(labels: list[str]) -> int:
     return 1 if longest > 44 else 2 if longest > 32 else 3
 
 
-def power_of_two(power: int) -> str:
-    """Two to a power."""
-    return f"2{raised(power)}"
-
-
 @styled
 def laid_out(figure: Figure) -> Figure:
     """The same figure with all of its ticks made in this style, for a caller with another one."""

@@ -71,10 +71,6 @@ class Batches:
         """The row of a queue or a reward, none where there isn't one."""
         return next((row for row in self.rows if (row.kind, row.name) == (kind, name)), None)
 
-    def row(self, kind: str, name: str) -> Row:
-        """The row of a queue or a reward that there is."""
-        return next(row for row in self.rows if (row.kind, row.name) == (kind, name))
-
     def share(self, counts: list[int], level: float = LEVEL) -> Mean:
         """The share of all samples that some are, by their number in each batch."""
         return share_of(sum(counts), sum(self.samples), level=level)

@@ -12,12 +12,13 @@ nobody ever does: so each queue has room for all TOTAL, and every queue can be r
 other.
 """
 
-import fractions
 from collections.abc import Sequence
+from fractions import Fraction
 from typing import Any
 
 from psi_tools.errors import PsiError
 from psi_tools.model.networks import Table
+from psi_tools.stats.kernel import kernel
 
 Rates = Sequence[Sequence[Any]]
 
@@ -40,25 +41,16 @@ def rates_of(net: Table, total: int) -> list[list[int]]:
     return rows
 
 
-def flows_of(rows: Rates) -> list[fractions.Fraction]:
-    """How many customers come to each queue for each that comes to the first: the balance of all
-    the others, solved by elimination."""
-    count = len(rows)
+def flows_of(rows: Rates) -> list[Fraction]:
+    """How many customers come to each queue for each that comes to the first, by the balance of all queues."""
     if not all(map(sum, rows)):
         raise PsiError(APART)
-    share = [[fractions.Fraction(rate, sum(row)) for rate in row] for row in rows]
-    others = range(1, count)
-    lines = [[share[i][j] - (i == j) for i in others] + [-share[0][j]] for j in others]
-    for i in range(count - 1):
-        pivot = next((k for k in range(i, count - 1) if lines[k][i]), None)
-        if pivot is None:
-            raise PsiError(APART)
-        lines[i], lines[pivot] = lines[pivot], lines[i]
-        lines[i] = [value / lines[i][i] for value in lines[i]]
-        for k in range(count - 1):
-            if k != i:
-                lines[k] = [a - lines[k][i] * b for a, b in zip(lines[k], lines[i])]
-    return [fractions.Fraction(1), *(line[-1] for line in lines)]
+    share = [[Fraction(rate, sum(row)) for rate in row] for row in rows]
+    balance = [[row[j] - (i == j) for i, row in enumerate(share)] for j in range(1, len(rows))]
+    flows, *others = kernel(balance, len(rows))
+    if others or not flows[0]:
+        raise PsiError(APART)
+    return [flow / flows[0] for flow in flows]
 
 
 def means_of(rows: Rates, total: int) -> list[float]:
