@@ -33,9 +33,14 @@ class Sampling:
     peak: int
 
     @property
-    def net_seconds(self) -> float:
-        """The seconds without those of the start."""
-        return max(self.seconds - self.start, 1e-9)
+    def each(self) -> float:
+        """The seconds of a sample, without those of the start."""
+        return max(self.seconds - self.start, 1e-9) / self.samples
+
+    @property
+    def step(self) -> list[str]:
+        """The nanoseconds and the instructions of a step."""
+        return [shown(self.each * self.samples / self.steps * 1e9), shown(self.instructions)]
 
 
 @dataclasses.dataclass
@@ -117,29 +122,15 @@ def wrapped(text: str) -> str:
 
 def sampling_row(one: Sampling) -> list[str]:
     """The row of a network: how fast its samples are drawn."""
-    each = one.net_seconds / one.samples
-    return [
-        one.case.about or one.case.name,
-        shown(one.steps / one.samples),
-        shown(1 / each),
-        shown(one.net_seconds / one.steps * 1e9),
-        shown(one.instructions),
-        f"{one.peak / 1e6:.1f}",
-    ]
+    counts = [shown(one.steps / one.samples), shown(1 / one.each)]
+    return [one.case.about or one.case.name, *counts, *one.step, f"{one.peak / 1e6:.1f}"]
 
 
 def growth(name: str, family: dict[str, Sampling]) -> str:
     """The table of a family: its cost beside that of the first network."""
     first, *_ = family.values()
-    base = first.net_seconds / first.samples
     rows = [
-        [
-            value,
-            shown(one.net_seconds / one.samples / base),
-            shown(one.steps / one.samples),
-            shown(one.net_seconds / one.steps * 1e9),
-            shown(one.instructions),
-        ]
+        [value, shown(one.each / first.each), shown(one.steps / one.samples), *one.step]
         for value, one in family.items()
     ]
     head = [name, "time a sample", "steps a sample", "ns a step", "instructions a step"]
@@ -186,12 +177,7 @@ def mean_table(comparisons: list[Comparison]) -> str:
     """The table of the means that the methods found. SimPy's runs are too short for one."""
     methods = [method for method in METHODS if method != "simpy"]
     rows = [
-        [
-            one.case.name,
-            shown_states(one.states),
-            estimate(one.psi),
-            *(estimate(one.others[method]) for method in methods),
-        ]
+        [one.case.name, shown_states(one.states), *map(estimate, (one.psi, *(one.others[it] for it in methods)))]
         for one in comparisons
     ]
     return table(["network", "states", "PSI", *(CALLED[method] for method in methods)], rows)

@@ -36,15 +36,13 @@ def states_of(capacities: list[int], total: int | None) -> Array:
 
 def count_of(capacities: list[int], total: int | None) -> int:
     """The number of states, without making them."""
-    counts = [1]
+    if total is None:
+        return math.prod(capacity + 1 for capacity in capacities)
+    counts = [1, *[0] * total]
     for capacity in capacities:
         # The number of states of the queues so far, for each total.
-        made = [0] * (len(counts) + capacity)
-        for place, count in enumerate(counts):
-            for number in range(capacity + 1):
-                made[place + number] += count
-        counts = made
-    return sum(counts) if total is None else counts[total] if total < len(counts) else 0
+        counts = [sum(counts[max(0, place - capacity) : place + 1]) for place in range(total + 1)]
+    return counts[total]
 
 
 def chosen(event: Event, states: Array, has_space: Array) -> Array:

@@ -38,10 +38,6 @@ def queues_of(dice: Dice, family: str) -> list[dict[str, Any]]:
     ]
 
 
-def rate_of(dice: Dice, size: int) -> int:
-    return dice.upto(size)
-
-
 def entries_of(dice: Dice, queues: list[dict[str, Any]]) -> list[Entry]:
     """Events that all keep the order of states: services and arrivals to lists, departures."""
     size = dice.pick((4, 4, 10, 1000, 1048576 // 64))
@@ -50,10 +46,10 @@ def entries_of(dice: Dice, queues: list[dict[str, Any]]) -> list[Entry]:
     entries: list[Entry] = []
     for i in range(dice.upto(2)):
         to = [dice.pick(names)] if most_targets == 1 else listed(dice, names, most_targets)
-        entries.append({"name": f"in{i}", "kind": "arrival", "rate": rate_of(dice, size), "to": to})
+        entries.append({"name": f"in{i}", "kind": "arrival", "rate": dice.upto(size), "to": to})
     for i, name in enumerate(names):
         others = [other for other in names if other != name]
-        entry: Entry = {"name": f"s{i}", "kind": "service", "rate": rate_of(dice, size), "from": name}
+        entry: Entry = {"name": f"s{i}", "kind": "service", "rate": dice.upto(size), "from": name}
         if others and dice.below(3) > 0:
             entry["to"] = listed(dice, others, most_targets)
             entry["full"] = dice.pick(("stay", "lost"))

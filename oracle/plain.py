@@ -18,11 +18,12 @@ import math
 import struct
 import sys
 import tomllib
-from collections.abc import Callable, Collection, Sequence
-from typing import Any
+from collections.abc import Callable, Collection, Iterable, Sequence
+from typing import Any, TypeVar
 
 from oracle.plain_network import Network, Reward, State, box
 
+T = TypeVar("T")
 # A horizon and the state there, or none.
 Outcome = tuple[int, State] | None
 Record = tuple[str, str | int, str | int]
@@ -33,18 +34,10 @@ MASK = 0xFFFFFFFF
 
 
 def _quarter(x: list[int], a: int, b: int, c: int, d: int) -> None:
-    x[a] = (x[a] + x[b]) & MASK
-    x[d] = _turned(x[d] ^ x[a], 16)
-    x[c] = (x[c] + x[d]) & MASK
-    x[b] = _turned(x[b] ^ x[c], 12)
-    x[a] = (x[a] + x[b]) & MASK
-    x[d] = _turned(x[d] ^ x[a], 8)
-    x[c] = (x[c] + x[d]) & MASK
-    x[b] = _turned(x[b] ^ x[c], 7)
-
-
-def _turned(word: int, by: int) -> int:
-    return ((word << by) | (word >> (32 - by))) & MASK
+    for left, right, turned, by in ((a, b, d, 16), (c, d, b, 12), (a, b, d, 8), (c, d, b, 7)):
+        x[left] = (x[left] + x[right]) & MASK
+        word = x[turned] ^ x[left]
+        x[turned] = ((word << by) | (word >> (32 - by))) & MASK
 
 
 @functools.cache
@@ -67,13 +60,9 @@ class Words:
 
     def __init__(self, seed: int, stream: int) -> None:
         self.seed, self.stream = seed, stream
-        self.blocks: dict[int, list[int]] = {}
 
     def __getitem__(self, place: int) -> int:
-        counter = place // 16
-        if counter not in self.blocks:
-            self.blocks[counter] = block(self.seed, self.stream, counter)
-        return self.blocks[counter][place % 16]
+        return block(self.seed, self.stream, place // 16)[place % 16]
 
 
 # Runs.
@@ -93,34 +82,36 @@ def ending(net: Network, words: Words, horizon: int) -> list[State]:
     return states
 
 
+def first_single(horizons: Iterable[int], values: Callable[[int], Collection[T]]) -> tuple[int, T] | None:
+    """The first of some horizons at which there is one value, and that value; none where there is none."""
+    for horizon in horizons:
+        found = values(horizon)
+        if len(found) == 1:
+            return horizon, next(iter(found))
+    return None
+
+
+def powers(net: Network) -> list[int]:
+    """The horizons that a sample tries."""
+    return [2**exponent for exponent in range(net.limit + 1)]
+
+
 def outcome(net: Network, seed: int, stream: int) -> Outcome:
     """The horizon and the state of a sample; none where it isn't met."""
     words = Words(seed, stream)
-    for exponent in range(net.limit + 1):
-        states = ending(net, words, 2**exponent)
-        if len(states) == 1:
-            return 2**exponent, states[0]
-    return None
+    return first_single(powers(net), lambda horizon: ending(net, words, horizon))
 
 
 def coupling(net: Network, seed: int, stream: int, limit: int) -> Outcome:
     """The least horizon of any length and its state; none where there is none."""
     words = Words(seed, stream)
-    for horizon in range(1, 2**limit + 1):
-        states = ending(net, words, horizon)
-        if len(states) == 1:
-            return horizon, states[0]
-    return None
+    return first_single(range(1, 2**limit + 1), lambda horizon: ending(net, words, horizon))
 
 
 def valuation(net: Network, seed: int, stream: int, reward: Reward) -> tuple[int, int] | None:
     """The horizon at which a reward has one value, and that value; none where there is none."""
     words = Words(seed, stream)
-    for exponent in range(net.limit + 1):
-        values = {reward.value(x) for x in ending(net, words, 2**exponent)}
-        if len(values) == 1:
-            return 2**exponent, values.pop()
-    return None
+    return first_single(powers(net), lambda horizon: {reward.value(x) for x in ending(net, words, horizon)})
 
 
 # Maps of all states.
@@ -179,11 +170,7 @@ def closed_ending(net: Network, words: Words, everything: list[State], horizon: 
 def closed_outcome(net: Network, seed: int, stream: int, total: int) -> Outcome:
     """The horizon and the state of a closed network's sample; none where it isn't met."""
     words, everything = Words(seed, stream), of_total(net.caps, total)
-    for exponent in range(net.limit + 1):
-        states = closed_ending(net, words, everything, 2**exponent)
-        if len(states) == 1:
-            return 2**exponent, states[0]
-    return None
+    return first_single(powers(net), lambda horizon: closed_ending(net, words, everything, horizon))
 
 
 # The network of a trial.

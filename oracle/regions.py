@@ -16,16 +16,16 @@ from oracle.plain_network import Event, Network, State, box
 def corners_outcome(net: Network, seed: int, stream: int) -> Outcome:
     """The least horizon among the powers of two at which the two corners meet, and where."""
     words = plain.Words(seed, stream)
-    for exponent in range(net.limit + 1):
-        low: State = (0,) * len(net.caps)
-        high = net.caps
-        for place in range(2**exponent - 1, -1, -1):
+
+    def ends(horizon: int) -> set[State]:
+        low, high = (0,) * len(net.caps), net.caps
+        for place in range(horizon - 1, -1, -1):
             event = net.event_of(words[place])
             if event is not None:
                 low, high = event.routed(low), event.routed(high)
-        if low == high:
-            return 2**exponent, low
-    return None
+        return {low, high}
+
+    return plain.first_single(plain.powers(net), ends)
 
 
 def named_by(event: Event) -> list[int]:
@@ -62,8 +62,8 @@ def image_box(event: Event, low: State, high: State) -> tuple[State, State]:
     return tuple(least), tuple(most)
 
 
-def box_ending(net: Network, words: plain.Words, horizon: int) -> State | None:
-    """The one state of the region with which the run of a horizon ends; none where it has several."""
+def box_ending(net: Network, words: plain.Words, horizon: int) -> set[State]:
+    """The states of the region with which the run of a horizon ends; of a box its two corners."""
     low: State = (0,) * len(net.caps)
     high, states = net.caps, None
     for place in range(horizon - 1, -1, -1):
@@ -76,15 +76,10 @@ def box_ending(net: Network, words: plain.Words, horizon: int) -> State | None:
             low, high = image_box(event, low, high)
         else:
             states = {event.after(x) for x in states}
-    ends = states if states is not None else {low, high}
-    return ends.pop() if len(ends) == 1 else None
+    return {low, high} if states is None else states
 
 
 def box_outcome(net: Network, seed: int, stream: int) -> Outcome:
     """The least horizon among the powers of two whose run ends with one state, and that state."""
     words = plain.Words(seed, stream)
-    for exponent in range(net.limit + 1):
-        state = box_ending(net, words, 2**exponent)
-        if state is not None:
-            return 2**exponent, state
-    return None
+    return plain.first_single(plain.powers(net), lambda horizon: box_ending(net, words, horizon))

@@ -138,26 +138,24 @@ def maintainer() -> str:
     return f"{name} <{os.environ.get('DEBEMAIL') or printed_by('git', 'log', '-1', '--format=%ce')}>"
 
 
+def placed(target: pathlib.Path) -> pathlib.Path:
+    """The path of a file that is to be made, whose folder is there."""
+    target.parent.mkdir(parents=True, exist_ok=True)
+    return target
+
+
 def copy(source: pathlib.Path, target: pathlib.Path, mode: int = 0o644) -> None:
-    target.parent.mkdir(parents=True, exist_ok=True)
-    shutil.copyfile(source, target)
+    shutil.copyfile(source, placed(target))
     target.chmod(mode)
-
-
-def write(target: pathlib.Path, text: str) -> None:
-    target.parent.mkdir(parents=True, exist_ok=True)
-    target.write_text(text)
 
 
 def pack(target: pathlib.Path, text: str) -> None:
     """Writes a text that is compressed, without a name or a time in it."""
-    target.parent.mkdir(parents=True, exist_ok=True)
-    target.write_bytes(gzip.compress(text.encode(), 9, mtime=0))
+    placed(target).write_bytes(gzip.compress(text.encode(), 9, mtime=0))
 
 
 def link(target: pathlib.Path, path: pathlib.Path) -> None:
-    path.parent.mkdir(parents=True, exist_ok=True)
-    path.symlink_to(os.path.relpath(target, path.parent))
+    placed(path).symlink_to(os.path.relpath(target, path.parent))
 
 
 def tracked(name: str) -> list[str]:
@@ -206,7 +204,7 @@ def fill_documents(root: pathlib.Path, version: str, second: int) -> None:
     changes = CHANGES.format(name=NAME, version=version, by=maintainer(), stamp=stamp)
     pack(doc / "changelog.Debian.gz", changes)
     mit = (TOP / "LICENSE-MIT").read_text().splitlines()[4:]
-    write(doc / "copyright", COPYRIGHT + "".join(f" {line or '.'}\n" for line in mit))
+    placed(doc / "copyright").write_text(COPYRIGHT + "".join(f" {line or '.'}\n" for line in mit))
     for name, text in man_pages.pages(TOP, day):
         pack(share / f"man/man{name[-1]}" / f"{name}.gz", text)
     for file in tracked("release/package_files/lintian-overrides"):
@@ -215,9 +213,9 @@ def fill_documents(root: pathlib.Path, version: str, second: int) -> None:
     copy(files / "completion.zsh", share / "zsh/vendor-completions/_psi")
     copy(files / "completion.fish", share / "fish/vendor_completions.d/psi.fish")
     for name in NAMES:
-        write(share / f"bash-completion/completions/psi-{name}", completion("bash", name))
-        write(share / f"zsh/vendor-completions/_psi-{name}", completion("zsh", name))
-        write(share / f"fish/vendor_completions.d/psi-{name}.fish", completion("fish", name))
+        placed(share / f"bash-completion/completions/psi-{name}").write_text(completion("bash", name))
+        placed(share / f"zsh/vendor-completions/_psi-{name}").write_text(completion("zsh", name))
+        placed(share / f"fish/vendor_completions.d/psi-{name}.fish").write_text(completion("fish", name))
 
 
 def glibc_of(program: pathlib.Path) -> str:
@@ -234,9 +232,9 @@ def fill_control(root: pathlib.Path, version: str, program: pathlib.Path) -> Non
     fields["depends"] = ", ".join([f"libc6 (>= {glibc_of(program)})", *DEPENDS])
     names = [str(file.relative_to(root)) for file in files]
     sums = subprocess.check_output(["md5sum", *names], cwd=root, text=True)
-    write(root / "DEBIAN/control", CONTROL.format(**fields))
-    write(root / "DEBIAN/md5sums", sums)
-    write(root / "DEBIAN/prerm", PRERM)
+    placed(root / "DEBIAN/control").write_text(CONTROL.format(**fields))
+    (root / "DEBIAN/md5sums").write_text(sums)
+    (root / "DEBIAN/prerm").write_text(PRERM)
     (root / "DEBIAN/prerm").chmod(0o755)
 
 
@@ -318,7 +316,7 @@ def main(words: list[str]) -> int:
         made = [make(room, folder, programs, version, second) for make in (make_package, make_archive)]
     digests = [hashlib.sha256(file.read_bytes()).hexdigest() for file in made]
     sums = folder / "SHA256SUMS"
-    write(sums, "".join(f"{digest}  {file.name}\n" for digest, file in zip(digests, made)))
+    sums.write_text("".join(f"{digest}  {file.name}\n" for digest, file in zip(digests, made)))
     print(*made, sums, sep="\n")
     return 0
 
