@@ -385,4 +385,4 @@ def probability(
     warn_uncoupled(found.unknown, found.many)
     if not found.known:
         raise PsiError(f"none of {found.many:,} streams is coupled", 1)
-    return Probability(**found.record(level))
+    return Probability(**found.records(level)[0])

@@ -2,7 +2,6 @@
 
 import argparse
 import functools
-from collections.abc import Callable
 
 from psi_tools.cli.options import (
     PILOTS,
@@ -102,48 +101,34 @@ def text_of(law: Law, args: argparse.Namespace) -> str:
     return tables.ended(lines)
 
 
-def answer_of(law: Law, args: argparse.Namespace) -> str:
-    """The answer in the form that is asked."""
-    if args.format == "text":
-        return text_of(law, args)
-    records = law.records()
-    if args.format == "csv":
-        return tables.as_csv(records)
-    mean = law.mean()
-    keys = "share", "value", "low", "high"
-    notes = [*notes_of(law), *law.remarks()]
-    ends = {"mean": mean.mean, "half": mean.half, "low": mean.low, "high": mean.high}
-    return tables.as_json(
-        {
-            "name": law.name,
-            "samples": law.many,
-            "unknown": law.unknown,
-            "notes": notes,
-            "mean": ends,
-            "values": records,
-            "quantiles": [dict(zip(keys, each)) for each in law.quantiles()],
-        }
-    )
-
-
-def counted_answer_of(found: Joint | Share, args: argparse.Namespace) -> str:
-    """The answer on several numbers, or on a condition, in the form that is asked for."""
-    named: Record
-    if isinstance(found, Joint):
-        records, columns, named = found.records(), found.columns, {"names": found.columns}
-    else:
-        records, columns, named = [found.record()], [], {"where": found.condition}
-    if args.format == "csv":
-        return tables.as_csv(records)
-    if args.format == "json":
-        drawn: Record = {"samples": found.many, "unknown": found.unknown, "notes": notes_of(found)}
-        return tables.as_json({**named, **drawn, **({"values": records} if columns else records[0])})
+def counted_text_of(found: Joint | Share, args: argparse.Namespace) -> str:
+    """The answer for people on several numbers, or on a condition."""
+    columns = found.columns if isinstance(found, Joint) else []
     rows: list[tuple[object, ...]] = [(*columns, "samples", "probability", "from", "to")]
-    for each in records:
+    for each in found.records():
         shown = [f"{each[key]:.5f}" for key in SHARED[1:]]
         rows.append((*(each[column] for column in columns), each["count"], *shown))
-    head = head_of(found, ", ".join(columns) or named["where"], args)
+    head = head_of(found, ", ".join(found.columns) if isinstance(found, Joint) else found.condition, args)
     return tables.ended([*head, *tables.aligned(rows, right=range(len(rows[0])))])
+
+
+def answer_of(found: Found, args: argparse.Namespace) -> str:
+    """The answer in the form that is asked for."""
+    if args.format == "text":
+        return text_of(found, args) if isinstance(found, Law) else counted_text_of(found, args)
+    records = found.records()
+    if args.format == "csv":
+        return tables.as_csv(records)
+    drawn: Record = {"samples": found.many, "unknown": found.unknown, "notes": notes_of(found)}
+    if isinstance(found, Share):
+        return tables.as_json({"where": found.condition, **drawn, **records[0]})
+    if isinstance(found, Joint):
+        return tables.as_json({"names": found.columns, **drawn, "values": records})
+    mean, keys = found.mean(), ("share", "value", "low", "high")
+    drawn["notes"] += found.remarks()
+    ends = {"mean": mean.mean, "half": mean.half, "low": mean.low, "high": mean.high}
+    quantiles = [dict(zip(keys, each)) for each in found.quantiles()]
+    return tables.as_json({"name": found.name, **drawn, "mean": ends, "values": records, "quantiles": quantiles})
 
 
 def certificates_of(net: Network, args: argparse.Namespace, law: Law) -> str:
@@ -173,17 +158,8 @@ def check_args(args: argparse.Namespace) -> None:
     check_picture(args.picture)
 
 
-def answered(found: Found, args: argparse.Namespace, answer: Callable[[], str]) -> None:
-    """Writes an answer, where a stream is coupled."""
-    if not found.known:
-        raise PsiError(f"none of {found.many:,} streams is coupled; psi-why reports what may help", 1)
-    write_answer(answer(), args.out)
-    if notes_of(found) and args.format != "text":
-        print_note(COMMAND, notes_of(found)[0])
-
-
-def write_law(law: Law, net: Network, args: argparse.Namespace) -> str:
-    """Writes the picture and the certificates of a distribution, and gives the answer."""
+def write_files(law: Law, net: Network, args: argparse.Namespace) -> None:
+    """Writes the picture and the certificates of a distribution."""
     if args.picture:
         from psi_tools.plot.draw_law import draw_law
         from psi_tools.plot.style import saved
@@ -191,7 +167,6 @@ def write_law(law: Law, net: Network, args: argparse.Namespace) -> str:
         write(args.picture, saved(draw_law(law, ""), args.picture.rpartition(".")[2].lower()))
     if args.certificate:
         write(args.certificate, certificates_of(net, args, law).encode())
-    return answer_of(law, args)
 
 
 def work(arguments: list[str]) -> int:
@@ -203,17 +178,22 @@ def work(arguments: list[str]) -> int:
     if args.count > FEW and not psi.has_states():
         print_note(COMMAND, "psi_states isn't built, so psi draws each sample, which takes longer; " + BUILT_BY)
     samples = Samples(psi, net, args.seed, args.first, args.count, functools.partial(Progress, COMMAND))
-    if args.where is not None or len(args.names) > 1:
-        counted: Joint | Share
-        counted = samples.joint_law(args.names, args.reward) if args.names else samples.share_where(args.where)
-        answered(counted, args, lambda: counted_answer_of(counted, args))
-        return 0
-    law: Law
-    if args.guaranteed:
-        law = samples.guaranteed_law(args.names[0], args.reward, args.pilot)
+    found: Found
+    if args.where is not None:
+        found = samples.share_where(args.where)
+    elif len(args.names) > 1:
+        found = samples.joint_law(args.names, args.reward)
+    elif args.guaranteed:
+        found = samples.guaranteed_law(args.names[0], args.reward, args.pilot)
     else:
-        law = samples.law(args.names[0], args.reward)
-    answered(law, args, lambda: write_law(law, net, args))
-    if args.guaranteed and args.format == "csv":
-        print_note(COMMAND, law.remarks()[-1])
+        found = samples.law(args.names[0], args.reward)
+    if not found.known:
+        raise PsiError(f"none of {found.many:,} streams is coupled; psi-why reports what may help", 1)
+    if isinstance(found, Law):
+        write_files(found, net, args)
+    write_answer(answer_of(found, args), args.out)
+    if notes_of(found) and args.format != "text":
+        print_note(COMMAND, notes_of(found)[0])
+    if isinstance(found, Law) and args.guaranteed and args.format == "csv":
+        print_note(COMMAND, found.remarks()[-1])
     return 0

@@ -133,8 +133,11 @@ def heads_of(batches: Batches) -> Record:
     return {"samples": sum(batches.samples), "met": sum(batches.met), "batches": len(batches.samples)}
 
 
-def check_guarantee(batches: Batches, wanted: int) -> None:
-    """Refuses reports of which nothing is guaranteed."""
+def guaranteed_answer(args: argparse.Namespace, batches: Batches, wanted: int) -> tuple[str, list[str]]:
+    """The text of the answer whose intervals carry a theorem, by the sums of all reports."""
+    from psi_tools.stats.guaranteed import ASSUMED, file_of, misses
+    from psi_tools.stats.guaranteed_rows import guaranteed_means
+
     if not batches.spans:
         raise PsiError("--guaranteed needs the range of each row over all states, which --net NET gives")
     if len(batches.samples) < wanted:
@@ -142,14 +145,6 @@ def check_guarantee(batches: Batches, wanted: int) -> None:
             f"{len(batches.samples)} of {wanted} blocks are finished, and --guaranteed wants a "
             "number of streams that was fixed beforehand; the same call of psi-many goes on"
         )
-
-
-def guaranteed_answer(args: argparse.Namespace, batches: Batches, wanted: int) -> tuple[str, list[str]]:
-    """The text of the answer whose intervals carry a theorem, by the sums of all reports."""
-    from psi_tools.stats.guaranteed import ASSUMED, file_of, misses
-    from psi_tools.stats.guaranteed_rows import guaranteed_means
-
-    check_guarantee(batches, wanted)
     rows, records = guaranteed_means(batches, args.level / 100)
     if args.certificate:
         write(args.certificate, tables.as_json(file_of(rows, {"reports": args.reports})).encode())

@@ -24,12 +24,8 @@ EXPONENT = 12
 
 def sum_of(net: Network, weights: list[int]) -> str:
     """A sum of customers in words."""
-    parts = []
-    for weight, name in zip(weights, net.queues):
-        if not weight:
-            continue
-        operator = "- " if weight < 0 else "+ "
-        parts.append(operator + (f"{abs(weight)} " if abs(weight) != 1 else "") + name)
+    signed = [("- " if weight < 0 else "+ ", abs(weight), name) for weight, name in zip(weights, net.queues) if weight]
+    parts = (sign + (f"{size} " if size != 1 else "") + name for sign, size, name in signed)
     return " ".join(parts).removeprefix("+ ")
 
 

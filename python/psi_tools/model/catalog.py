@@ -2,6 +2,7 @@
 
 import argparse
 import dataclasses
+import itertools
 import math
 from collections.abc import Iterable, Sequence
 from fractions import Fraction
@@ -22,13 +23,8 @@ MOST_SERVERS = 64
 class Made:
     """A network whose rates are fractions yet, and the comment of its file."""
 
-    net: Network
     comment: str
-
-
-def start(comment: str) -> Made:
-    """An empty model."""
-    return Made(Network(), comment)
+    net: Network = dataclasses.field(default_factory=Network)
 
 
 def add_arrival(made: Made, name: str, rate: Rate, *to: str) -> None:
@@ -54,18 +50,34 @@ def add_full(made: Made, name: str, queue: str, capacity: int) -> None:
     made.net.reward(name, "above", [queue], level=capacity - 1)
 
 
-def waiting(servers: int, places: int) -> list[int]:
-    """How many wait, for each number of customers."""
-    return [max(0, number - servers) for number in range(places + 1)]
+def add_waiting(made: Made, queue: str, servers: int, places: int) -> None:
+    """The rewards that are 1 where a queue is full, and how many wait in it."""
+    add_full(made, "full", queue, places)
+    waiting = [max(0, number - servers) for number in range(places + 1)]
+    made.net.reward("waiting", "table", [queue], table=[waiting])
+
+
+def add_queues(made: Made, names: Iterable[str], places: Iterable[int]) -> None:
+    for name, capacity in zip(names, places):
+        made.net.queue(name, capacity)
+
+
+def add_services(made: Made, names: Iterable[str], rates: Iterable[Rate]) -> None:
+    """A service of each queue that ends outside."""
+    for name, rate in zip(names, rates):
+        made.net.event(f"{name}-done", "service", rate, source=name)
+
+
+def numbered(name: str, count: int) -> list[str]:
+    """Names that end with 1, 2, .."""
+    return [f"{name}-{number}" for number in range(1, count + 1)]
 
 
 def by_formula(arrival: Rate, deaths: Sequence[Rate]) -> str:
     """The values of a queue by the formula for birth and death, as a sentence: how many are there on
     average, and how often it is full. `deaths` has the rate at which it loses one, from 1 customer
     to as many as there are places."""
-    logs = [0.0]
-    for death in deaths:
-        logs.append(logs[-1] + math.log(arrival / death))
+    logs = [*itertools.accumulate((math.log(arrival / death) for death in deaths), initial=0.0)]
     most = max(logs)
     weights = [math.exp(log - most) for log in logs]
     total = math.fsum(weights)
@@ -77,7 +89,7 @@ def by_formula(arrival: Rate, deaths: Sequence[Rate]) -> str:
 
 def single_server(args: argparse.Namespace) -> Made:
     """M/M/1/K"""
-    made = start(
+    made = Made(
         f"A single server with a waiting room: M/M/1/K with K = {args.places}. Customers come at "
         f"rate {args.arrival} and are served at rate {args.service}; who finds it full is lost. "
         "The rewards: whether it is full, and how many wait."
@@ -86,8 +98,7 @@ def single_server(args: argparse.Namespace) -> Made:
     made.net.queue("desk", args.places)
     add_arrival(made, "come", args.arrival, "desk")
     add_servers(made, "desk", args.service, 1)
-    add_full(made, "full", "desk", args.places)
-    made.net.reward("waiting", "table", ["desk"], table=[waiting(1, args.places)])
+    add_waiting(made, "desk", 1, args.places)
     return made
 
 
@@ -105,7 +116,7 @@ def several_servers(args: argparse.Namespace) -> Made:
     c, places = args.servers, args.places
     if places < c:
         raise PsiError(f"--places is at least --servers, {c}")
-    made = start(
+    made = Made(
         f"{c} servers with a common waiting room: M/M/c/K with c = {c} and K = {places}. Customers come at rate "
         f"{args.arrival}, each server serves at rate {args.service}, and who finds it full is lost. The rewards: "
         "whether all servers are busy, whether it is full, and how many wait."
@@ -115,15 +126,14 @@ def several_servers(args: argparse.Namespace) -> Made:
     add_arrival(made, "ring", args.arrival, "calls")
     add_servers(made, "calls", args.service, c, "answer")
     made.net.reward("all-busy", "above", ["calls"], level=c - 1)
-    add_full(made, "full", "calls", places)
-    made.net.reward("waiting", "table", ["calls"], table=[waiting(c, places)])
+    add_waiting(made, "calls", c, places)
     return made
 
 
 def erlang_loss(args: argparse.Namespace) -> Made:
     """M/M/c/c"""
     c = args.servers
-    made = start(
+    made = Made(
         f"{c} telephone lines without a place to wait: M/M/c/c, whose loss is Erlang's formula B. Calls come at rate "
         f"{args.arrival} and last for a time of rate {args.service}. The reward: whether a call that comes is lost."
     )
@@ -154,7 +164,7 @@ def abandonment(args: argparse.Namespace) -> Made:
 
 def batches(args: argparse.Namespace) -> Made:
     """M^b/M/c/K"""
-    made = start(
+    made = Made(
         f"Groups of {args.size} who come together at rate {args.arrival} to a room of "
         f"{args.places} places with {args.servers} servers of rate {args.service} each; a group "
         "that finds no room for all of it is lost. A batch isn't monotone, so a longer past, or a "
@@ -178,13 +188,13 @@ def line(args: argparse.Namespace) -> Made:
     if not is_small:
         raise PsiError("--servers are at most as many as --places, and at most 64")
     kind = "is lost" if args.lost else "stays, and blocks its server"
-    made = start(
+    made = Made(
         f"A production line of {len(rates)} stages one behind the other, of rates {listed(rates)} "
         f"for each server, with {listed(places)} places and {listed(servers)} servers. Parts come "
         f"at rate {args.arrival}; one that finds the next stage full {kind}. The rewards: the "
         "parts in all, and whether the first stage is full, when a part that comes is lost."
     )
-    names = [f"stage-{number}" for number in range(1, len(rates) + 1)]
+    names = numbered("stage", len(rates))
     for name, capacity, count in zip(names, places, servers):
         made.net.queue(name, capacity, count)
     add_arrival(made, "deliver", args.arrival, names[0])
@@ -202,12 +212,12 @@ def overflow(args: argparse.Namespace) -> Made:
     lines = args.servers
     if max(lines) > MOST_SERVERS:
         raise PsiError("each of --servers is at most 64")
-    made = start(
+    made = Made(
         f"Groups of {listed(lines)} telephone lines: a call goes to the first group that has a free line, and is "
         f"lost where none has. Calls come at rate {args.arrival} and last for a time of rate {args.service}. The "
         "rewards: whether the first group is full, and how many groups are."
     )
-    names = [f"group-{number}" for number in range(1, len(lines) + 1)]
+    names = numbered("group", len(lines))
     for name, count in zip(names, lines):
         made.net.queue(name, count, count)
     add_arrival(made, "call", args.arrival, *names)
@@ -225,18 +235,16 @@ def overflow(args: argparse.Namespace) -> Made:
 def shortest_queue(args: argparse.Namespace) -> Made:
     """join the shortest queue"""
     rates = args.service
-    made = start(
+    made = Made(
         f"Join the shortest of {len(rates)} queues of {args.places} places each: customers come "
         f"at rate {args.arrival}, and the servers' rates are {listed(rates)}. Who finds all full "
         "is lost. The rewards: the customers in all, and the longest queue."
     )
-    names = [f"queue-{number}" for number in range(1, len(rates) + 1)]
-    for name in names:
-        made.net.queue(name, args.places)
+    names = numbered("queue", len(rates))
+    add_queues(made, names, [args.places] * len(rates))
     table = [list(range(args.places))] * len(names)
     made.net.event("come", "index", args.arrival, to=names, table=table)
-    for name, rate in zip(names, rates):
-        made.net.event(f"{name}-done", "service", rate, source=name)
+    add_services(made, names, rates)
     made.net.reward("customers", "linear", names, weights=[1] * len(names))
     made.net.reward("longest", "greatest", names)
     return made
@@ -245,7 +253,7 @@ def shortest_queue(args: argparse.Namespace) -> Made:
 def closed(args: argparse.Namespace) -> Made:
     """a closed ring"""
     rates, total = args.service, args.customers
-    made = start(
+    made = Made(
         f"A closed ring of {len(rates)} queues, in which {total} customers go round for ever; the "
         f"rates are {listed(rates)}. Each queue has room for all of them. It is sampled by `psi "
         f"closed FILE 0 0 {total}` and `psi-many FILE 0 0 1000 --closed {total}`; its means are "
@@ -253,9 +261,8 @@ def closed(args: argparse.Namespace) -> Made:
     )
     if len(rates) < 2:
         raise PsiError("--service has at least two rates")
-    names = [f"queue-{number}" for number in range(1, len(rates) + 1)]
-    for name in names:
-        made.net.queue(name, total)
+    names = numbered("queue", len(rates))
+    add_queues(made, names, [total] * len(rates))
     following = [(place + 1) % len(rates) for place in range(len(rates))]
     rows = [[rate * (place == after) for place in range(len(rates))] for rate, after in zip(rates, following)]
     means = means_of(rows, total)
@@ -268,7 +275,7 @@ def closed(args: argparse.Namespace) -> Made:
 
 def breakdowns(args: argparse.Namespace) -> Made:
     """breakdown and repair"""
-    made = start(
+    made = Made(
         f"A machine that breaks down at rate {args.breaks} and is repaired at rate {args.repair}, with {args.places} "
         f"places for its jobs, which come at rate {args.arrival} and are done at rate {args.service} while it works. "
         "A queue of one place holds whether it is broken. The reward: whether a job that comes is lost."
@@ -288,13 +295,12 @@ def priority(args: argparse.Namespace) -> Made:
     """preemptive priority"""
     arrivals, services = pair_of(args.arrival, "--arrival"), pair_of(args.service, "--service")
     places = as_many(args.places, 2, "--places")
-    made = start(
+    made = Made(
         "One server of two classes, the first of which goes before the second at any time (preemptive priority). "
         f"They come at rates {listed(arrivals)}, are served at rates {listed(services)}, and have {listed(places)} "
         "places. The rewards: whether each class is full."
     )
-    for name, capacity in zip(("first", "second"), places):
-        made.net.queue(name, capacity)
+    add_queues(made, ("first", "second"), places)
     for name, rate in zip(("first", "second"), arrivals):
         add_arrival(made, f"{name}-comes", rate, name)
     made.net.event("serve-first", "service", services[0], source="first")
@@ -311,17 +317,15 @@ def fork_join(args: argparse.Namespace) -> Made:
     if len(rates) < 2:
         raise PsiError("--service has at least two rates")
     places = as_many(args.places, len(rates), "--places")
-    made = start(
+    made = Made(
         f"Orders that come at rate {args.arrival} and are parted into {len(rates)} pieces of "
         f"work, each with its own server, of rates {listed(rates)}, and {listed(places)} places; "
         "an order is lost where one of them is full. The reward: the pieces in all."
     )
-    names = [f"part-{number}" for number in range(1, len(rates) + 1)]
-    for name, capacity in zip(names, places):
-        made.net.queue(name, capacity)
+    names = numbered("part", len(rates))
+    add_queues(made, names, places)
     made.net.event("order", "fork", args.arrival, to=names)
-    for name, rate in zip(names, rates):
-        made.net.event(f"{name}-done", "service", rate, source=name)
+    add_services(made, names, rates)
     made.net.reward("pieces", "linear", names, weights=[1] * len(names))
     return made
 
@@ -329,7 +333,7 @@ def fork_join(args: argparse.Namespace) -> Made:
 def erlang_service(args: argparse.Namespace) -> Made:
     """M/E_k/1/K"""
     phases = args.phases
-    made = start(
+    made = Made(
         f"A server whose service has {phases} phases one behind the other: M/E_k/1/K with k = {phases} and K = "
         f"{args.places}. Customers come at rate {args.arrival}; the mean service takes a time of 1 / {args.service}, "
         f"so each phase has {phases} times that rate. The queue phase holds which one is under way. The rewards: "
@@ -344,8 +348,7 @@ def erlang_service(args: argparse.Namespace) -> Made:
     part = [{"queue": "jobs", "least": 1, "shift": -1}]
     part.append({"queue": "phase", "least": phases - 1, "shift": 1 - phases})
     made.net.event("done", "guarded", rate, part=part)
-    add_full(made, "full", "jobs", args.places)
-    made.net.reward("waiting", "table", ["jobs"], table=[waiting(1, args.places)])
+    add_waiting(made, "jobs", 1, args.places)
     return made
 
 
@@ -353,7 +356,7 @@ def hyperexponential(args: argparse.Namespace) -> Made:
     """M/H_2/1/K"""
     quick, slow = pair_of(args.service, "--service")
     share = args.quick
-    made = start(
+    made = Made(
         f"A server whose service is quick, of rate {quick}, with probability {share}, and slow, of "
         f"rate {slow}, otherwise: M/H_2/1/K with K = {args.places}. Customers come at rate "
         f"{args.arrival}. The queue slow holds the kind of the service under way, which is drawn "
@@ -369,21 +372,19 @@ def hyperexponential(args: argparse.Namespace) -> Made:
             phase |= {"shift": number - (kind == "slow")} if number != (kind == "slow") else {}
             part = [{"queue": "jobs", "least": 1, "shift": -1}, phase]
             made.net.event(f"{kind}-then-{after}", "guarded", rate * part_of, part=part)
-    add_full(made, "full", "jobs", args.places)
-    made.net.reward("waiting", "table", ["jobs"], table=[waiting(1, args.places)])
+    add_waiting(made, "jobs", 1, args.places)
     return made
 
 
 def rework(args: argparse.Namespace) -> Made:
     """two stages with rework"""
     rates, places = pair_of(args.service, "--service"), as_many(args.places, 2, "--places")
-    made = start(
+    made = Made(
         f"Parts that come at rate {args.arrival} to work, of rate {rates[0]}, and go on to a test, of rate "
         f"{rates[1]}, from which each goes back to work with probability {args.again}; {listed(places)} places. Who "
         "finds no room stays where it is. The rewards: the parts in all, and whether work is full."
     )
-    for name, capacity in zip(("work", "test"), places):
-        made.net.queue(name, capacity)
+    add_queues(made, ("work", "test"), places)
     add_arrival(made, "come", args.arrival, "work")
     made.net.event("worked", "service", rates[0], source="work", to=["test"], full="stay")
     made.net.event("good", "service", rates[1] * (1 - args.again), source="test")

@@ -85,16 +85,13 @@ def shade_of(number: int, low: int, high: int) -> int:
 
 def bin_of(region: check_log.Region, low: list[int], high: list[int]) -> Bin:
     """The bin of one time."""
-    if isinstance(region, check_log.Box):
-        states = check_log.count(region)
-        kind = Kind.ONE if states == 1 else Kind.BOX
-        return Bin(list(region.low), list(region.high), states, kind, [{} for _ in low])
-    kind = Kind.ONE if len(region) == 1 else Kind.SET
-    columns, shades = [*zip(*region)], []
-    for column, least, most in zip(columns, low, high):
+    states, is_box = check_log.count(region), isinstance(region, check_log.Box)
+    kind = Kind.ONE if states == 1 else Kind.BOX if is_box else Kind.SET
+    shades: list[dict[int, float]] = []
+    for column, least, most in zip([()] * len(low) if is_box else zip(*region), low, high):
         counts = collections.Counter(shade_of(number, least, most) for number in column)
-        shades.append({shade: count / len(region) for shade, count in counts.items()})
-    return Bin(*ends_of(region), len(region), kind, shades)
+        shades.append({shade: count / states for shade, count in counts.items()})
+    return Bin(*ends_of(region), states, kind, shades)
 
 
 def ends_of(region: check_log.Region) -> tuple[list[int], list[int]]:

@@ -303,11 +303,8 @@ class Guarantee:
         k, part = self.samples, Fraction(str(share))
         r, q = part.numerator, part.denominator
         lower, upper = ranks(share, k, 1 - 2 / self.d)
-        j, i = max(1, k - lower + 1), max(1, upper)
-        while j <= k and not is_binomial(k, j, q - r, q, self.d):
-            j += 1
-        while i <= k and not is_binomial(k, i, r, q, self.d):
-            i += 1
+        j = next((j for j in range(max(1, k - lower + 1), k + 1) if is_binomial(k, j, q - r, q, self.d)), k + 1)
+        i = next((i for i in range(max(1, upper), k + 1) if is_binomial(k, i, r, q, self.d)), k + 1)
         low, high = value_at([*self.counts][::-1], j), value_at(self.counts, i)
         if j <= k and i <= k:
             self.claims.append({"of": "quantile", "r": r, "q": q, "low": j, "high": i})
@@ -362,11 +359,8 @@ def file_of(rows: Sequence[Guarantee], drawn: dict[str, Any]) -> dict[str, Any]:
 def rounded_out(low: Fraction, high: Fraction) -> tuple[float, float]:
     """Two ends as floating point, the lower one rounded down, and the upper one up."""
     one, other = float(low), float(high)
-    if one > low:
-        one = math.nextafter(one, -math.inf)
-    if other < high:
-        other = math.nextafter(other, math.inf)
-    return one, other
+    one = math.nextafter(one, -math.inf) if one > low else one
+    return one, math.nextafter(other, math.inf) if other < high else other
 
 
 def mean_between(mean: float | None, ends: tuple[Fraction, Fraction]) -> Mean:

@@ -154,7 +154,7 @@ class Share:
         """How many streams were drawn."""
         return self.known + self.unknown
 
-    def record(self, level: float = LEVEL) -> Record:
-        """How many samples meet the condition, and its probability with its interval."""
+    def records(self, level: float = LEVEL) -> list[Record]:
+        """One row: how many samples meet the condition, and its probability with its interval."""
         ends = probability(self.count, self.many, self.unknown, level)
-        return dict(zip(SHARED, (self.count, self.count / self.known, *ends)))
+        return [dict(zip(SHARED, (self.count, self.count / self.known, *ends)))]
