@@ -22,7 +22,6 @@ from psi_tools.stats.kernel import kernel
 
 Rates = Sequence[Sequence[Any]]
 
-MOST_TOTAL = 256
 APART = "not every queue can be reached from every other"
 
 
