@@ -5,26 +5,32 @@ one place or left as it is. The changes are drawn by their number, so they are a
 import copy
 import pathlib
 import tempfile
-from collections.abc import Iterator
+import types
+from collections.abc import Callable, Iterator
 
 from generate import small_networks
 from generate.small_networks import Dice
 from generate.toml_text import table
-from tests.log_changes import CHANGES, Log, moved_end, too_long, with_key
+from tests import log_changes
+from tests.log_text import Log, NoPlace, with_key
 from tests.support import EXAMPLES, answer
 
-TRIALS = 6
+Change = Callable[[Log, Dice], str | None]
+CHANGES: list[Change] = [
+    each
+    for each in vars(log_changes).values()
+    if isinstance(each, types.FunctionType) and each.__module__ == log_changes.__name__
+]
+TRIALS, ROUNDS = 6, 3
 # A box that is too narrow tells most: only there it shows whether an end of a hull is reached.
-OTHER_TRIALS, ROUNDS = {moved_end: 120, too_long: 2}, 3
+OTHER_TRIALS: dict[Change, int] = {log_changes.moved_end: 120, log_changes.too_long: 2}
 STREAMS, SMALL_NETWORKS = 20, 40
 SHORTEST, LONGEST = 3, 130
 
 
 def wide_network() -> str:
     """The file of a network whose 14,641 states are too many for a set, and which are soon one."""
-    text = "version = 2\n"
-    for name in "abcd":
-        text += table("queue", {"name": name, "capacity": 10})
+    text = "version = 2\n" + "".join(table("queue", {"name": name, "capacity": 10}) for name in "abcd")
     for name in "abcd":
         text += table("event", {"name": f"in-{name}", "kind": "arrival", "rate": 1, "to": [name]})
         text += table("event", {"name": f"out-{name}", "kind": "service", "rate": 1, "from": name})
@@ -59,9 +65,11 @@ def changed_logs(logs: list[Log]) -> Iterator[tuple[str, str, str]]:
         found = 0
         for turn, log in enumerate((logs[7 * place :] + logs[: 7 * place]) * ROUNDS):
             changed = copy.deepcopy(log)
-            text = change(changed, Dice(1000 * place + turn))
-            if text is not None:
-                found += 1
-                yield change.__name__, changed.net, text
+            try:
+                text = change(changed, Dice(1000 * place + turn))
+            except NoPlace:
+                continue
+            found += 1
+            yield change.__name__, changed.net, changed.text() if text is None else text
             if found == OTHER_TRIALS.get(change, TRIALS):
                 break
