@@ -1,7 +1,9 @@
-"""What the tests share: where things are, how a program is run, and what is wrong in a test."""
+"""What the tests share: where things are, how a program is run, and what is wrong in a test. tools/self-test, which
+takes nothing beyond Python's library, imports it too, with gallery.py and logs.py."""
 
 import os
 import pathlib
+import re
 import subprocess
 import sys
 from collections.abc import Mapping, Sequence
@@ -44,6 +46,27 @@ def beside(program: str | pathlib.Path, name: str) -> pathlib.Path | None:
     return next((place for place in places if os.access(place, os.X_OK)), None)
 
 
+def built(program: str | pathlib.Path, name: str) -> str:
+    """The path of a program beside another; a test is skipped where it isn't built."""
+    import pytest
+
+    found = beside(program, name)
+    return str(found) if found else pytest.skip(f"{name} isn't built")
+
+
+def report_of(text: str) -> dict[tuple[str, str], int]:
+    """The values of a report, by item and name."""
+    rows = (line.split(",") for line in text.splitlines()[1:])
+    return {(item, name): int(value) for item, name, value in rows}
+
+
+def version_of_citation() -> str:
+    """The version that CITATION.cff has."""
+    found = re.search(r'^version: "(.*)"$', (TOP / "CITATION.cff").read_text(), re.M)
+    assert found
+    return found[1]
+
+
 def answer(words: Sequence[object], folder: str | pathlib.Path, seconds: float = SECONDS, **more: Any) -> Answer:
     """The status of a run, and both its texts."""
     call: list[str | bytes] = [word if isinstance(word, bytes) else str(word) for word in words]
@@ -57,3 +80,10 @@ def write(folder: str | pathlib.Path, files: Mapping[str, bytes]) -> None:
     """Writes files into a folder."""
     for name, data in files.items():
         pathlib.Path(folder, name).write_bytes(data)
+
+
+def printed_by(*words: object) -> str:
+    """What a call prints that ends well."""
+    status, out, err = answer(words, TOP)
+    assert status == 0, err
+    return out.decode()

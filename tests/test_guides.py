@@ -2,7 +2,6 @@
 the table of statuses in docs/LIMITS.md, and what two commands have in common.
 """
 
-import csv
 import os
 import re
 import tomllib
@@ -11,7 +10,7 @@ import pytest
 
 from tests.documents import Clone, Document
 from tests.gallery import BLOCK
-from tests.support import EXAMPLES, TOP, Expectations
+from tests.support import EXAMPLES, TOP, Expectations, report_of
 
 TANDEM, FIRST = "examples/tandem-blocking.toml", "examples/first.toml"
 # What stands for a word of README's table of commands.
@@ -65,11 +64,11 @@ def text_of(name: str) -> str:
     return (TOP / name).read_text()
 
 
-def report_of(clone: Clone, words: str) -> dict[tuple[str, str], int]:
+def reported(clone: Clone, words: str) -> dict[tuple[str, str], int]:
     """The values of a report by item and name."""
     status, out, error = clone.execute(f"./psi report {words}")
     assert status == 0, error
-    return {(item, name): int(value) for item, name, value in [*csv.reader(out.splitlines())][1:]}
+    return report_of(out)
 
 
 def test_the_first_screen() -> None:
@@ -131,7 +130,7 @@ def test_bounds_of_memory_and_time() -> None:
 def test_streams_of_a_report(clone: Clone) -> None:
     """A report covers the streams FIRST to FIRST+COUNT-1, the last of which may be the greatest."""
     states = [clone.execute(f"./psi sample {FIRST} 0 {stream}")[1].split()[-1] for stream in range(3, 8)]
-    report = report_of(clone, f"{FIRST} 0 3 5")
+    report = reported(clone, f"{FIRST} 0 3 5")
     assert (report["samples", "-"], report["sum", "a"]) == (5, sum(map(int, states)))
     last = [clone.execute(f"./psi report {FIRST} 0 {2**64 - 2} {count}")[0] for count in (2, 3)]
     assert last == [0, 2]
@@ -142,7 +141,7 @@ def test_the_table_of_samples(clone: Clone) -> None:
     blocks = Document("docs/START.md", text_of("docs/START.md")).commands()
     table = next(block for block in blocks if block.startswith("tools/psi-states"))
     counts = [line.split() for line in clone.execute(table)[1].splitlines()]
-    report = report_of(clone, f"{TANDEM} 0 0 1000")
+    report = reported(clone, f"{TANDEM} 0 0 1000")
     numbers = [int(number) for number, _ in counts]
     cut = sum(int(number) * int(state.split(",")[0]) for number, state in counts)
     assert (sum(numbers), cut) == (report["met", "-"], report["sum", "cut"]) and len(counts) > 10
@@ -202,10 +201,10 @@ def test_the_past_is_doubled(clone: Clone) -> None:
 
 def test_reports_with_another_limit_or_split(clone: Clone) -> None:
     """With a shorter past the horizons that are left are the same; with another split all is but these."""
-    whole, short = (report_of(clone, f"examples/{net}.toml 0 0 1000") for net in ("single-server", "short-past"))
+    whole, short = (reported(clone, f"examples/{net}.toml 0 0 1000") for net in ("single-server", "short-past"))
     horizons = {key: count for key, count in short.items() if key[0] == "horizon"}
     assert horizons and all(whole[key] == count for key, count in horizons.items())
-    reports = [report_of(clone, f"examples/{net}.toml 0 0 1000") for net in ("longest-queue", "longest-queue-split")]
+    reports = [reported(clone, f"examples/{net}.toml 0 0 1000") for net in ("longest-queue", "longest-queue-split")]
     one, other = ({key: value for key, value in it.items() if key[0] != "horizon"} for it in reports)
     assert one == other
 

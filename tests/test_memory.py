@@ -19,10 +19,10 @@ from collections.abc import Iterator
 import pytest
 
 from generate.case_files import Case, case_named
-from generate.toml_text import table
+from psi_tools.model.networks import Network
 from tests import merges
 from tests.refusing import Call, Refusing
-from tests.support import Expectations, beside, write
+from tests.support import Expectations, built, write
 
 # For each command the words that are tried on each network, and cases by their files.
 COMMANDS = {
@@ -61,13 +61,10 @@ NETWORKS = (
 
 def ring() -> bytes:
     """The file of a closed network: three queues in a ring, each with one place."""
-    text = "version = 1\n"
-    for name in "abc":
-        text += table("queue", {"name": name, "capacity": 1})
+    net = Network()
     for start, end in zip("abc", "bca"):
-        keys = {"name": start + end, "kind": "service", "rate": 1, "from": start, "to": [end]}
-        text += table("event", {**keys, "full": "stay"})
-    return text.encode()
+        net.queue(start, 1).event(start + end, "service", 1, start, [end], full="stay")
+    return net.data
 
 
 def cases(line: str) -> list[Case]:
@@ -120,7 +117,4 @@ def test_memory_refused(program: str, library: str, expect: Expectations, tmp_pa
 
 
 def test_memory_refused_to_merges(program: str, library: str, expect: Expectations) -> None:
-    merger = beside(program, "psi_merge")
-    if merger is None:
-        pytest.skip("psi_merge isn't built")
-    try_calls(expect, [*calls_of_merges(Refusing("psi_merge", str(merger), library))])
+    try_calls(expect, [*calls_of_merges(Refusing("psi_merge", built(program, "psi_merge"), library))])

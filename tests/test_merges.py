@@ -12,7 +12,7 @@ import pytest
 
 from tests import merges
 from tests.merges import BASE, SAMPLES, changed
-from tests.support import TOOLS, Expectations, beside
+from tests.support import TOOLS, Expectations, built
 
 CHANGED = 400
 # The status, what is printed, and what is said without the program's name.
@@ -25,16 +25,8 @@ CASES = merges.all_cases()
 def merger(request: pytest.FixtureRequest, program: str) -> list[str]:
     """Each of the two programs."""
     if request.param == "psi_merge":
-        return [merge_program(program)]
+        return [built(program, "psi_merge")]
     return [sys.executable, str(TOOLS / "merge_reports.py")]
-
-
-def merge_program(program: str) -> str:
-    """The path of psi_merge."""
-    found = beside(program, "psi_merge")
-    if found is None:
-        pytest.skip("psi_merge isn't built")
-    return str(found)
 
 
 def ending_of(program: Sequence[str], files: Sequence[object]) -> Ending:
@@ -98,7 +90,7 @@ def test_no_files(merger: list[str], words: list[str]) -> None:
 
 def test_changed_reports(program: str, expect: Expectations, tmp_path: pathlib.Path) -> None:
     """Both say the same of changed reports, of which some are merged, and some refused in each way."""
-    psi_merge, chance, kinds = merge_program(program), random.Random(1), set()
+    psi_merge, chance, kinds = built(program, "psi_merge"), random.Random(1), set()
     for _ in range(CHANGED):
         texts = merges.some_texts(chance)
         files = written(tmp_path, {str(place): text for place, text in enumerate(texts)})

@@ -31,7 +31,7 @@ import pytest
 from release import man_pages
 from tests import documents
 from tests.gallery import BLOCK
-from tests.support import TOP, Expectations
+from tests.support import TOP, Expectations, version_of_citation
 
 pytestmark = [
     pytest.mark.slow,
@@ -142,16 +142,13 @@ def try_archive(expect: Expectations, bare: Bare, archive: pathlib.Path, sums: p
 
 def try_front(expect: Expectations, bare: Bare, psi: str) -> None:
     """What psi answers itself, and that it hands on other arguments."""
-    found = re.search(r'^version: "(.*)"', (TOP / "CITATION.cff").read_text(), re.M)
-    assert found
-    version = found[1]
     answers = {words: bare.execute(f"{psi} {words}") for words in ("--help", "-h", "help sample")}
     for words, (status, out, error) in answers.items():
         is_whole = "psi sample NET SEED STREAM" in out or "  sample NET SEED STREAM" in out
         expect((status, is_whole, error) == (0, True, ""), f"{psi} {words}: {status} {error}")
     expect("psi --version" in answers["--help"][1], f"{psi} --help has no part on itself")
     answer = bare.execute(f"{psi} --version")
-    expect(answer == (0, f"psi {version}\n", ""), f"{psi} --version: {answer}")
+    expect(answer == (0, f"psi {version_of_citation()}\n", ""), f"{psi} --version: {answer}")
     for words in ("nonsense", "--build", "--helpme", "-", ""):
         answer = bare.execute(f"{psi} {words}")
         expect(answer == (2, "", "psi: usage word 1\n"), f"{psi} {words}: {answer}")

@@ -23,7 +23,7 @@ from collections.abc import Sequence
 import pytest
 
 from tests.checkouts import checkout, release
-from tests.support import TOP, Answer, Expectations
+from tests.support import TOP, Answer, Expectations, version_of_citation
 from tools.command import refusal
 
 COMMANDS = "check", "sample", "report", "trial", "couple", "reward", "exact", "closed", "replay"
@@ -90,13 +90,6 @@ def ended(words: Sequence[object], folder: pathlib.Path, path: str | None = None
         [str(word) for word in words], cwd=folder, input=b"version = 3\n", capture_output=True, env=environment
     )
     return (done.returncode, done.stdout, done.stderr), time.monotonic() - begun
-
-
-def version_of_citation() -> str:
-    """The version that CITATION.cff has."""
-    found = re.search(r'^version: "(.*)"$', (TOP / "CITATION.cff").read_text(), re.M)
-    assert found
-    return found[1]
 
 
 def try_help(expect: Expectations, script: pathlib.Path, top: pathlib.Path) -> None:
