@@ -11,29 +11,20 @@ import signal
 import subprocess
 import tomllib
 from collections.abc import Callable, Iterator, Sequence
-from typing import Self
 
 import pytest
 
 from generate.small_networks import Dice, closed_network, network
 from generate.toml_text import table
 from oracle.plain_network import Network
+from psi_tools.model.networks import Network as Made
 from tests.refusing import Call, Refusing
-from tests.support import Answer, Expectations, beside
+from tests.support import Answer, Expectations, built
 
 MOST_STREAM = 2**64 - 1
 # A queue that is served as fast as it fills.
-QUEUE = (
-    "version = 1\nlimit = 8\n"
-    + table("queue", {"name": "a", "capacity": 2})
-    + "".join(
-        table("event", keys)
-        for keys in (
-            {"name": "in", "kind": "arrival", "rate": 1, "to": ["a"]},
-            {"name": "out", "kind": "service", "rate": 1, "from": "a"},
-        )
-    )
-)
+MADE = Made(limit=8).queue("a", 2).event("in", "arrival", 1, to=["a"]).event("out", "service", 1, source="a")
+QUEUE = MADE.toml()
 
 
 def rewards(number: int, net: Network) -> Iterator[str]:
@@ -75,19 +66,36 @@ def limited(most: int) -> Callable[[], None]:
     return limit
 
 
-class TableTries:
-    """A program that prints tables, psi beside it, the room for files, and what is held."""
+class TableTests:
+    """The tests of a program that prints tables, which stands beside psi and is skipped where it isn't built."""
 
-    def __init__(self, psi: str, name: str, program: str, room: pathlib.Path, expect: Expectations) -> None:
-        self.psi, self.name, self.program, self.room, self.expect = psi, name, program, room, expect
+    # Its name, the header of its table of QUEUE, and the words after COUNT with which it is called here.
+    name: str
+    head: str
+    more: tuple[object, ...] = ()
+    # Words from COUNT on of a short table and a long one that make as many growths of memory; those of a short
+    # table and of others that take no more memory.
+    growths: tuple[list[str], list[str]]
+    long: tuple[list[object], ...]
 
-    @classmethod
-    def beside(cls, psi: str, name: str, room: pathlib.Path, expect: Expectations) -> Self:
-        """The program of this name that stands beside psi; a test is skipped where it isn't built."""
-        program = beside(psi, name)
-        if program is None:
-            pytest.skip(f"{name} isn't built")
-        return cls(psi, name, str(program), room, expect)
+    @pytest.fixture(autouse=True)
+    def place(self, program: str, tmp_path: pathlib.Path, expect: Expectations) -> None:
+        """The programs, a folder for files, and what is held."""
+        self.psi, self.program, self.room, self.expect = program, built(program, self.name), tmp_path, expect
+
+    def try_table(
+        self, what: str, number: int, net: Network, seed: int, streams: range, total: int | None = None
+    ) -> None:
+        """The table of some streams of a network with a number, which is closed where a total is given."""
+        raise NotImplementedError
+
+    @pytest.mark.slow
+    def test_tables(self, numbers: range) -> None:
+        """Of each number an open network, and one that is closed, or nearly so."""
+        for number in numbers:
+            self.try_table(f"network {number}", number, *self.open_network(number))
+            if closed := self.closed_network(number):
+                self.try_table(f"closed {number}", number, *closed)
 
     def is_same(self, what: str, given: object, wanted: object) -> None:
         """Holds that something is what is wanted."""
@@ -114,9 +122,9 @@ class TableTries:
         first = number if number % 11 else MOST_STREAM - count + 1
         return Network(tomllib.loads(text)), number * number, range(first, first + count)
 
-    def closed_network(self, number: int, *more: object) -> tuple[Network, int, range, int] | None:
+    def closed_network(self, number: int) -> tuple[Network, int, range, int] | None:
         """Writes a closed network, or one that is nearly closed; a seed, streams and a total for it. None where psi
-        refuses it, which the program has to do as well; `more` are the words after COUNT."""
+        refuses it, which the program has to do as well."""
         text = with_rewards(number, closed_network(number))
         self.file(text)
         net, seed, first = Network(tomllib.loads(text)), number, number + 1
@@ -124,15 +132,14 @@ class TableTries:
         status, out, err = self.run(self.psi, "closed", "net.toml", seed, first, total)
         if status <= 1:
             return net, seed, range(first, first + count), total
-        given = self.run(self.program, "net.toml", seed, first, count, *more, "closed", total)
+        given = self.run(self.program, "net.toml", seed, first, count, *self.more, "closed", total)
         self.is_same(f"closed {number}", given, (status, out, self.line_of(err)))
         return None
 
-    def try_words(self, header: str, *more: object) -> None:
-        """Words that ask for no table, each with the place that offends, and the last stream, whose table has
-        this header; `more` are the words after COUNT."""
+    def test_words(self) -> None:
+        """Words that ask for no table, each with the place that offends, and the last stream."""
         self.file(QUEUE)
-        net = "net.toml"
+        net, more = "net.toml", self.more
         right, last = [net, 0, 0, 1, *more], 5 + len(more)
         wrong: tuple[tuple[int, list[object]], ...] = (
             *((place, [net, 0, 0][: place - 1]) for place in range(1, 5)),
@@ -154,7 +161,7 @@ class TableTries:
         )
         for place, words in wrong:
             self.try_usage(place, words)
-        front = f"{header}{MOST_STREAM},"
+        front = f"{self.head}{MOST_STREAM},"
         status, out, err = self.run(self.program, net, MOST_STREAM, MOST_STREAM, 1, *more)
         self.is_same("the last stream", (status, out[: len(front)], err), (0, front, ""))
 
@@ -163,8 +170,8 @@ class TableTries:
         wanted = 2, "", f"{self.name}: usage word {place}\n"
         self.is_same(f"words {words}", self.run(self.program, *words), wanted)
 
-    def try_refusals(self, *more: object) -> None:
-        """Files that are no network, as psi says of them; `more` are the words after COUNT."""
+    def test_refusals(self) -> None:
+        """Files that are no network, as psi says of them."""
         for name, text in (
             ("no-version", "limit = 3\n"),
             ("unknown-key", QUEUE + "colour = 3\n"),
@@ -174,21 +181,22 @@ class TableTries:
         ):
             self.file(text)
             status, out, err = self.run(self.psi, "check", "net.toml")
-            given = self.run(self.program, "net.toml", 0, 0, 1, *more)
+            given = self.run(self.program, "net.toml", 0, 0, 1, *self.more)
             if status == 0:
                 self.is_same(name, (given[0], given[2]), (0, ""))
             else:
                 self.is_same(name, given, (status, "", self.line_of(err)))
         wanted = 6, "", f"{self.name}: cannot read network\n"
-        self.is_same("no file", self.run(self.program, "none.toml", 0, 0, 1, *more), wanted)
-        self.is_same("a folder", self.run(self.program, ".", 0, 0, 1, *more), wanted)
+        self.is_same("no file", self.run(self.program, "none.toml", 0, 0, 1, *self.more), wanted)
+        self.is_same("a folder", self.run(self.program, ".", 0, 0, 1, *self.more), wanted)
         self.file(QUEUE)
         wanted = 11, "", f"{self.name}: not closed event 0\n"
-        self.is_same("open", self.run(self.program, "net.toml", 0, 0, 1, *more, "closed", 1), wanted)
+        self.is_same("open", self.run(self.program, "net.toml", 0, 0, 1, *self.more, "closed", 1), wanted)
 
-    def try_memory(self, library: str, few: Sequence[str], many: Sequence[str]) -> None:
-        """Growths that are refused, of an open and a closed network; a call with the words `few` from COUNT
-        on has as many of them as one with `many`."""
+    @pytest.mark.slow
+    def test_memory_refused(self, library: str) -> None:
+        """Growths that are refused, of an open and a closed network: a long table has as many as a short one."""
+        few, many = self.growths
         refusing = RefusingTable(self.name, self.program, library)
         closed = next(text for text in map(closed_network, range(100)) if "limit = 5" in text)
         tables: tuple[tuple[str, list[str]], ...] = ((with_rewards(3, network(3)), []), (closed, ["closed", "1"]))
@@ -202,10 +210,11 @@ class TableTries:
             less, more = (call.growths for call in calls)
             self.expect(2 < less == more, f"{few} has {less} growths of memory, and {many} {more}")
 
-    def try_writes(self, head: int, *more: str) -> None:
-        """Writes that fail at a place: what is written is a prefix of the table, whose header has that many
-        bytes; `more` are the words after COUNT."""
+    @pytest.mark.slow
+    def test_writes_that_fail(self) -> None:
+        """Writes that fail at a place: what is written is a prefix of the table."""
         self.file(QUEUE)
+        head, more = len(self.head), [str(word) for word in self.more]
         words = [self.program, "net.toml", "5", "0", "30000", *more]
         whole = subprocess.run(words, cwd=self.room, capture_output=True).stdout
         self.is_same("more than three blocks", len(whole) > 3 * 65536, True)
@@ -244,8 +253,11 @@ class TableTries:
         done = subprocess.run(call, cwd=self.room, preexec_fn=limit, stdout=nowhere, stderr=nowhere)
         return done.returncode == 0
 
-    def try_long(self, few: Sequence[object], *others: Sequence[object]) -> None:
-        """The least memory for a table of few words, and no more than 64 KiB above it for the others."""
+    @pytest.mark.slow
+    @pytest.mark.release
+    def test_memory_of_a_long_table(self) -> None:
+        """The least memory for a short table, and no more than 64 KiB above it for the others."""
+        few, *others = self.long
         self.file(QUEUE)
         low, high = 1, 16_384
         while high - low > 1:

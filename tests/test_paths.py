@@ -15,7 +15,6 @@
 import csv
 import io
 import math
-import pathlib
 import tomllib
 
 import pytest
@@ -24,13 +23,12 @@ from generate.small_networks import Dice
 from oracle import paths
 from oracle.plain import Outcome
 from oracle.plain_network import Network
-from tests.support import EXAMPLES, Expectations, beside
-from tests.tables import QUEUE, TableTries
+from tests.support import EXAMPLES, beside
+from tests.tables import QUEUE, TableTests
 
 MOST_STEPS = 2**32 - 2**22
 # Lengths around powers of two, as a program that adds up in parts may take them.
 LENGTHS = (2**15 - 1, 2**15, 2**15 + 1, 2**16 + 3)
-HEAD = "stream,horizon,steps,queue.a,event.in.1,moved.in.1,event.out.1,moved.out.1\n"
 
 
 def steps_of(number: int) -> int:
@@ -48,10 +46,13 @@ def of_no_steps(net: Network, states: str) -> str:
     return "".join(",".join(row) + "\n" for row in rows)
 
 
-class Tries(TableTries):
-    """psi_paths, and what is tried of it."""
+class TestPaths(TableTests):
+    name, more = "psi_paths", (2,)
+    head = "stream,horizon,steps,queue.a,event.in.1,moved.in.1,event.out.1,moved.out.1\n"
+    growths = ["1", "3"], ["5000", "40"]
+    long = [10, 10], [3_000_000, 10], [10, 100_000_000]
 
-    def try_table(
+    def try_paths(
         self, what: str, net: Network, seed: int, streams: range, steps: int, total: int | None = None
     ) -> list[Outcome]:
         """The table of some streams, whole and in two ranges, beside the plain program's; and their samples."""
@@ -71,39 +72,38 @@ class Tries(TableTries):
             self.is_same(f"{what}, joined", joined, whole)
         return outcomes
 
-    def try_no_steps(self, what: str, net: Network, words: list[object], closed: list[object]) -> None:
-        """Paths of no step, beside what psi_states prints where it is built."""
-        states = beside(self.psi, "psi_states")
-        if states is None:
-            return
-        status, out, err = self.run(str(states), *words, *closed)
-        given = self.run(self.program, *words, 0, *closed)
-        self.is_same(f"{what}, no steps", given, (status, of_no_steps(net, out), self.line_of(err)))
-
-    def try_network(self, number: int) -> None:
-        """An open network."""
-        net, seed, streams = self.open_network(number)
-        self.try_table(f"network {number}", net, seed, streams, steps_of(number))
-        self.try_no_steps(f"network {number}", net, ["net.toml", seed, streams.start, len(streams)], [])
-
-    def try_closed(self, number: int) -> None:
-        """A closed network, or one that is nearly closed."""
-        found = self.closed_network(number, steps_of(number))
-        if found is None:
-            return
-        net, seed, streams, total = found
-        self.try_table(f"closed {number}", net, seed, streams, steps_of(number), total)
-        words = ["net.toml", seed, streams.start, len(streams)]
-        self.try_no_steps(f"closed {number}", net, words, ["closed", total])
+    def try_table(
+        self, what: str, number: int, net: Network, seed: int, streams: range, total: int | None = None
+    ) -> None:
+        """Paths of some steps; and of none, beside what psi_states prints where it is built."""
+        self.try_paths(what, net, seed, streams, steps_of(number), total)
+        if states := beside(self.psi, "psi_states"):
+            words = ["net.toml", seed, streams.start, len(streams)]
+            closed = [] if total is None else ["closed", total]
+            status, out, err = self.run(str(states), *words, *closed)
+            given = self.run(self.program, *words, 0, *closed)
+            self.is_same(f"{what}, no steps", given, (status, of_no_steps(net, out), self.line_of(err)))
 
     def try_example(self, name: str, streams: range, steps: int, total: int | None = None) -> list[Outcome]:
         """A network of the gallery."""
         text = (EXAMPLES / f"{name}.toml").read_text()
         self.file(text)
-        what = f"{name}, {steps} steps"
-        return self.try_table(what, Network(tomllib.loads(text)), 5, streams, steps, total)
+        return self.try_paths(f"{name}, {steps} steps", Network(tomllib.loads(text)), 5, streams, steps, total)
 
-    def try_both_ways(self, name: str) -> None:
+    def test_a_stream_that_is_not_coupled_keeps_its_row(self) -> None:
+        outcomes = self.try_example("short-past", range(40), 30)
+        self.expect(0 < outcomes.count(None) < 40, "some of the streams are coupled, and some aren't")
+
+    @pytest.mark.slow
+    def test_lengths_of_paths(self) -> None:
+        for steps in LENGTHS:
+            self.try_example("call-centre", range(1), steps)
+        self.try_example("fork-join", range(2), LENGTHS[-1])
+        self.try_example("central-server", range(2), LENGTHS[-1], 6)
+
+    @pytest.mark.slow
+    @pytest.mark.parametrize("name", ("tandem-blocking", "negative-customers", "longest-queue", "reset"))
+    def test_paths_with_and_without_a_table(self, name: str) -> None:
         """Paths with one step less than the table of the network's states has entries, where each event is
         applied, and with as many, which go by the table."""
         net = Network(tomllib.loads((EXAMPLES / f"{name}.toml").read_text()))
@@ -112,13 +112,15 @@ class Tries(TableTries):
         for steps in (entries - 1, entries):
             self.try_example(name, range(2), steps)
 
-    def try_steps(self) -> None:
+    def test_steps(self) -> None:
         """Words that name no number of steps."""
         self.try_usage(5, ["net.toml", 0, 0, 1])
         for word in ("-1", "01", "", MOST_STEPS + 1, 2**64, "closed"):
             self.try_usage(5, ["net.toml", 0, 0, 1, word])
 
-    def try_longest(self) -> None:
+    @pytest.mark.slow
+    @pytest.mark.release
+    def test_the_longest_path(self) -> None:
         """A path of as many steps as there may be: every step has its event, or is idle. Of this network
         none is, and both events are chosen half of the times, within six standard deviations."""
         self.file(QUEUE)
@@ -131,66 +133,3 @@ class Tries(TableTries):
         self.expect(abs(in_moved - out_moved) <= 2, f"{in_moved} come and {out_moved} leave of a queue of 2")
         # Each of 0, 1 and 2 customers has a third of all times, so the mean is 1.
         self.expect(abs(total - MOST_STEPS) < 10 * MOST_STEPS**0.5, f"{total} customers in {MOST_STEPS} steps")
-
-
-@pytest.fixture
-def tries(program: str, expect: Expectations, tmp_path: pathlib.Path) -> Tries:
-    """The programs in a folder of their own."""
-    return Tries.beside(program, "psi_paths", tmp_path, expect)
-
-
-@pytest.mark.slow
-def test_tables(tries: Tries, numbers: range) -> None:
-    for number in numbers:
-        tries.try_network(number)
-        tries.try_closed(number)
-
-
-def test_a_stream_that_is_not_coupled_keeps_its_row(tries: Tries) -> None:
-    outcomes = tries.try_example("short-past", range(40), 30)
-    tries.expect(0 < outcomes.count(None) < 40, "some of the streams are coupled, and some aren't")
-
-
-@pytest.mark.slow
-def test_lengths_of_paths(tries: Tries) -> None:
-    for steps in LENGTHS:
-        tries.try_example("call-centre", range(1), steps)
-    tries.try_example("fork-join", range(2), LENGTHS[-1])
-    tries.try_example("central-server", range(2), LENGTHS[-1], 6)
-
-
-@pytest.mark.slow
-def test_paths_with_and_without_a_table(tries: Tries) -> None:
-    for name in ("tandem-blocking", "negative-customers", "longest-queue", "reset"):
-        tries.try_both_ways(name)
-
-
-def test_words(tries: Tries) -> None:
-    tries.try_words(HEAD, 1)
-    tries.try_steps()
-
-
-def test_refusals(tries: Tries) -> None:
-    tries.try_refusals(3)
-
-
-@pytest.mark.slow
-def test_memory_refused(tries: Tries, library: str) -> None:
-    tries.try_memory(library, ["1", "3"], ["5000", "40"])
-
-
-@pytest.mark.slow
-def test_writes_that_fail(tries: Tries) -> None:
-    tries.try_writes(len(HEAD), "2")
-
-
-@pytest.mark.slow
-@pytest.mark.release
-def test_memory_of_a_long_table(tries: Tries) -> None:
-    tries.try_long([10, 10], [3_000_000, 10], [10, 100_000_000])
-
-
-@pytest.mark.slow
-@pytest.mark.release
-def test_the_longest_path(tries: Tries) -> None:
-    tries.try_longest()
