@@ -61,7 +61,7 @@ def wide_log(horizon: int = 700, queues: int = 32) -> str:
     return "\n".join([*lines, f"end {','.join(map(str, states[0]))}", ""])
 
 
-def report_of(names: Sequence[str], rewards: Sequence[str], met: int, lost: int = 0, factor: int = 1) -> str:
+def made_report(names: Sequence[str], rewards: Sequence[str], met: int, lost: int = 0, factor: int = 1) -> str:
     """A report with as many queues and rewards as there are names."""
     lines = ["item,name,value", f"samples,-,{met + lost}", f"met,-,{met}", f"uncoupled,-,{lost}"]
     counts = [met // 22] * 21 + [met - met // 22 * 21]
@@ -83,95 +83,63 @@ def exact_of(states: int, sizes: Sequence[int], constant: int | None, region: in
     return "\n".join([*lines, f"region {region or 'none'}", ""])
 
 
-def changed(text: str, old: str, new: str) -> str:
-    """A text with a change in one place."""
-    assert text.count(old) >= 1, old
-    return text.replace(old, new, 1)
+# By the word that draws it: a right text, others that are none, and what stands in it with what makes it wrong.
+BROKEN: dict[str, tuple[str, tuple[str, ...], dict[str, list[str]]]] = {
+    "coupling": (
+        SMALL_LOG,
+        ("", "psi-log", "psi-log 3\n", SMALL_LOG[:-1], SMALL_LOG + "\n", SMALL_LOG.replace("\n", "\r\n"), EXACT),
+        {
+            "queues 2": ["queues 0", "queues 3"],
+            "horizon 8": ["horizon 9"],
+            "seed 0": ["seed -1"],
+            "box 0,0 1,1": ["box 1,1 0,0"],
+            "step 7 2": ["step 6 2"],
+            "step 8 0": ["step 9 0"],
+            "move 0,0,0": ["move 0,0,1", "move 2,0,0"],
+            "move 1,0,0": ["move 1,0,2"],
+            "set 0,1": ["set 0,1 1,1", "set 0,2"],
+            "end 0,1": ["end 1,1", "end 0"],
+            "psi-log 2": ["psi-log 1"],
+            "8 0": ["8  0"],
+        },
+    ),
+    "report": (
+        REPORT,
+        (
+            *("", REPORT[:-1], REPORT + "\n", REPORT + REPORT, "trial 0\n" + REPORT, "item,name,value\n", SMALL_LOG),
+            *(REPORT.replace("\n", "\r\n", 1), REPORT.replace("\n", "\r"), REPORT.replace("a", "\u00e4")),
+        ),
+        {
+            "met,-,9": ["met,-,8"],
+            "samples,-,10": ["samples,-,0"],
+            "horizon,4,3": ["horizon,5,3", "horizon,16,3", "horizon,4,4"],
+            "sum,a,18": ["sum,a,99", "sum,a,1.8", "sum,a,018"],
+            "least,a,0": ["least,b,0"],
+            "least,a,0\n": [""],
+            "uncoupled,-,1\n": [""],
+            "sum,a,": ["sum,a b,"],
+        },
+    ),
+    "exact": (
+        EXACT,
+        ("", EXACT[:-1], EXACT + "region 8\n", EXACT.replace("region 8\n", ""), EXACT.replace("1", "x"), REPORT),
+        {
+            "states 64": ["states 1", "states 40"],
+            "image 1 48\n": [""],
+            "image 4 19": ["image 4 40"],
+            "image 8 1": ["image 8 2"],
+            "constant 7": ["constant 3", "constant 9"],
+            "region 8": ["region 6", "region 9"],
+            "constant 7 2,3,2": ["not constant within 8", "constant 7"],
+        },
+    ),
+}
 
 
 def broken_inputs() -> Iterator[tuple[str, str]]:
     """Words and the text of the file that they name, which isn't what it should be."""
-    logs = [
-        "",
-        "psi-log",
-        "psi-log 3\n",
-        SMALL_LOG[:-1],
-        SMALL_LOG + "\n",
-        SMALL_LOG.replace("\n", "\r\n"),
-        *(
-            changed(SMALL_LOG, *pair)
-            for pair in (
-                ("queues 2", "queues 0"),
-                ("queues 2", "queues 3"),
-                ("horizon 8", "horizon 9"),
-                ("seed 0", "seed -1"),
-                ("box 0,0 1,1", "box 1,1 0,0"),
-                ("step 7 2", "step 6 2"),
-                ("step 8 0", "step 9 0"),
-                ("move 0,0,0", "move 0,0,1"),
-                ("move 0,0,0", "move 2,0,0"),
-                ("move 1,0,0", "move 1,0,2"),
-                ("set 0,1", "set 0,1 1,1"),
-                ("end 0,1", "end 1,1"),
-                ("set 0,1", "set 0,2"),
-                ("end 0,1", "end 0"),
-                ("psi-log 2", "psi-log 1"),
-                ("8 0", "8  0"),
-            )
-        ),
-    ]
-    reports = [
-        "",
-        REPORT[:-1],
-        REPORT + "\n",
-        REPORT + REPORT,
-        "trial 0\n" + REPORT,
-        "item,name,value\n",
-        REPORT.replace("\n", "\r\n", 1),
-        REPORT.replace("\n", "\r"),
-        REPORT.replace("a", "\u00e4"),
-        *(
-            changed(REPORT, *pair)
-            for pair in (
-                ("met,-,9", "met,-,8"),
-                ("samples,-,10", "samples,-,0"),
-                ("horizon,4,3", "horizon,5,3"),
-                ("horizon,4,3", "horizon,16,3"),
-                ("horizon,4,3", "horizon,4,4"),
-                ("sum,a,18", "sum,a,99"),
-                ("least,a,0", "least,b,0"),
-                ("least,a,0\n", ""),
-                ("sum,a,18", "sum,a,1.8"),
-                ("sum,a,18", "sum,a,018"),
-                ("uncoupled,-,1\n", ""),
-                ("sum,a,", "sum,a b,"),
-            )
-        ),
-    ]
-    exacts = [
-        "",
-        EXACT[:-1],
-        EXACT + "region 8\n",
-        changed(EXACT, "region 8\n", ""),
-        EXACT.replace("1", "x"),
-        *(
-            changed(EXACT, *pair)
-            for pair in (
-                ("states 64", "states 1"),
-                ("states 64", "states 40"),
-                ("image 1 48\n", ""),
-                ("image 4 19", "image 4 40"),
-                ("image 8 1", "image 8 2"),
-                ("constant 7", "constant 3"),
-                ("constant 7", "constant 9"),
-                ("region 8", "region 6"),
-                ("region 8", "region 9"),
-                ("constant 7 2,3,2", "not constant within 8"),
-                ("constant 7 2,3,2", "constant 7"),
-            )
-        ),
-    ]
-    for what, texts in (("coupling", logs), ("report", reports), ("exact", exacts)):
-        yield from ((what, text) for text in texts)
-    for what, text in (("report", SMALL_LOG), ("exact", REPORT), ("coupling", EXACT)):
-        yield what, text
+    for what, (right, others, changes) in BROKEN.items():
+        yield from ((what, text) for text in others)
+        for old, texts in changes.items():
+            assert old in right
+            yield from ((what, right.replace(old, text, 1)) for text in texts)

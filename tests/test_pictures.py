@@ -8,21 +8,18 @@ and what mean_values.py prints is what it says.
 
 import collections
 import concurrent.futures
-import itertools
 import math
 import os
 import pathlib
 import re
-import subprocess
 import sys
 import xml.etree.ElementTree
 
-import matplotlib.backends.backend_agg
 import matplotlib.legend
 import matplotlib.text
 import numpy
 import pytest
-from collections.abc import Collection, Iterator, Sequence
+from collections.abc import Collection, Sequence
 from typing import Any
 
 from oracle.log_regions import Region, regions_of
@@ -33,8 +30,9 @@ from psi_tools.plot.forward import forward_of
 from psi_tools.plot.read_log import names_of, read_log
 from psi_tools.plot.report import report_of as shown_of
 from psi_tools.stats.batches import batches_of
-from tests.plot_inputs import EXACT, REPORT, SMALL_LOG, broken_inputs, exact_of, report_of, wide_log
-from tests.support import TOOLS, TOP, Expectations
+from tests.figures import cut_off, overlapping
+from tests.plot_inputs import EXACT, REPORT, SMALL_LOG, broken_inputs, exact_of, made_report, wide_log
+from tests.support import TOOLS, TOP, Expectations, answer, printed_by, report_of
 
 PLOT = TOOLS / "psi-plot"
 MOST_BYTES, MOST_BYTES_SHOWN, SECONDS = 1_000_000, 200_000, 100
@@ -49,12 +47,8 @@ def met_of(regions: list[Region]) -> int:
 
 def gids(axes: Any, name: str) -> dict[str, Any]:
     """What is drawn under names that begin so, each with the rest of its name."""
-    found = {}
-    for artist in axes.get_children():
-        gid = artist.get_gid() or ""
-        if gid.startswith(name):
-            found[gid.removeprefix(name)] = artist
-    return found
+    found = {artist.get_gid() or "": artist for artist in axes.get_children()}
+    return {gid.removeprefix(name): artist for gid, artist in found.items() if gid.startswith(name)}
 
 
 def drawn_ends(axes: Any, queue: int) -> tuple[list[Any], Any]:
@@ -71,40 +65,14 @@ def drawn_ends(axes: Any, queue: int) -> tuple[list[Any], Any]:
     return [ends.get(column) for column in range(len(edges) - 1)], edges
 
 
-def texts_of(figure: Any) -> Iterator[tuple[str, Any]]:
-    """The texts that a figure shows, each with the box around it in dots."""
-    canvas = matplotlib.backends.backend_agg.FigureCanvasAgg(figure)
-    canvas.draw()
-    renderer = canvas.get_renderer()
-    hidden = {text for axes in figure.axes for text in hidden_labels(axes)}
-    for text in figure.findobj(matplotlib.text.Text):
-        if text.get_visible() and text.get_text().strip() and text not in hidden:
-            yield text.get_text(), text.get_window_extent(renderer)
-
-
-def hidden_labels(axes: Any) -> Iterator[Any]:
-    """The labels of ticks that aren't drawn: beyond the ends of their axis, or where it is off."""
-    for axis in (axes.xaxis, axes.yaxis):
-        low, high = sorted(axis.get_view_interval())
-        for tick in axis.get_major_ticks() + axis.get_minor_ticks():
-            if not (axes.axison and low <= tick.get_loc() <= high):
-                yield from (tick.label1, tick.label2)
-
-
 def try_texts(expect: Expectations, figure: Any, name: str) -> None:
     """No text is cut off, or lies over another one."""
-    found = [*texts_of(figure)]
-    width, height = figure.get_size_inches() * figure.dpi
-    cut = [text for text, box in found if min(box.x0, box.y0) < -1 or box.x1 > width + 1 or box.y1 > height + 1]
-    expect(found and not cut, f"{name}: {cut} is cut off")
+    cut = cut_off(figure, 1)
+    expect(not cut, f"{name}: {cut} is cut off")
     for legend in figure.findobj(matplotlib.legend.Legend):
         box = legend.get_window_extent()
-        expect(0 <= box.x0 and box.x1 <= width, f"{name}: the legend is cut off")
-    over = [
-        (text, other)
-        for (text, box), (other, around) in itertools.combinations(found, 2)
-        if min(box.x1, around.x1) - max(box.x0, around.x0) > 1 and min(box.y1, around.y1) - max(box.y0, around.y0) > 1
-    ]
+        expect(0 <= box.x0 and box.x1 <= figure.bbox.width, f"{name}: the legend is cut off")
+    over = overlapping(figure)
     expect(not over, f"{name}: {over[:3]} overlap")
 
 
@@ -171,10 +139,8 @@ def try_shades(expect: Expectations, axes: Sequence[Any], regions: list[Region],
 
 def try_states(expect: Expectations, axes: Any, wanted: list[int], name: str) -> None:
     """The line of the number of states."""
-    found: dict[int, Any] = {}
-    for line in gids(axes, "states-").values():
-        values = enumerate(line.get_data()[0])
-        found |= {column: count for column, count in values if not math.isnan(count)}
+    lines = [enumerate(line.get_data()[0]) for line in gids(axes, "states-").values()]
+    found = {column: count for line in lines for column, count in line if not math.isnan(count)}
     is_same = [found[column] for column in range(len(wanted))] == [*map(float, wanted)]
     expect(is_same and axes.get_yscale() == "log", f"{name}: the numbers of states")
 
@@ -197,8 +163,7 @@ def test_logs(expect: Expectations, program: str) -> None:
         try_log(expect, version, version[:9])
     for name in ("single-server", "tandem-blocking", "longest-queue", "batch-arrivals"):
         net = (TOP / f"examples/{name}.toml").read_text()
-        words = [program, "sample", str(TOP / f"examples/{name}.toml"), "0", "0", "log"]
-        text = subprocess.run(words, capture_output=True, text=True, check=True).stdout
+        text = printed_by(program, "sample", TOP / f"examples/{name}.toml", 0, 0, "log")
         try_log(expect, text, name, net)
     try_log(expect, version_1(text), name)
     head = "psi-log 1\nqueues 1\nseed 0\nstream 0\nhorizon 1\n"
@@ -206,12 +171,6 @@ def test_logs(expect: Expectations, program: str) -> None:
     figure = try_log(expect, wide_log(), "32 queues")
     bands = {f"band-{queue}-{kind}" for queue in range(32) for kind in ("box", "set", "one")}
     try_svg(expect, figure, "32 queues", bands | {f"met-{queue}" for queue in range(32)})
-
-
-def rows_of(text: str) -> dict[tuple[str, str], int]:
-    """The records of a report: the value of each item and name."""
-    rows = [line.split(",") for line in text.split("\n")[1:-1]]
-    return {(item, name): int(value) for item, name, value in rows}
 
 
 def try_report(expect: Expectations, texts: Sequence[tuple[str, str]], name: str) -> Any:
@@ -224,7 +183,7 @@ def try_report(expect: Expectations, texts: Sequence[tuple[str, str]], name: str
         for bar in axes.patches:
             drawn[bar.get_gid()] = bar
     for k, (_, text) in enumerate(texts):
-        rows = rows_of(text)
+        rows = report_of(text)
         met, samples = rows["met", "-"], rows["samples", "-"]
         shown = {
             gid.split("-")[2]: bar.get_height() * samples / 100
@@ -244,7 +203,7 @@ def try_report(expect: Expectations, texts: Sequence[tuple[str, str]], name: str
                 expect(ends == [rows["least", queue], rows["greatest", queue]], f"{name}: the ends of {queue}")
     texts_shown = [text.get_text() for text in figure.findobj(matplotlib.text.Text)]
     for _, text in texts:
-        names = {n for i, n in rows_of(text) if i.endswith("sum")}
+        names = {n for i, n in report_of(text) if i.endswith("sum")}
         is_whole = len(names) > 20 or names <= {*texts_shown}
         expect(is_whole, f"{name}: names that aren't shown")
     try_texts(expect, figure, name)
@@ -254,26 +213,24 @@ def try_report(expect: Expectations, texts: Sequence[tuple[str, str]], name: str
 @pytest.mark.slow
 def test_reports(expect: Expectations, program: str) -> None:
     """Pictures of one report and of several."""
-    word = [program, "report", str(TOP / "examples/tandem-blocking.toml"), "0", "0", "50"]
-    text = subprocess.run(word, capture_output=True, text=True, check=True).stdout
+    text = printed_by(program, "report", TOP / "examples/tandem-blocking.toml", 0, 0, 50)
     try_report(expect, [("tandem-blocking.csv", text)], "a report")
-    other = report_of(["a", "b"], [], 44)
+    other = made_report(["a", "b"], [], 44)
     try_report(expect, [("_a.csv", REPORT), ("b/$x$.csv", other)], "two reports")
-    try_report(expect, [("none.csv", report_of(["a"], ["r"], 0, 7))], "no sample is met")
+    try_report(expect, [("none.csv", made_report(["a"], ["r"], 0, 7))], "no sample is met")
     names = [f"{k:02}" + "W" * 30 for k in range(32)]
     rewards = [f"reward-{k:02}-of-a-great-network" for k in range(64)]
-    many = report_of(names, rewards, 65_536, 3, 10**12)
+    many = made_report(names, rewards, 65_536, 3, 10**12)
     figure = try_report(expect, [("many.csv", many)], "many rows")
     try_svg(expect, figure, "many rows", [f"mean-0-{name}" for name in names])
-    eight = [(f"{'long-name-' * 6}{k}.csv", report_of(["a", "b"], ["c"], 22 + k, k)) for k in range(8)]
+    eight = [(f"{'long-name-' * 6}{k}.csv", made_report(["a", "b"], ["c"], 22 + k, k)) for k in range(8)]
     try_svg(expect, try_report(expect, eight, "eight reports"), "eight reports", ["mean-7-b"])
 
 
 @pytest.mark.slow
 def test_exact(expect: Expectations, program: str) -> None:
     """Pictures of texts of exact."""
-    words = [program, "exact", str(TOP / "examples/longest-queue.toml"), "0", "0", "11"]
-    printed = subprocess.run(words, capture_output=True, text=True, check=True).stdout
+    printed = printed_by(program, "exact", TOP / "examples/longest-queue.toml", 0, 0, 11)
     cases = [
         (printed, 30, 1586),
         (EXACT, 7, 8),
@@ -326,10 +283,10 @@ def test_forward(expect: Expectations, program: str) -> None:
     try_svg(expect, figure, "forward", ["after-5-from-0", "law-5", "law-met", "met-0"])
 
 
-def answer(words: Sequence[object], room: pathlib.Path) -> tuple[int, str, str]:
-    """The status of a call, and both its texts."""
-    done = subprocess.run([str(PLOT), *map(str, words)], cwd=room, capture_output=True, timeout=SECONDS)
-    return done.returncode, done.stdout.decode(), done.stderr.decode()
+def plotted(words: Sequence[object], room: pathlib.Path) -> tuple[int, str, str]:
+    """The status of a call of psi-plot, and both its texts."""
+    status, out, err = answer([PLOT, *words], room, SECONDS)
+    return status, out.decode(), err.decode()
 
 
 def write_small(folder: pathlib.Path) -> None:
@@ -362,7 +319,7 @@ def test_refusals(expect: Expectations, tmp_path: pathlib.Path) -> None:
         (tmp_path / f"{place}.txt").write_text(text, newline="")
         calls.append([what, f"{place}.txt", "-o", "drawn.svg"])
     with concurrent.futures.ThreadPoolExecutor(os.cpu_count()) as pool:
-        answers = [*pool.map(lambda words: answer(words, tmp_path), calls)]
+        answers = [*pool.map(lambda words: plotted(words, tmp_path), calls)]
     for words, (status, out, err) in zip(calls, answers):
         is_refused = (status, out) == (2, "") and re.fullmatch("psi-plot: [^\n]+\n", err)
         expect(is_refused, f"{words}: {status} {err}")
@@ -376,17 +333,17 @@ def test_words(expect: Expectations, tmp_path: pathlib.Path) -> None:
     write_small(tmp_path)
     for form, front in (("svg", b"<?xml"), ("png", b"\x89PNG"), ("pdf", b"%PDF")):
         words = ["coupling", "small.log", "-t", "A title with $ and _", "-o", f"drawn.{form}"]
-        expect(answer(words, tmp_path) == (0, "", ""), f"{words} aren't drawn")
+        expect(plotted(words, tmp_path) == (0, "", ""), f"{words} aren't drawn")
         expect((tmp_path / words[-1]).read_bytes().startswith(front), f"{words} draw no {form}")
     first = (tmp_path / "drawn.svg").read_bytes()
-    answer(["coupling", "small.log", "-t", "A title with $ and _", "-o", "drawn.svg"], tmp_path)
+    plotted(["coupling", "small.log", "-t", "A title with $ and _", "-o", "drawn.svg"], tmp_path)
     expect((tmp_path / "drawn.svg").read_bytes() == first, "the same log is another picture")
     names = re.findall(rb'<clipPath id="([^"]*)"', first)
     numbered = [b"clip%d" % number for number in range(len(names))]
     expect(names and sorted(names) == sorted(numbered), f"clip paths are called {names}")
-    status, _, err = answer(["report", "small.csv", "-o", "absent/drawn.svg"], tmp_path)
+    status, _, err = plotted(["report", "small.csv", "-o", "absent/drawn.svg"], tmp_path)
     expect(status == 7 and err.count("\n") == 1, f"an absent folder: {status} {err}")
-    status, out, err = answer(["-h"], tmp_path)
+    status, out, err = plotted(["-h"], tmp_path)
     expect(status == 0 and "psi-plot coupling" in out and not err, "the words aren't told")
 
 
@@ -404,7 +361,5 @@ def test_pictures_of_the_tour(expect: Expectations, program: str) -> None:
     form = r"^```\npython3 (tools/mean_values.py [^\n]*)\n```\n\nprints\n\n```\n(.*?)^```\n"
     environment = {**os.environ, "PATH": f"{os.path.dirname(program)}:{os.environ['PATH']}"}
     for shown_words, wanted in re.findall(form, text, re.M | re.S):
-        words = [sys.executable, *shown_words.split()]
-        done = subprocess.run(words, cwd=TOP, capture_output=True, text=True, env=environment)
-        out = done.stdout
-        expect(out == wanted, f"{words} print {out}")
+        _, out, _ = answer([sys.executable, *shown_words.split()], TOP, env=environment)
+        expect(out.decode() == wanted, f"{shown_words} prints {out.decode()}")
