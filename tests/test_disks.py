@@ -23,7 +23,7 @@ from typing import Any
 
 import pytest
 
-from generate.toml_text import table
+from psi_tools.model.networks import Network
 from tests import merges
 from tests.gallery import runs_of_document, runs_of_gallery
 from tests.support import EXAMPLES, SECONDS, TOP, Expectations, beside
@@ -55,6 +55,11 @@ WRONG_REPORT = (3, b"", b"psi_merge: refused 3 Samples line 7 wrong.csv\n")
 LONG_REPORT = (3, b"", b"psi_merge: refused 0 TooLong line 0 %s\n")
 
 
+# Words, one of which will not be UTF-8.
+WORDS = [["sample", "filling.toml", "0", "0", "log"]]
+WORDS_OF_MERGES = [["report.csv"], ["report.csv", "report.csv"]]
+
+
 def no_report(name: str) -> End:
     """How psi_merge ends on a file of this name that can't be read."""
     return 6, b"", b"psi_merge: cannot read %s\n" % name.encode()
@@ -73,9 +78,7 @@ REFUSED_MERGES: tuple[tuple[list[str], End], ...] = (
 
 def filling_network() -> bytes:
     """A queue to which a customer comes at each step, so that a run is told without any word."""
-    keys = {"name": "come", "kind": "arrival", "rate": 1, "to": ["a"]}
-    queue = table("queue", {"name": "a", "capacity": PLACES})
-    return ("version = 1\nsplit = 1\n" + queue + table("event", keys)).encode()
+    return Network(split=1).queue("a", PLACES).event("come", "arrival", 1, to=["a"]).data
 
 
 def filling_log() -> bytes:
@@ -90,13 +93,32 @@ def filling_log() -> bytes:
     return "\n".join([*lines, f"step 1 0 set {PLACES}", f"end {PLACES}", ""]).encode()
 
 
+class Tried:
+    """A program: its path, words whose answer goes to standard output, with its front, words whose answer is a line
+    on standard error, with their end, words that name a file `pieces`, with the data and sizes of pieces and
+    their end, and words of which each is to be another one."""
+
+    def __init__(self, path: str, folder: pathlib.Path) -> None:
+        self.path, self.folder = path, folder
+        self.answers: list[tuple[list[str], bytes]] = []
+        self.refusals: Sequence[tuple[list[str], End]] = ()
+        self.pieces: Sequence[tuple[list[str], bytes, tuple[int, ...], End]] = ()
+        self.words: list[list[str]] = []
+
+    def run(self, words: Sequence[str | bytes], **more: Any) -> End:
+        """The status of a run and both its texts; a text is None where it goes elsewhere."""
+        pipes: dict[str, Any] = {"stdout": subprocess.PIPE, "stderr": subprocess.PIPE, **more}
+        call = [self.path, *words]
+        done = subprocess.run(call, cwd=self.folder, stdin=subprocess.DEVNULL, timeout=SECONDS, **pipes)
+        return done.returncode, done.stdout, done.stderr
+
+
 class Place:
-    """The program, and a folder with the files that it is run on."""
+    """The programs, and a folder with the files that they are run on."""
 
     def __init__(self, program: str, folder: pathlib.Path) -> None:
         self.folder = folder
         self.folder.chmod(0o755)
-        self.program = self.copy(program, "psi")
         for file in EXAMPLES.glob("*.toml"):
             shutil.copy(file, self.folder)
         self.write("filling.toml", filling_network())
@@ -108,29 +130,29 @@ class Place:
         (self.folder / "loop").symlink_to("loop")
         self.write("locked", filling_network())
         (self.folder / "locked").chmod(0)
-        merger = beside(program, "psi_merge")
-        self.merger = self.copy(merger, "psi_merge") if merger else None
         self.accepted = (0, b"accepted %d\nstate %d\n" % (PLACES + 1, PLACES), b"")
+        self.psi = self.program_of("psi", program)
+        self.psi.answers = [*self.shown(), (["sample", "filling.toml", "0", "0", "log"], self.log)]
+        self.psi.answers += [(["replay", "filling.toml", "filling.log"], self.accepted[1])]
+        self.psi.refusals, self.psi.words = REFUSALS, WORDS
+        self.psi.pieces = (
+            (["replay", "pieces", "filling.log"], filling_network(), (1, 7, 4_096), self.accepted),
+            (["replay", "filling.toml", "pieces"], self.log, (31, 8_191, 100_000), self.accepted),
+        )
+        self.programs = {"psi": self.psi}
+        if merger := beside(program, "psi_merge"):
+            self.programs["psi_merge"] = own = self.program_of("psi_merge", merger)
+            own.answers, own.refusals, own.words = [(["report.csv"], REPORT)], REFUSED_MERGES, WORDS_OF_MERGES
+            own.pieces = ((["pieces"], REPORT, (1, 7, 4_096), (0, REPORT, b"")),)
 
-    def copy(self, program: str | pathlib.Path, name: str) -> str:
+    def program_of(self, name: str, program: str | pathlib.Path) -> Tried:
         """A program, where a user without rights may run it."""
         shutil.copyfile(program, self.folder / name)
         (self.folder / name).chmod(0o755)
-        return str(self.folder / name)
+        return Tried(str(self.folder / name), self.folder)
 
     def write(self, name: str, data: bytes) -> None:
         (self.folder / name).write_bytes(data)
-
-    def run(self, words: Sequence[str | bytes], program: str | None = None, **more: Any) -> End:
-        """The status of a run and both its texts; a text is None where it goes elsewhere."""
-        call = [program or self.program, *words]
-        pipes: dict[str, Any] = {"stdout": subprocess.PIPE, "stderr": subprocess.PIPE, **more}
-        done = subprocess.run(call, cwd=self.folder, stdin=subprocess.DEVNULL, timeout=SECONDS, **pipes)
-        return done.returncode, done.stdout, done.stderr
-
-    def merge(self, words: Sequence[str | bytes], **more: Any) -> End:
-        """A run of psi_merge."""
-        return self.run(words, self.merger, **more)
 
     def shown(self) -> Iterator[tuple[list[str], bytes]]:
         """Runs that the documents show, one of each command: the words, and the whole text, or its
@@ -145,38 +167,27 @@ class Place:
             yield [word.removeprefix("examples/") for word in words], front
 
 
-def answers(place: Place) -> Iterator[tuple[list[str], bytes]]:
-    """Words whose answer goes to standard output, one call of each command, with its front."""
-    yield from place.shown()
-    yield ["sample", "filling.toml", "0", "0", "log"], place.log
-    yield ["replay", "filling.toml", "filling.log"], place.accepted[1]
-
-
-def full_devices(place: Place) -> Iterator[Case]:
+def full_devices(place: Place, tried: Tried) -> Iterator[Case]:
     with open("/dev/full", "wb") as full:
-        for words, _ in answers(place):
-            yield f"{words} on a full device", [(7, None, b"")], place.run(words, stdout=full)
-        for words, _ in REFUSALS:
-            got = place.run(words, stderr=full)
+        for words, text in tried.answers:
+            yield f"{words} on a full device", [(7, None, b"")], tried.run(words, stdout=full)
+            status, out, _ = tried.run(words, stderr=full)
+            yield f"{words} that need no room for a line", [(0, text)], (status, out[: len(text)])
+            got = tried.run(words, stdout=full, stderr=full)
+            yield f"{words} with no room for anything", [(7, None, None)], got
+        for words, (status, _, line) in tried.refusals:
+            got = tried.run(words, stderr=full)
             yield f"{words} and no room for the line", [(7, b"", None)], got
-            got = place.run(words, stdout=full)
-            yield f"{words} with nothing for the full device", [line_alone(words)], got
-        got = place.run(["sample", "first.toml", "0", "0"], stdout=full, stderr=full)
-        yield "a sample with no room for anything", [(7, None, None)], got
+            got = tried.run(words, stdout=full)
+            yield f"{words} with nothing for the full device", [(status, None, line)], got
 
 
-def line_alone(words: list[str]) -> End:
-    """What comes of words whose answer is a line, where standard output isn't looked at."""
-    status, _, line = next(wanted for reported, wanted in REFUSALS if reported == words)
-    return status, None, line
-
-
-def size_limits(place: Place) -> Iterator[Case]:
+def size_limits(place: Place, psi: Tried) -> Iterator[Case]:
     for most in (0, 1, 4_096, 65_536, 100_000, len(place.log) - 1):
         for ignored in (True, False):
             file = place.folder / "limited"
             with open(file, "wb") as out:
-                got = place.run(
+                got = psi.run(
                     ["sample", "filling.toml", "0", "0", "log"],
                     stdout=out,
                     restore_signals=not ignored,
@@ -187,32 +198,31 @@ def size_limits(place: Place) -> Iterator[Case]:
             yield what, [(status, None, b"", place.log[:most])], (*got, file.read_bytes())
 
 
-def pipes_without_reader(place: Place) -> Iterator[Case]:
+def pipes_without_reader(place: Place, tried: Tried) -> Iterator[Case]:
     read, write = os.pipe()
     os.close(read)
-    for ignored in (True, False):
-        kept = not ignored
-        for words, _ in answers(place):
-            got = place.run(words, stdout=write, restore_signals=kept)
+    for kept in (False, True):
+        for words, _ in tried.answers:
+            got = tried.run(words, stdout=write, restore_signals=kept)
             yield f"{words} whose reader is gone", [(7, None, b"")], got
-        for words, _ in REFUSALS:
-            got = place.run(words, stderr=write, restore_signals=kept)
+        for words, _ in tried.refusals:
+            got = tried.run(words, stderr=write, restore_signals=kept)
             yield f"{words} whose line has no reader", [(7, b"", None)], got
     os.close(write)
 
 
-def readers_that_leave(place: Place) -> Iterator[Case]:
+def readers_that_leave(place: Place, psi: Tried) -> Iterator[Case]:
     for trap in ("", "trap '' PIPE; "):
         line = trap + '{ "$0" sample filling.toml 0 0 log; echo $? >status; } | head -n 1'
-        words = ["sh", "-c", line, place.program]
+        words = ["sh", "-c", line, psi.path]
         done = subprocess.run(words, cwd=place.folder, capture_output=True, timeout=SECONDS)
         got = ((place.folder / "status").read_bytes(), done.stdout, done.stderr)
         yield "a log of which the first line is read", [(b"7\n", b"psi-log 2\n", b"")], got
 
 
-def slow_pipes(place: Place) -> Iterator[Case]:
+def slow_pipes(place: Place, psi: Tried) -> Iterator[Case]:
     for most in (1, 7, 4_096):
-        words = [place.program, "sample", "filling.toml", "0", "0", "log"]
+        words = [psi.path, "sample", "filling.toml", "0", "0", "log"]
         with subprocess.Popen(words, cwd=place.folder, stdout=subprocess.PIPE) as running:
             assert running.stdout
             end = running.stdout.fileno()
@@ -221,7 +231,7 @@ def slow_pipes(place: Place) -> Iterator[Case]:
         yield f"a log that is read by {most} bytes", [(0, place.log, b"")], ended
     read, write = os.pipe()
     os.set_blocking(write, False)
-    got = place.run(["sample", "filling.toml", "0", "0", "log"], stdout=write)
+    got = psi.run(["sample", "filling.toml", "0", "0", "log"], stdout=write)
     os.close(write)
     with open(read, "rb") as pipe:
         taken = pipe.read()
@@ -230,15 +240,15 @@ def slow_pipes(place: Place) -> Iterator[Case]:
     yield what, [wanted], (*got, taken, 0 < len(taken) < len(place.log))
 
 
-def terminals(place: Place) -> Iterator[Case]:
+def terminals(place: Place, psi: Tried) -> Iterator[Case]:
     for words, text in place.shown():
         master, slave = pty.openpty()
         tty.setraw(slave)
-        got = place.run(words, stdout=slave)
+        got = psi.run(words, stdout=slave)
         front = os.read(master, len(text))
         os.close(master)
         yield f"{words} on a terminal", [(0, None, b"", text)], (*got, front)
-        got = place.run(words, stdout=slave)
+        got = psi.run(words, stdout=slave)
         os.close(slave)
         yield f"{words} on a terminal that is gone", [(7, None, b"")], got
 
@@ -249,18 +259,23 @@ def close_others() -> None:
     os.close(2)
 
 
-def closed_outputs(place: Place) -> Iterator[Case]:
-    for words, text in answers(place):
-        got = place.run(words, preexec_fn=lambda: os.close(1))
+def closed_outputs(place: Place, tried: Tried) -> Iterator[Case]:
+    for words, text in tried.answers:
+        got = tried.run(words, preexec_fn=lambda: os.close(1))
         yield f"{words} with standard output closed", [(7, b"", b"")], got
-        status, out, err = place.run(words, preexec_fn=close_others)
+        status, out, err = tried.run(words, preexec_fn=close_others)
         got = (status, out[: len(text)], err)
         yield f"{words} with the others closed", [(0, text, b"")], got
-    for words, wanted in REFUSALS:
-        got = place.run(words, preexec_fn=lambda: os.close(2))
+    for words, wanted in tried.refusals:
+        got = tried.run(words, preexec_fn=lambda: os.close(2))
         yield f"{words} with standard error closed", [(7, b"", b"")], got
-        got = place.run(words, preexec_fn=lambda: os.close(1))
+        got = tried.run(words, preexec_fn=lambda: os.close(1))
         yield f"{words} with standard output closed", [wanted], got
+
+
+def refusals(place: Place, tried: Tried) -> Iterator[Case]:
+    for words, wanted in tried.refusals:
+        yield f"{words}", [wanted], tried.run(words)
 
 
 def write_slowly(path: pathlib.Path, data: bytes, most: int) -> None:
@@ -270,22 +285,17 @@ def write_slowly(path: pathlib.Path, data: bytes, most: int) -> None:
             pipe.write(data[start : start + most])
 
 
-def pieces(place: Place) -> Iterator[Case]:
+def pieces(place: Place, tried: Tried) -> Iterator[Case]:
     """Files that come in pieces: each read gives what is there, and the next one waits."""
     os.mkfifo(place.folder / "pieces")
-    network = filling_network()
-    runs = (
-        (["replay", "pieces", "filling.log"], network, (1, 7, 4_096)),
-        (["replay", "filling.toml", "pieces"], place.log, (31, 8_191, 100_000)),
-    )
-    for words, data, sizes in runs:
+    for words, data, sizes, wanted in tried.pieces:
         for most in sizes:
             asked = (place.folder / "pieces", data, most)
             writer = threading.Thread(target=write_slowly, args=asked, daemon=True)
             writer.start()
-            got = place.run(words)
+            got = tried.run(words)
             writer.join(SECONDS)
-            yield f"{words} that come by {most} bytes", [place.accepted], got
+            yield f"{words} that come by {most} bytes", [wanted], got
 
 
 def append(path: pathlib.Path, piece: bytes, ended: threading.Event) -> None:
@@ -295,7 +305,7 @@ def append(path: pathlib.Path, piece: bytes, ended: threading.Event) -> None:
             file.write(piece)
 
 
-def growing(place: Place) -> Iterator[Case]:
+def growing(place: Place, psi: Tried) -> Iterator[Case]:
     """Files that grow while they are read. What is added means nothing in a network file, and is
     text after the end of a log.
     """
@@ -310,115 +320,62 @@ def growing(place: Place) -> Iterator[Case]:
             ended = threading.Event()
             writer = threading.Thread(target=append, args=(place.folder / "grown", piece, ended))
             writer.start()
-            got = place.run(words)
+            got = psi.run(words)
             ended.set()
             writer.join()
             yield f"{words} that grow", [place.accepted, other, LONG_LOG], got
 
 
-def unreadable(place: Place) -> Iterator[Case]:
-    user: dict[str, Any] = {"user": NOBODY, "group": NOBODY, "extra_groups": []} if os.geteuid() == 0 else {}
+def nobody() -> dict[str, Any]:
+    """The options of a run by a user without rights."""
+    return {"user": NOBODY, "group": NOBODY, "extra_groups": []} if os.geteuid() == 0 else {}
+
+
+def unreadable(place: Place, psi: Tried) -> Iterator[Case]:
     longest = "./" * 2_041 + "filling.toml"
     names = ["folder", "locked", "loop", "absent", "", "filling.toml/below", "folder/absent"]
     names += ["x" * 256, "x" * 4_096, longest + "x", "./" * 65_000]
     for name in names:
         shown = f"{name[:20]!r} of {len(name)} bytes"
         for words in (["check", name], ["sample", name, "0", "0", "log"], ["replay", name, name]):
-            got = place.run(words, **user)
+            got = psi.run(words, **nobody())
             yield f"{words[0]} of a network {shown}", [NO_NETWORK], got
-        got = place.run(["replay", "filling.toml", name], **user)
+        got = psi.run(["replay", "filling.toml", name], **nobody())
         yield f"replay of a log {shown}", [NO_LOG], got
-    got = place.run(["replay", "./" * 2_041 + "/" + "filling.toml", "filling.log"], **user)
+    got = psi.run(["replay", "./" * 2_041 + "/" + "filling.toml", "filling.log"], **nobody())
     yield "the longest name", [place.accepted], got
 
 
-def endless(place: Place) -> Iterator[Case]:
+def endless(place: Place, psi: Tried) -> Iterator[Case]:
     for words in (["check", "/dev/zero"], ["replay", "/dev/zero", "/dev/zero"]):
-        yield f"{words} without end", [LONG_NETWORK], place.run(words)
-    got = place.run(["replay", "filling.toml", "/dev/zero"])
+        yield f"{words} without end", [LONG_NETWORK], psi.run(words)
+    got = psi.run(["replay", "filling.toml", "/dev/zero"])
     yield "a log without end", [LONG_LOG], got
 
 
-def wrong_words(place: Place) -> Iterator[Case]:
+def wrong_words(place: Place, tried: Tried) -> Iterator[Case]:
     for wrong in (b"\xff", b"a\xc3", b"\xed\xa0\x80"):
-        for at in range(5):
-            words = [b"sample", b"filling.toml", b"0", b"0", b"log"]
-            words[at] = wrong
-            yield f"{words}, which aren't UTF-8", [(13, b"", b"")], place.run(words)
+        for right in tried.words:
+            for at in range(len(right)):
+                words = [*map(str.encode, right[:at]), wrong, *map(str.encode, right[at + 1 :])]
+                yield f"{words}, which aren't UTF-8", [(13, b"", b"")], tried.run(words)
 
 
-def lines_of_merges(place: Place, what: str, **more: Any) -> Iterator[Case]:
-    """The lines of psi_merge where standard error takes nothing."""
-    for words, _ in REFUSED_MERGES:
-        yield f"the line on a merge of {words} {what}", [(7, b"", None)], place.merge(words, **more)
-
-
-def outputs_of_merges(place: Place) -> Iterator[Case]:
-    """Merges whose outputs fail, and lines whose outputs do; and each with the other output gone."""
-    words = ["report.csv"]
-    with open("/dev/full", "wb") as full:
-        yield "a merge on a full device", [(7, None, b"")], place.merge(words, stdout=full)
-        yield "a merge that needs no err", [(0, REPORT, None)], place.merge(words, stderr=full)
-        yield from lines_of_merges(place, "on a full device", stderr=full)
-        for reported, (status, _, line) in REFUSED_MERGES:
-            got = place.merge(reported, stdout=full)
-            yield f"a merge of {reported} that needs no out", [(status, None, line)], got
-    read, write = os.pipe()
-    os.close(read)
-    yield "a merge whose reader is gone", [(7, None, b"")], place.merge(words, stdout=write)
-    yield from lines_of_merges(place, "without a reader", stderr=write)
-    os.close(write)
-    got = place.merge(words, preexec_fn=lambda: os.close(1))
-    yield "a merge with standard output closed", [(7, b"", b"")], got
-    got = place.merge(words, preexec_fn=close_others)
-    yield "a merge with the others closed", [(0, REPORT, b"")], got
-    for reported, wanted in REFUSED_MERGES:
-        got = place.merge(reported, preexec_fn=lambda: os.close(2))
-        yield f"a merge of {reported} with standard error closed", [(7, b"", b"")], got
-        got = place.merge(reported, preexec_fn=lambda: os.close(1))
-        yield f"a merge of {reported} with standard output closed", [wanted], got
-
-
-def files_of_merges(place: Place) -> Iterator[Case]:
-    """Files of merges that can't be read, that never end, that come in pieces, and those in order."""
-    user: dict[str, Any] = {"user": NOBODY, "group": NOBODY, "extra_groups": []} if os.geteuid() == 0 else {}
+def unreadable_reports(place: Place, merger: Tried) -> Iterator[Case]:
     for name in ("folder", "locked", "loop", "absent", "", "report.csv/below", "x" * 4_096):
         shown = f"{name[:20]!r} of {len(name)} bytes"
         for words in ([name], ["report.csv", name], [name, "wrong.csv"]):
-            got = place.merge(words, **user)
+            got = merger.run(words, **nobody())
             yield f"a merge of {shown}, one of {len(words)}", [no_report(name)], got
-    for reported, wanted in REFUSED_MERGES:
-        yield f"a merge of {reported}", [wanted], place.merge(reported)
-    os.mkfifo(place.folder / "pieces.csv")
-    for most in (1, 7, 4_096):
-        asked = (place.folder / "pieces.csv", REPORT, most)
-        writer = threading.Thread(target=write_slowly, args=asked, daemon=True)
-        writer.start()
-        got = place.merge(["pieces.csv"])
-        writer.join(SECONDS)
-        yield f"a merge of what comes by {most} bytes", [(0, REPORT, b"")], got
-    for wrong in (b"\xff", b"a\xc3", b"\xed\xa0\x80"):
-        for names in ([wrong], [b"report.csv", wrong]):
-            got = place.merge(names)
-            yield f"a merge of {names}, which aren't UTF-8", [(13, b"", b"")], got
 
 
-MERGES = outputs_of_merges, files_of_merges
-TRIALS = (
-    full_devices,
-    size_limits,
-    pipes_without_reader,
-    readers_that_leave,
-    slow_pipes,
-    terminals,
-    closed_outputs,
-    pieces,
-    growing,
-    unreadable,
-    endless,
-    wrong_words,
-    *MERGES,
-)
+OF_BOTH = full_devices, pipes_without_reader, closed_outputs, refusals, pieces, wrong_words
+OF_PSI = size_limits, readers_that_leave, slow_pipes, terminals, growing, unreadable, endless
+TRIALS = [
+    *((trial, name) for trial in OF_BOTH for name in ("psi", "psi_merge")),
+    *((trial, "psi") for trial in OF_PSI),
+    (unreadable_reports, "psi_merge"),
+]
 
 
 @pytest.fixture
@@ -428,10 +385,12 @@ def place(program: str) -> Iterator[Place]:
         yield Place(program, pathlib.Path(folder))
 
 
-@pytest.mark.parametrize("trial", TRIALS, ids=[trial.__name__ for trial in TRIALS])
-def test_what_fails(expect: Expectations, place: Place, trial: Callable[[Place], Iterator[Case]]) -> None:
-    if trial in MERGES and not place.merger:
-        pytest.skip("psi_merge isn't built")
-    for what, wanted, got in trial(place):
+@pytest.mark.parametrize("trial, name", TRIALS, ids=[f"{trial.__name__}-{name}" for trial, name in TRIALS])
+def test_what_fails(
+    expect: Expectations, place: Place, trial: Callable[[Place, Tried], Iterator[Case]], name: str
+) -> None:
+    if name not in place.programs:
+        pytest.skip(f"{name} isn't built")
+    for what, wanted, got in trial(place, place.programs[name]):
         texts = [repr(end)[:300] for end in (*wanted, got)]
         expect(got in wanted, f"{what[:200]}: wanted {' or '.join(texts[:-1])}, got {texts[-1]}")
