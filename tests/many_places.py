@@ -168,7 +168,7 @@ def wait_until(holds: Callable[[], bool], seconds: float = SECONDS) -> None:
     """Waits until something holds, but not longer than it may take."""
     until = time.monotonic() + seconds
     while not holds() and time.monotonic() < until:
-        time.sleep(0.2)
+        time.sleep(0.05)
 
 
 @contextlib.contextmanager

@@ -103,11 +103,17 @@ class Place:
         """The files of finished blocks."""
         return {*self.room.glob("*.many/blocks/[0-9]*.csv")}
 
-    def wait_for(self, count: int) -> None:
-        """Waits until that many blocks are finished."""
-        until = time.monotonic() + SECONDS
-        while len(self.blocks()) < count and time.monotonic() < until:
-            time.sleep(0.05)
+    def clear(self) -> None:
+        """Removes what calls have kept."""
+        for folder in self.room.glob("*.many"):
+            shutil.rmtree(folder)
+
+    def begun(self, *words: object) -> "subprocess.Popen[bytes]":
+        """Begins a call from nothing, and waits until five blocks are finished."""
+        self.clear()
+        run = self.start(*words)
+        places.wait_until(lambda: len(self.blocks()) >= 5, SECONDS)
+        return run
 
     def program(self, name: str, script: str) -> str:
         """A program in place of PSI, which knows PSI, and a folder for what it wants to keep."""
@@ -171,15 +177,13 @@ def test_processes_killed(program: str, check: Checks) -> None:
             places.kill(places.descendants(run.pid, "psi")[:1])
         check.same("twelve samplers killed", ended(run), wanted)
     with place(program) as here:
-        run = here.start(*call)
-        here.wait_for(5)
+        run = here.begun(*call)
         places.kill(places.descendants(run.pid, "parallel")[:1])
         check.same("GNU parallel killed", ended(run), wanted)
     endings = ("killed", "KILL", -9), ("ended", "TERM", 143), ("left", "INT", 130)
     for name, ending, status in endings:
         with place(program) as here:
-            run = here.start(*call)
-            here.wait_for(5)
+            run = here.begun(*call)
             below = places.descendants(run.pid)
             run.send_signal(getattr(signal, "SIG" + ending))
             check(f"psi-many {name} has its status", ended(run)[0] == status)
@@ -240,8 +244,7 @@ def test_a_call_ended(program: str, check: Checks) -> None:
     call = SLOW, 1, 0, 6_000, "--block", 200
     with place(program) as here:
         wanted = here.one_process(*call[:4])
-        run = here.start(*call)
-        here.wait_for(5)
+        run = here.begun(*call)
         places.kill(places.descendants(run.pid, "psi")[:1])
         run.terminate()
         check("psi-many ended after a sampler was killed", ended(run)[0] == 143)
@@ -324,9 +327,7 @@ def test_what_is_refused(program: str, check: Checks) -> None:
         refused("a merge that fails", [*call, "--merge", "false"], 1)
         refused("a merge that prints nothing", [*call, "--merge", "true"], 1)
         run = here.start(SLOW, 0, 0, 20_000, "--folder", "h")
-        until = time.monotonic() + SECONDS
-        while not (here.room / "h" / "bound").exists() and time.monotonic() < until:
-            time.sleep(0.05)
+        places.wait_until((here.room / "h" / "bound").exists, SECONDS)
         refused("a folder in which another is at work", [SLOW, 0, 0, 20_000, "--folder", "h"])
         run.terminate()
         ended(run)
@@ -354,21 +355,17 @@ def test_hosts(program: str, check: Checks) -> None:
             ("a host killed", places.Host.kill, places.Host.begin),
             ("a host cut off", places.Host.cut, places.Host.join),
         ):
-            shutil.rmtree(next(here.room.glob("*.many")))
-            run = here.start(*call)
-            here.wait_for(5)
+            run = here.begun(*call)
             fault(hosts[1])
             answer = ended(run)
             check.same(f"{name} in the middle", answer, wanted)
             check(f"{name} in the middle is told", "drawn again" in answer[2], answer[2])
-            shutil.rmtree(next(here.room.glob("*.many")))
+            here.clear()
             answer = here.run(*call)
             check.same(f"{name} before", answer, wanted)
             check(f"{name} before is told", f"host {hosts[1].address} is left out" in answer[2])
             mend(hosts[1])
-        shutil.rmtree(next(here.room.glob("*.many")))
-        run = here.start(*call)
-        here.wait_for(5)
+        run = here.begun(*call)
         for host in hosts:
             host.kill()
         status, out, message = ended(run)
@@ -391,15 +388,11 @@ def test_slurm(program: str, check: Checks) -> None:
     with places.slurm(3) as (environment, nodes), place(program, ["--slurm"], environment) as here:
         wanted = here.one_process(*call[:4])
         check.same("three nodes of Slurm", here.run(*call), wanted)
-        shutil.rmtree(next(here.room.glob("*.many")))
-        run = here.start(*call)
-        here.wait_for(5)
+        run = here.begun(*call)
         nodes[1].kill()
         check.same("a node of Slurm killed in the middle", ended(run), wanted)
         nodes[1].begin()
-        shutil.rmtree(next(here.room.glob("*.many")))
-        run = here.start(*call)
-        here.wait_for(5)
+        run = here.begun(*call)
         run.kill()
         ended(run)
         job = (next(here.room.glob("*.many")) / "slurm" / "job").read_text()
