@@ -36,7 +36,7 @@ sys.path[:0] = [WORDS.package, str(TOP / "python/tests")]
 sys.dont_write_bytecode = True
 
 import numpy
-from solving import law_of
+from solving import birth_and_death, means_of
 
 from psi_tools.stats import law as laws
 from psi_tools.stats.batches import Batches, batches_of
@@ -65,9 +65,7 @@ def queue_of(load: float, capacity: int, reward: list[int] | None = None) -> Net
 
 def law_of_queue(load: float, capacity: int) -> Values:
     """The probability of each number of customers."""
-    weights: Values = (round(60 * load) / 60) ** numpy.arange(capacity + 1)
-    law: Values = weights / weights.sum()
-    return law
+    return numpy.array(birth_and_death(round(60 * load), [60] * capacity))
 
 
 def fours(capacity: int) -> list[int]:
@@ -226,10 +224,8 @@ def reports_from(psi: Program, net: Network) -> list[Report]:
 
 def solved(net: Network) -> list[float]:
     """The mean of the queue of a network, and of each of its rewards."""
-    states, law = law_of(net)
-    numbers = numpy.array([state[0] for state in states])
-    tables = [numpy.array(reward["table"][0]) for reward in net.table["reward"]]
-    return [float(law @ numbers), *(float(law @ table[numbers]) for table in tables)]
+    queues, rewards = means_of(net)
+    return [*queues.values(), *rewards.values()]
 
 
 def with_rewards(load: float, capacity: int) -> Network:

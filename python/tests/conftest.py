@@ -4,12 +4,15 @@ import functools
 import os
 import pathlib
 import re
+import resource
 import shutil
 import subprocess
 import sys
+import time
 import types
-from collections.abc import Callable
-from typing import TYPE_CHECKING
+import xml.etree.ElementTree
+from collections.abc import Callable, Sequence
+from typing import TYPE_CHECKING, Any
 
 import pytest
 
@@ -17,6 +20,7 @@ if TYPE_CHECKING:
     import pandas
     from course import Answer, Course
 
+    from psi_tools.model.networks import Network
     from psi_tools.stats.intervals import Mean
 
 HERE = pathlib.Path(__file__).resolve().parent
@@ -25,8 +29,13 @@ sys.path[:0] = [str(TOP), str(TOP / "tools")]
 BUILT = TOP / "crates/psi/out/psi"
 PSI = os.path.abspath(os.environ.get("PSI") or (not BUILT.exists() and shutil.which("psi")) or BUILT)
 SECONDS = 120
-# Runs a tool with some words; gives its status and both its texts.
-Tool = Callable[..., tuple[int, str, str]]
+# The checker of certificates, which shares nothing with the tools, in a Python that loads nothing else.
+CHECKER = [sys.executable, "-IS", str(TOP / "tools/check_interval.py")]
+# The status of a call and both its texts; and what runs a tool with some words and options of subprocess.
+Ended = tuple[int, str, str]
+Tool = Callable[..., Ended]
+Started = Callable[..., "subprocess.Popen[str]"]
+PIPES: dict[str, Any] = {"stdout": subprocess.PIPE, "stderr": subprocess.PIPE, "text": True}
 # Where this folder stands alone, with psi on the PATH, these tests are made. All others want the repository,
 # for its tools, networks, guides or plain programs.
 ALONE = not (TOP / "tools").is_dir()
@@ -39,6 +48,61 @@ def match_in(pattern: str, text: str, flags: int = 0) -> "re.Match[str]":
     found = re.search(pattern, text, flags)
     assert found is not None, (pattern, text)
     return found
+
+
+def example(name: str) -> pathlib.Path:
+    """The file of a network of the gallery."""
+    return TOP / f"examples/{name}.toml"
+
+
+def desk(rate: object = 4, service: object = 5, capacity: int = 10) -> "Network":
+    """The network of a queue with a single server, M/M/1/K."""
+    from psi_tools.model.networks import Network
+
+    net = Network().queue("desk", capacity).event("come", "arrival", rate, to=["desk"])
+    return net.event("serve", "service", service, source="desk")
+
+
+def ended(words: Sequence[object], **options: Any) -> Ended:
+    """How a call ends: its status and both its texts, each None where it goes elsewhere."""
+    done = subprocess.run([*map(str, words)], timeout=SECONDS, **{**PIPES, **options})
+    return done.returncode, done.stdout, done.stderr
+
+
+def checked(certificates: pathlib.Path) -> Ended:
+    """How check_interval.py ends on a file of certificates."""
+    return ended([*CHECKER, certificates])
+
+
+def is_refused(end: Ended, printed: str, status: int = 2) -> bool:
+    """Whether a call ended with this status and no answer, and with this on standard error."""
+    return end[:2] == (status, "") and printed in end[2]
+
+
+def printed_by(*words: object) -> str:
+    """What a program prints on standard output."""
+    return ended(words)[1]
+
+
+def limited(what: str, most: int) -> dict[str, Callable[[], None]]:
+    """The option of a call that has at most that much of something, such as FSIZE, the bytes of a file."""
+    return {"preexec_fn": lambda: resource.setrlimit(getattr(resource, f"RLIMIT_{what}"), (most, most))}
+
+
+def scripted(path: pathlib.Path, *lines: str) -> pathlib.Path:
+    """A script of the shell in place of a program, with a folder for what it keeps, $KEPT."""
+    pathlib.Path(f"{path}.kept").mkdir(parents=True)
+    path.write_text("\n".join(["#!/bin/sh", f"KEPT={path}.kept", *lines, ""]))
+    path.chmod(0o755)
+    return path
+
+
+def wait_for(condition: Callable[[], bool], seconds: float = SECONDS) -> bool:
+    """Whether something holds before that many seconds have passed."""
+    until = time.monotonic() + seconds
+    while not condition() and time.monotonic() < until:
+        time.sleep(0.05)
+    return condition()
 
 
 def ends_of(mean: "Mean") -> tuple[float, float]:
@@ -59,12 +123,10 @@ def rows_in(table: "pandas.DataFrame") -> list[list[int | None]]:
     return [[None if value is pandas.NA else int(value) for value in row] for row in table.itertuples(index=False)]
 
 
-def erlang_b(lines: int, load: float) -> float:
-    """Erlang's formula B, by its recursion."""
-    blocked = 1.0
-    for number in range(1, lines + 1):
-        blocked = load * blocked / (number + load * blocked)
-    return blocked
+def svg_ids(picture: bytes | str) -> list[str]:
+    """The ids of the groups of an SVG."""
+    root = xml.etree.ElementTree.fromstring(picture)
+    return [each.get("id", "") for each in root.iter("{http://www.w3.org/2000/svg}g")]
 
 
 def companion(program: str, name: str) -> str:
@@ -106,14 +168,18 @@ def environment(program: str, tmp_path_factory: pytest.TempPathFactory) -> dict[
 
 @pytest.fixture
 def tool(environment: dict[str, str], tmp_path: pathlib.Path) -> Tool:
-    """Runs a tool in a folder of its own; gives its status and both its texts."""
+    """Runs a tool in a folder of its own."""
+    return lambda name, *words, **options: ended(
+        [TOP / "tools" / name, *words], cwd=tmp_path, env=environment, **options
+    )
 
-    def run(name: str, *words: object) -> tuple[int, str, str]:
-        call = [str(TOP / "tools" / name), *map(str, words)]
-        done = subprocess.run(call, cwd=tmp_path, capture_output=True, text=True, timeout=SECONDS, env=environment)
-        return done.returncode, done.stdout, done.stderr
 
-    return run
+@pytest.fixture
+def started(environment: dict[str, str], tmp_path: pathlib.Path) -> Started:
+    """Starts a tool in a folder of its own."""
+    return lambda name, *words: subprocess.Popen(
+        [TOP / "tools" / name, *map(str, words)], cwd=tmp_path, env=environment, **PIPES
+    )
 
 
 @pytest.fixture(scope="session")

@@ -5,10 +5,11 @@ from __future__ import annotations
 import functools
 import json
 import re
-import subprocess
+import tomllib
 from collections.abc import Callable, Iterator
+from typing import Any
 
-from conftest import SECONDS, TOP
+from conftest import TOP, ended
 
 FOLDER, NOTEBOOK = TOP / "docs/course", TOP / "docs/psi-in-python.ipynb"
 WORDS = "no one two three four five six seven eight nine ten eleven twelve".split()
@@ -24,6 +25,11 @@ OTHERS = dict(zip(WORDS[1:], [*WORDS[2:], "eleven"])) | {
 LISTED = "|".join(word for word in OTHERS if word != "one")
 NUMBER = re.compile(rf"(?<![A-Za-z])\d+|[₀-₉]|\b(?:{LISTED})\b|\bone(?= (?:job|queue|state|step)\b)", re.I)
 Answer = Callable[..., str]
+
+
+def table(name: str) -> dict[str, Any]:
+    """A file of the repository, as TOML."""
+    return tomllib.loads((TOP / name).read_text())
 
 
 def spaced(text: str) -> str:
@@ -85,9 +91,8 @@ def answers_of(program: str) -> Answer:
 
     @functools.cache
     def answer(*words: object) -> str:
-        call = [program, *map(str, words)]
-        done = subprocess.run(call, cwd=TOP, capture_output=True, text=True, timeout=SECONDS)
-        return done.stdout + done.stderr
+        _, out, error = ended([program, *words], cwd=TOP)
+        return out + error
 
     return answer
 

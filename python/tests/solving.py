@@ -1,6 +1,7 @@
 """The stationary law of a small network, solved from its events as the plain program has them."""
 
 import itertools
+from collections.abc import Iterable
 from typing import Any
 
 import numpy
@@ -34,6 +35,18 @@ def law_of(net: Network, total: int | None = None) -> tuple[list[State], numpy.n
     found = scipy.sparse.linalg.spsolve(matrix.tocsc(), wanted)
     assert found.min() > -1e-9
     return states, found
+
+
+def birth_and_death(birth: float, deaths: Iterable[float]) -> list[float]:
+    """The law of a number that rises at a rate, and falls at these from 1, 2, .. on, by its formula."""
+    weights = [*itertools.accumulate(deaths, lambda weight, death: weight * birth / death, initial=1.0)]
+    total = sum(weights)
+    return [weight / total for weight in weights]
+
+
+def erlang_b(lines: int, load: float) -> float:
+    """Erlang's formula B."""
+    return birth_and_death(load, range(1, lines + 1))[-1]
 
 
 def means_of(net: Network, total: int | None = None) -> tuple[dict[str, float], dict[str, float]]:

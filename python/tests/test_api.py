@@ -4,7 +4,6 @@ import doctest
 import inspect
 import pathlib
 import pickle
-import subprocess
 import sys
 import types
 import warnings
@@ -13,18 +12,11 @@ from typing import Any
 import api_page
 import psi as module
 import pytest
-from conftest import ALONE, HERE, TOP
-from psi_tools.draw.program import companion_of
+from conftest import ALONE, HERE, TOP, companion, desk, ended
 from psi_tools.errors import PsiError
 from psi_tools.io.terminal import Bar
 
 CALLS = [name for name in module.__all__ if inspect.isfunction(getattr(module, name))]
-
-
-def desk() -> module.Network:
-    net = module.Network().queue("desk", capacity=10)
-    net.event("come", "arrival", rate=4, to=["desk"])
-    return net.event("serve", "service", rate=5, source="desk")
 
 
 @pytest.mark.skipif(ALONE, reason="the page stands in docs/")
@@ -48,11 +40,9 @@ def test_each_argument_is_documented(name: str) -> None:
 def test_the_examples_run(
     program: str, environment: dict[str, str], monkeypatch: pytest.MonkeyPatch, name: str
 ) -> None:
-    if name == "paths" and companion_of(program, "psi_paths") is None:
-        pytest.skip("psi_paths isn't built")
+    if name in ("paths", "states"):
+        companion(program, f"psi_{name}")
     monkeypatch.setenv("PATH", environment["PATH"])
-    if name == "states" and not module.Program().has_states():
-        pytest.skip("psi_states isn't beside psi")
     runner = doctest.DocTestRunner(optionflags=doctest.REPORT_NDIFF)
     tests = doctest.DocTestFinder().find(getattr(module, name), name)
     assert sum(len(test.examples) for test in tests) > 0
@@ -161,15 +151,10 @@ def test_a_bar_is_shown_for_long_work_alone(
 
 def test_help_reads_well() -> None:
     """As `python -c "import psi; help(psi.samples)"` prints it."""
-    done = subprocess.run(
-        [sys.executable, "-c", "import psi; help(psi.samples)"],
-        cwd=HERE.parent,
-        capture_output=True,
-        text=True,
-        check=True,
-    )
-    assert "samples(net: " in done.stdout and "Parameters\n    ----------\n" in done.stdout
-    assert "numpy.ndarray of int, shape (count, queues)" in done.stdout
+    status, out, error = ended([sys.executable, "-c", "import psi; help(psi.samples)"], cwd=HERE.parent)
+    assert status == 0, error
+    assert "samples(net: " in out and "Parameters\n    ----------\n" in out
+    assert "numpy.ndarray of int, shape (count, queues)" in out
 
 
 def test_types_are_shipped() -> None:

@@ -10,7 +10,7 @@ import subprocess
 import sys
 
 import pytest
-from conftest import TOP
+from conftest import TOP, companion
 
 sys.path.append(str(TOP / "bench"))
 
@@ -22,7 +22,6 @@ import page
 import rivals
 import solve
 import solving
-from psi_tools.draw.program import companion_of
 from psi_tools.model.networks import Network
 
 HAS_SIMPY = subprocess.run([rivals.PYTHON, "-c", "import SimPy.Simulation"], capture_output=True).returncode == 0
@@ -132,10 +131,7 @@ def test_octave_has_the_mean_where_there_is_product_form(case: networks.Case) ->
 
 
 def test_psi_has_the_mean(case: networks.Case, program: str, tmp_path: pathlib.Path) -> None:
-    if case.name == "small" and case.total is None:
-        samples = 4_000
-    else:
-        samples = 200
+    samples = 4_000 if case.name == "small" and case.total is None else 200
     found = rivals.by_psi(program, written(case, tmp_path)[0], case, samples)
     assert abs(found.mean - exact(case)) < 1.7 * found.half < 0.5 * exact(case)
 
@@ -168,8 +164,8 @@ def test_the_least_start_and_the_least_time_of_several_runs_are_taken() -> None:
 def test_a_wrong_warm_up_is_measured(chain: str, tmp_path: pathlib.Path) -> None:
     mean, (none, long) = rivals.biases(chain, tmp_path, (0, 50_000), 2_000, 400)
     # M/M/1/K by its textbook formula.
-    weights = [0.95**number for number in range(101)]
-    assert math.isclose(mean, sum(n * w for n, w in enumerate(weights)) / sum(weights))
+    law = solving.birth_and_death(0.95, [1] * 100)
+    assert math.isclose(mean, sum(number * share for number, share in enumerate(law)))
     assert none.mean + 3 * none.half < mean and none.off < -0.2
     assert abs(long.mean - mean) < 2 * long.half
 
@@ -248,9 +244,7 @@ def test_the_page_has_the_paths_beside_the_chain() -> None:
 
 
 def test_paths_have_the_mean(case: networks.Case, program: str, tmp_path: pathlib.Path) -> None:
-    paths = companion_of(program, "psi_paths")
-    if paths is None:
-        pytest.skip("psi_paths isn't built")
+    paths = companion(program, "psi_paths")
     found = rivals.by_paths(paths, written(case, tmp_path)[0], case, 300_000)
     assert abs(found.mean - exact(case)) < 3 * found.half / rivals.PATHS_QUANTILE * 1.5
     assert found.half < 0.05 * exact(case) and found.step is not None and found.step > 0

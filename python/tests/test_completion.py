@@ -3,10 +3,9 @@
 import re
 import shlex
 import shutil
-import subprocess
 
 import pytest
-from conftest import SECONDS, TOP, match_in
+from conftest import TOP, ended, example, match_in
 
 FILES = TOP / "release/package_files"
 # What stands before the cursor, and what is offered there.
@@ -21,7 +20,7 @@ OFFERED = {
     "psi help sa": ["sample"],
     "psi --v": ["--version"],
 }
-NET = str(TOP / "examples/tandem-blocking.toml")
+NET = str(example("tandem-blocking"))
 # What zsh calls is told in place of being offered; the choice of what begins so is the shell's.
 ZSH = """
 _describe() {{ print -rl -- ${{${{(P)2}}%%:*}} }}
@@ -44,9 +43,9 @@ def offered(shell: str, line: str) -> list[str]:
         "fish": f"source {file}; complete -C {shlex.quote(line)}",
     }[shell]
     call = [shell, "-f", "-c", script] if shell == "zsh" else [shell, "-c", script]
-    done = subprocess.run(call, cwd=TOP, capture_output=True, text=True, timeout=SECONDS)
-    assert done.stderr == ""
-    found = [line.partition("\t")[0] for line in done.stdout.splitlines() if line]
+    _, out, error = ended(call, cwd=TOP)
+    assert error == ""
+    found = [line.partition("\t")[0] for line in out.splitlines() if line]
     return sorted(word for word in found if word.startswith(words[-1]))
 
 

@@ -6,36 +6,26 @@ import itertools
 import math
 import pathlib
 import re
-import tomllib
 
 import pytest
-from conftest import TOP, erlang_b, match_in
-from course import FOLDER, WORDS, Answer, Course
+from conftest import match_in
+from course import FOLDER, WORDS, Answer, Course, table
 from oracle.plain_network import Network
+from solving import birth_and_death, erlang_b
+
+from tests.documents import anchor_of
+from tests.support import report_of
 
 F = fractions.Fraction
-GALLERY = TOP / "examples"
 
 
-def net_of(path: pathlib.Path) -> Network:
-    return Network(tomllib.loads(path.read_text()))
+def net_of(name: str) -> Network:
+    return Network(table(f"examples/{name}.toml"))
 
 
 def number_after(word: str, text: str) -> int:
     """The number that follows a word in what psi prints."""
     return int(match_in(rf"\b{word}[ ,](\d+)", text)[1])
-
-
-def report_of(text: str) -> dict[tuple[str, str], int]:
-    """The values of a report."""
-    rows = (line.split(",") for line in text.splitlines()[1:])
-    return {(item, name): int(value) for item, name, value in rows}
-
-
-def desk(rate: float, service: float, capacity: int) -> list[float]:
-    """The stationary distribution of M/M/1/K."""
-    weights = [(rate / service) ** number for number in range(capacity + 1)]
-    return [weight / sum(weights) for weight in weights]
 
 
 def bands(steps: int) -> dict[tuple[int, int], F]:
@@ -77,15 +67,12 @@ def test_links_lead_somewhere(course: Course) -> None:
             assert file.exists(), target
             text = course.pages.get(file.name, "") if file.parent == FOLDER else file.read_text()
             headings = re.findall(r"^#+ (.*)$", text, re.M) if anchor else []
-            names = [
-                "".join(x for x in each.lower() if x.isalnum() or x in " -_").replace(" ", "-") for each in headings
-            ]
-            assert not anchor or anchor in names, target
+            assert not anchor or anchor in map(anchor_of, headings), target
             assert not shown.isdigit() or anchor.startswith(f"{shown}-"), target
 
 
 def test_1_where_the_runs_coalesce(course: Course) -> None:
-    net, words = net_of(GALLERY / "first.toml"), (2, 7, 4, 8)
+    net, words = net_of("first"), (2, 7, 4, 8)
     shown = "{}, {}, {} and {}"
     remainders = [word % net.modulus for word in words]
     events = [net.event_of(word) for word in words]
@@ -122,7 +109,7 @@ def test_2_forward_runs(course: Course) -> None:
     full = arrival * p + (1 - arrival) * q
     weights = [F(1, 2) ** number for number in range(3)]
     shares = [weight / sum(weights) for weight in weights]
-    net = net_of(GALLERY / "first.toml")
+    net = net_of("first")
     come, serve = net.events
     assert [[*come.after((n,))] for n in range(3)] == [[1], [2], [2]]
     assert [[*serve.after((n,))] for n in range(3)] == [[0], [0], [1]]
@@ -181,7 +168,7 @@ def test_4_kept_words(course: Course) -> None:
 
 
 def test_5_monotone(course: Course, answer: Answer) -> None:
-    net = net_of(GALLERY / "longest-queue.toml")
+    net = net_of("longest-queue")
     low, high = (0, 1, 3), (1, 1, 3)
     first, second, lower, upper = (
         ",".join(map(str, each)) for each in (low, high, net.events[0].after(low), net.events[0].after(high))
@@ -201,7 +188,7 @@ def test_5_monotone(course: Course, answer: Answer) -> None:
 def test_6_splitting(course: Course, answer: Answer) -> None:
     text = answer("exact", "examples/longest-queue.toml", 0, 0, 11)
     states, box = number_after("constant", text), number_after("region", text)
-    split = tomllib.loads((GALLERY / "longest-queue-split.toml").read_text())["split"]
+    split = table("examples/longest-queue-split.toml")["split"]
     assert number_after("states", text) == split
     one, many = (answer("sample", f"examples/longest-queue{end}.toml", 0, 0).split() for end in ("", "-split"))
     assert one[3] == many[3]
@@ -215,7 +202,7 @@ def test_6_splitting(course: Course, answer: Answer) -> None:
 
 def test_7_streams_left_out(course: Course, answer: Answer) -> None:
     report = report_of(answer("report", "examples/short-past.toml", 0, 0, 1000))
-    exact = sum(number * share for number, share in enumerate(desk(4, 5, 10)))
+    exact = sum(number * share for number, share in enumerate(birth_and_death(4, [5] * 10)))
     met = report["met", "-"]
     course.solves(
         7,
@@ -244,7 +231,7 @@ def test_8_common_random_numbers(course: Course, answer: Answer) -> None:
 
 
 def test_9_little_and_pasta(course: Course) -> None:
-    shares = desk(4, 5, 10)
+    shares = birth_and_death(4, [5] * 10)
     mean, through = sum(number * share for number, share in enumerate(shares)), 4 * (1 - shares[-1])
     course.solves(
         9,
@@ -255,13 +242,9 @@ def test_9_little_and_pasta(course: Course) -> None:
 
 
 def test_10_a_closed_network(course: Course, answer: Answer) -> None:
-    events = tomllib.loads((GALLERY / "central-server.toml").read_text())["event"]
-    assert {event["name"]: event["rate"] for event in events} == {
-        "read-disk": 2,
-        "read-drum": 6,
-        "disk-done": 3,
-        "drum-done": 5,
-    }
+    events = table("examples/central-server.toml")["event"]
+    rates = {"read-disk": 2, "read-drum": 6, "disk-done": 3, "drum-done": 5}
+    assert {event["name"]: event["rate"] for event in events} == rates
     loads = [F(1, 8), F(2, 8) * F(1, 3), F(6, 8) * F(1, 5)]
     assert [load * 120 for load in loads] == [15, 10, 18]
     states = [state for state in itertools.product(range(3), repeat=3) if sum(state) == 2]
@@ -305,7 +288,7 @@ def test_11_a_forged_certificate(course: Course, answer: Answer, tmp_path: pathl
 
 
 def test_12_how_many_lines(course: Course, answer: Answer) -> None:
-    net = tomllib.loads((FOLDER / "lines.toml").read_text())
+    net = table("docs/course/lines.toml")
     (queue,), (ring, hang_up), (busy,) = net["queue"], net["event"], net["reward"]
     load = ring["rate"] / hang_up["rate"]
     assert (queue["servers"], queue["capacity"], load, busy["level"]) == (14, 14, 8, 13)

@@ -3,18 +3,13 @@ of its formulas."""
 
 import re
 import statistics
-import tomllib
 from math import factorial
 from typing import Any
 
 import pytest
 from conftest import TOP, match_in
-from course import FOLDER, NOTEBOOK, WORDS, Answer, Course, cells_of_notebook
+from course import FOLDER, NOTEBOOK, WORDS, Answer, Course, cells_of_notebook, table
 from oracle.plain_network import Network
-
-
-def table(name: str) -> dict[str, Any]:
-    return tomllib.loads((TOP / name).read_text())
 
 
 def rates(file: dict[str, Any]) -> dict[str, int]:

@@ -2,32 +2,29 @@
 
 import pathlib
 import re
-import subprocess
 from collections.abc import Iterator
 
 import pytest
-from conftest import SECONDS, TOP
+from conftest import TOP, companion, ended
 
-from psi_tools.draw.program import companion_of
-
-BLOCK = re.compile(r"^```(\w*)\n(.*?)^```\n", re.M | re.S)
+from tests.gallery import BLOCK
 
 
-def shown(name: str) -> Iterator[tuple[dict[str, str], str, str | None]]:
-    """The runs that a document shows: the files before it, the commands, and the text, or none
+def shown() -> Iterator[tuple[dict[str, str], str, str | None]]:
+    """The runs that docs/TOOLS.md shows: the files before it, the commands, and the text, or none
     where it shows none."""
-    text = (TOP / "docs" / name).read_text()
+    text = (TOP / "docs/TOOLS.md").read_text()
     blocks, files = [*BLOCK.finditer(text)], {}
     for block, following in zip(blocks, [*blocks[1:], None]):
         if block[1] == "toml":
             files = {"desk.toml": block[2]}
-        elif block[2].startswith("tools/psi-") and name == "TOOLS.md":
+        elif block[2].startswith("tools/psi-"):
             between = text[block.end() : following.start()] if following else ""
             prints = re.match(r"\s*prints\b[^.]*$", between)
             yield dict(files), block[2], following[2] if following and prints else None
 
 
-RUNS = [*shown("TOOLS.md")]
+RUNS = [*shown()]
 
 
 def test_there_are_runs() -> None:
@@ -44,19 +41,16 @@ def test_a_run_of_the_document(
     commands: str,
     text: str | None,
 ) -> None:
-    if "--paths" in commands and companion_of(program, "psi_paths") is None:
-        pytest.skip("psi_paths isn't built")
+    if "--paths" in commands:
+        companion(program, "psi_paths")
     for name in ("tools", "examples"):
         (tmp_path / name).symlink_to(TOP / name)
     for name, data in files.items():
         (tmp_path / name).write_text(data)
-    done = subprocess.run(
-        ["sh", "-c", commands], cwd=tmp_path, capture_output=True, text=True, timeout=SECONDS, env=environment
-    )
+    status, out, error = ended(["sh", "-c", commands], cwd=tmp_path, env=environment)
     # As the page says, psi-where ends with 3 where a file is refused, and that of the page is.
-    assert done.returncode == (3 if commands.startswith("tools/psi-where ") else 0), done.stderr
-    if text is not None:
-        assert done.stdout == text
+    assert status == (3 if commands.startswith("tools/psi-where ") else 0), error
+    assert text is None or out == text
 
 
 def test_the_options_of_psi_many_are_those_that_it_has() -> None:

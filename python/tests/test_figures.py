@@ -5,13 +5,13 @@ import csv
 import math
 import pathlib
 import re
-import subprocess
 from collections.abc import Callable
 
 import numpy
 import pytest
 import scipy.stats
-from conftest import TOP, match_in
+from conftest import TOP, ended, match_in, printed_by
+from solving import birth_and_death
 
 GUIDE = (TOP / "docs/FORMATS.md").read_text()
 PART = GUIDE.partition("\n## Performance figures\n")[2].partition("\n## ")[0]
@@ -30,10 +30,7 @@ def in_time(found: int) -> float:
 
 def law() -> list[float]:
     """The probability of each number of callers."""
-    weights = [1.0]
-    for number in range(PLACES):
-        weights.append(weights[-1] * COME / (SERVED * min(number + 1, SERVERS)))
-    return [weight / sum(weights) for weight in weights]
+    return birth_and_death(COME, [SERVED * min(number, SERVERS) for number in range(1, PLACES + 1)])
 
 
 def means_of_law() -> dict[str, float]:
@@ -51,7 +48,7 @@ def means_of_law() -> dict[str, float]:
 
 def means_of_report(program: str) -> dict[str, float]:
     """The mean of each row of the report, over its samples."""
-    text = subprocess.check_output([program, *CALL.split()], cwd=TOP, text=True)
+    text = ended([program, *CALL.split()], cwd=TOP)[1]
     assert f"./psi {CALL}\n" in PART and text in PART
     rows = [*csv.DictReader(text.splitlines())]
     return {row["name"]: int(row["value"]) / 10_000 for row in rows if "sum" in row["item"]}
@@ -120,7 +117,7 @@ def test_streams_that_could_be_chosen(program: str) -> None:
     streams, states = (re.findall(r"\d+", stated[place]) for place in (1, 3))
     assert len(streams) == len(states) == 3
     for stream, state in zip(streams, states):
-        out = subprocess.check_output([program, "sample", stated[2], "0", stream], cwd=TOP, text=True)
+        out = printed_by(program, "sample", TOP / stated[2], 0, stream)
         assert out.splitlines()[1] == f"state {state}"
 
 
@@ -128,8 +125,7 @@ def test_the_commitment_is_one(tmp_path: pathlib.Path) -> None:
     stated = GUIDE.partition("**A commitment**")[2]
     block = match_in(r"^  ```\n((?:  [^\n]*\n)*?)  ```", stated, re.M)
     lines = "".join(line[2:] for line in block[1].splitlines(True))
-    done = subprocess.run(["sh", "-ec", lines], cwd=tmp_path, capture_output=True, text=True)
+    digest = ended(["sh", "-ec", lines], cwd=tmp_path)[1]
     kept = (tmp_path / "kept").read_text()
     assert re.fullmatch(r"\d{1,20} [0-9a-f]{32}\n", kept) and int(kept.split()[0]) < 2**64
-    check = subprocess.run(["sha256sum", "kept"], cwd=tmp_path, capture_output=True, text=True)
-    assert done.stdout.split()[0] == check.stdout.split()[0]
+    assert digest.split()[0] == ended(["sha256sum", "kept"], cwd=tmp_path)[1].split()[0]

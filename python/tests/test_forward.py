@@ -5,7 +5,7 @@ from typing import Any
 
 import numpy
 import pytest
-from conftest import TOP, Tool
+from conftest import Tool, example, is_refused
 from oracle.plain_network import Event
 from oracle.plain_network import Network as Plain
 from solving import law_of
@@ -63,7 +63,7 @@ def met(shares: Shares, idle: float, states: range) -> Law:
 
 @pytest.mark.parametrize("name", ["single-server", "first", "call-centre", "guarded"])
 def test_forward_runs_end_as_the_plain_events_say(program: str, tmp_path: pathlib.Path, name: str) -> None:
-    path = TOP / f"examples/{name}.toml"
+    path = example(name)
     if name == "guarded":
         path = tmp_path / "guarded.toml"
         path.write_text(GUARDED)
@@ -81,7 +81,7 @@ def test_forward_runs_end_as_the_plain_events_say(program: str, tmp_path: pathli
 
 
 def test_a_distance_is_the_greatest_error_of_an_event(program: str) -> None:
-    found = forward_of(program, str(TOP / "examples/single-server.toml"), ())
+    found = forward_of(program, str(example("single-server")), ())
     gaps = found.after[32] - found.law
     worst = max(numpy.maximum(gap, 0).sum() for gap in gaps)
     assert found.distance(32) == pytest.approx(worst)
@@ -90,11 +90,11 @@ def test_a_distance_is_the_greatest_error_of_an_event(program: str) -> None:
 @pytest.mark.parametrize(
     "words, printed",
     [
-        ([TOP / "examples/tandem-blocking.toml"], "a network of one queue"),
-        ([TOP / "examples/batch-arrivals.toml"], "no event such as"),
-        ([TOP / "examples/single-server.toml", "0"], "isn't a number of steps"),
-        ([TOP / "examples/single-server.toml", "4194305"], "isn't a number of steps"),
-        ([TOP / "examples/single-server.toml", "1", "2", "3", "4"], "at most 3 numbers"),
+        ([example("tandem-blocking")], "a network of one queue"),
+        ([example("batch-arrivals")], "no event such as"),
+        ([example("single-server"), "0"], "isn't a number of steps"),
+        ([example("single-server"), "4194305"], "isn't a number of steps"),
+        ([example("single-server"), "1", "2", "3", "4"], "at most 3 numbers"),
         (["absent"], "can't be read"),
         (["refused.toml"], "network refused"),
         (["apart.toml"], "several laws"),
@@ -111,6 +111,6 @@ def test_what_cannot_be_drawn_is_refused(tool: Tool, tmp_path: pathlib.Path, wor
     down = event.replace("swap", "down") + 'part = [{ queue = "desk", least = 1, shift = -1 }]\n'
     (tmp_path / "apart.toml").write_text(head + event + apart)
     (tmp_path / "swapped.toml").write_text(head + event + swapped + down)
-    status, out, error = tool("psi-plot", "forward", *words, "-o", "drawn.svg")
-    assert (status, out) == (2, "") and printed in error and error.count("\n") == 1, error
+    end = tool("psi-plot", "forward", *words, "-o", "drawn.svg")
+    assert is_refused(end, printed) and end[2].count("\n") == 1, end
     assert not (tmp_path / "drawn.svg").exists()

@@ -1,19 +1,15 @@
 """The module psi: what it gives is what the program prints."""
 
 import pathlib
-import subprocess
 import tomllib
 import types
 import warnings
 
 import pytest
-from conftest import TOP
+from conftest import TOP, desk, example, printed_by
+from solving import birth_and_death
 
-EXAMPLES = TOP / "examples"
-
-
-def printed_by(program: str, *words: object) -> str:
-    return subprocess.run([program, *map(str, words)], capture_output=True, text=True).stdout
+from tests.support import report_of
 
 
 def test_the_version_is_that_of_the_citation(psi: types.SimpleNamespace) -> None:
@@ -25,7 +21,7 @@ def test_the_version_is_that_of_the_citation(psi: types.SimpleNamespace) -> None
 
 def test_a_report_is_the_programs(psi: types.SimpleNamespace, program: str) -> None:
     for name in ("tandem-blocking", "breakdowns"):
-        file = EXAMPLES / f"{name}.toml"
+        file = example(name)
         table = psi.report(file, 3, 5, 200)
         lines = [f"{item},{name},{value}" for item, name, value in table.itertuples(index=False)]
         text = "\n".join(["item,name,value", *lines, ""])
@@ -35,15 +31,15 @@ def test_a_report_is_the_programs(psi: types.SimpleNamespace, program: str) -> N
 def test_a_network_built_in_python_is_that_of_its_file(
     psi: types.SimpleNamespace, program: str, tmp_path: pathlib.Path
 ) -> None:
-    net = psi.Network(limit=12).queue("desk", 10)
-    net.event("come", "arrival", 4, to=["desk"]).event("serve", "service", 5, source="desk")
+    net = desk()
+    net.heads["limit"] = 12
     net.write(tmp_path / "net.toml")
     assert psi.check(net) == printed_by(program, "check", tmp_path / "net.toml")
     assert "limit 12" in psi.check(net)
 
 
 def test_samples_are_the_programs(psi: types.SimpleNamespace, program: str) -> None:
-    file = EXAMPLES / "tandem-blocking.toml"
+    file = example("tandem-blocking")
     states = psi.samples(file, 1, 7, 20)
     assert states.shape == (20, 3)
     for stream, state in enumerate(states.tolist(), 7):
@@ -52,7 +48,7 @@ def test_samples_are_the_programs(psi: types.SimpleNamespace, program: str) -> N
 
 
 def test_streams_that_are_not_coupled(psi: types.SimpleNamespace) -> None:
-    file = EXAMPLES / "short-past.toml"
+    file = example("short-past")
     with pytest.raises(psi.NotCoupled):
         psi.samples(file, 0, 0, 100)
     states = psi.samples(file, 0, 0, 100, keep=True)
@@ -61,11 +57,11 @@ def test_streams_that_are_not_coupled(psi: types.SimpleNamespace) -> None:
         psi.report(file, 0, 0, 100)
     with warnings.catch_warnings():
         warnings.simplefilter("error")
-        psi.report(EXAMPLES / "first.toml", 0, 0, 100)
+        psi.report(example("first"), 0, 0, 100)
 
 
 def test_a_log_certifies_its_state(psi: types.SimpleNamespace, program: str) -> None:
-    file = EXAMPLES / "tandem-blocking.toml"
+    file = example("tandem-blocking")
     log = psi.log(file, 0, 0)
     assert log == printed_by(program, "sample", file, 0, 0, "log")
     assert psi.replay(file, log) == (64, (3, 2, 1))
@@ -82,7 +78,7 @@ def test_a_picture_of_a_log_leaves_the_process_as_it_was(
 
     import matplotlib
 
-    file = EXAMPLES / "tandem-blocking.toml"
+    file = example("tandem-blocking")
     log = psi.log(file, 0, 0)
     with matplotlib.rc_context({"font.size": 31, "axes.grid": True}), warnings.catch_warnings():
         warnings.simplefilter("error", psi.Uncoupled)
@@ -92,7 +88,7 @@ def test_a_picture_of_a_log_leaves_the_process_as_it_was(
         assert (dict(matplotlib.rcParams), [*warnings.filters]) == before
         assert logging.getLogger("matplotlib").level == level
         with pytest.raises(psi.Uncoupled):
-            psi.report(EXAMPLES / "short-past.toml", 0, 0, 100)
+            psi.report(example("short-past"), 0, 0, 100)
         # The picture has its own style all the same, whatever is set when it is drawn.
         sizes = {text.get_fontsize() for axes in figure.axes for text in axes.get_xticklabels()}
     assert sizes == {7}
@@ -116,11 +112,10 @@ def test_no_picture_changes_what_matplotlib_is_set_to() -> None:
 
 
 def test_means_of_streams_that_are_not_coupled_are_wider(psi: types.SimpleNamespace, program: str) -> None:
-    file = EXAMPLES / "short-past.toml"
+    file = example("short-past")
     with pytest.warns(psi.Uncoupled, match="intervals are wider"):
         found = psi.means(file, count=1_000)
-    report = subprocess.run([program, "report", file, "0", "0", "1000"], capture_output=True, text=True).stdout
-    rows = {tuple(line.split(",")[:2]): int(line.split(",")[2]) for line in report.splitlines()[1:]}
+    rows = report_of(printed_by(program, "report", file, 0, 0, 1_000))
     lost = rows["uncoupled", "-"]
     assert lost > 200
     net = psi.Network.read(file)
@@ -133,21 +128,18 @@ def test_means_of_streams_that_are_not_coupled_are_wider(psi: types.SimpleNamesp
 
 
 def test_few_samples_that_carry_a_mean_are_warned_of(psi: types.SimpleNamespace) -> None:
-    net = psi.Network().queue("desk", 10)
-    net.event("come", "arrival", 2, to=["desk"]).event("serve", "service", 5, source="desk")
-    net.reward("cost", "table", ["desk"], table=[[4**n for n in range(11)]])
+    net = desk(2).reward("cost", "table", ["desk"], table=[[4**n for n in range(11)]])
     with pytest.warns(psi.FewSamples, match="few samples carry the mean of cost"):
         found = psi.means(net, count=2_000)
-    law = [0.4**n for n in range(11)]
-    wanted = sum(p * 4**n for n, p in enumerate(law)) / sum(law)
+    wanted = sum(p * 4**n for n, p in enumerate(birth_and_death(2, [5] * 10)))
     assert found.loc["reward", "cost"]["low"] < wanted < found.loc["reward", "cost"]["high"]
 
 
 def test_other_commands(psi: types.SimpleNamespace) -> None:
-    assert psi.couple(EXAMPLES / "tandem-blocking.toml", 0, 0) == (39, (3, 2, 1))
-    assert psi.reward(EXAMPLES / "shortest-queue.toml", 0, 0, "longest") == (128, 2)
-    assert psi.exact(EXAMPLES / "longest-queue.toml", 0, 0, 11).region == 1586
-    states = psi.closed(EXAMPLES / "central-server.toml", 6, count=2)
+    assert psi.couple(example("tandem-blocking"), 0, 0) == (39, (3, 2, 1))
+    assert psi.reward(example("shortest-queue"), 0, 0, "longest") == (128, 2)
+    assert psi.exact(example("longest-queue"), 0, 0, 11).region == 1586
+    states = psi.closed(example("central-server"), 6, count=2)
     assert states.tolist() == [[0, 1, 5], [2, 0, 4]]
 
 

@@ -7,6 +7,7 @@ from fractions import Fraction
 
 import numpy
 import pytest
+from conftest import desk
 
 from psi_tools.model.networks import Network, data_of
 from psi_tools.errors import PsiError
@@ -27,12 +28,6 @@ kind = "service"
 rate = 5
 from = "desk"
 """
-
-
-def desk(rate: object) -> Network:
-    net = Network().queue("desk", 10)
-    net.event("come", "arrival", rate, to=["desk"])
-    return net.event("serve", "service", 5, source="desk")
 
 
 @pytest.mark.parametrize("rate", ["4.9", "4.0", "true", '"4"'])
@@ -66,11 +61,11 @@ def test_a_number_that_is_not_whole_names_its_key(rate: object) -> None:
 
 
 def test_other_keys_are_named_as_well() -> None:
-    net = desk(4).reward("cost", "linear", ["desk"], weights=[0.5])
+    net = desk().reward("cost", "linear", ["desk"], weights=[0.5])
     with pytest.raises(PsiError, match="a value of weights of reward 'cost' is 0.5, which isn't"):
         net.toml()
     part = [{"queue": "desk", "least": 1.5}]
-    net = desk(4).event("give-up", "guarded", 1, part=part)
+    net = desk().event("give-up", "guarded", 1, part=part)
     with pytest.raises(PsiError, match="least in a value of part of event 'give-up' is 1.5"):
         net.toml()
 
@@ -110,22 +105,22 @@ def test_arguments_of_streams(psi: types.SimpleNamespace, named: dict[str, objec
     calls = psi.report, psi.means, psi.samples, lambda net, **more: psi.law(net, "desk", **more)
     for call in calls:
         with pytest.raises(ValueError, match=f"^{name} is .*; a whole number from ") as fault:
-            call(desk(4), **named)
+            call(desk(), **named)
         assert isinstance(fault.value, psi.PsiError)
 
 
 @pytest.mark.parametrize("level", [95, 0, 1, True, "0.95", None, float("nan")])
 def test_a_level_is_a_share(psi: types.SimpleNamespace, level: object) -> None:
     with pytest.raises(psi.ArgumentError, match="^level is .*; a share from 0.5 to 0.9999"):
-        psi.means(desk(4), count=40, level=level)
+        psi.means(desk(), count=40, level=level)
 
 
 def test_other_arguments(psi: types.SimpleNamespace) -> None:
     for call in (psi.couple, psi.log, lambda net, seed, stream: psi.exact(net, seed, stream, 4)):
         with pytest.raises(psi.ArgumentError, match="^seed is -1; "):
-            call(desk(4), -1, 0)
+            call(desk(), -1, 0)
     with pytest.raises(psi.ArgumentError, match="^total is 1.5; "):
-        psi.closed(desk(4), 1.5)
+        psi.closed(desk(), 1.5)
     with pytest.raises(psi.ArgumentError, match="^jobs is 0; "):
         psi.Program(jobs=0)
-    assert len(psi.samples(desk(4), numpy.int64(1), count=numpy.int32(3))) == 3
+    assert len(psi.samples(desk(), numpy.int64(1), count=numpy.int32(3))) == 3

@@ -1,19 +1,18 @@
 """psi-new: each kind is a file that psi takes, and means what it says."""
 
 import pathlib
-import re
 import shutil
-import subprocess
 import types
 from fractions import Fraction
 
 import pytest
-from conftest import TOP, Tool, erlang_b, match_in
-from solving import means_of
+from conftest import TOP, Tool, ended, match_in
+from solving import birth_and_death, erlang_b, means_of
 
 from psi_tools.model.catalog import made_whole
 from psi_tools.model.networks import Network
 from psi_tools.cli.new import KINDS
+from tests.gallery import SHOWN
 
 KIND_WORDS = {
     "mm1k": "--arrival 0.8 --service 1 --places 10",
@@ -70,8 +69,7 @@ def test_more_than_64_servers_are_the_same_queue(tool: Tool, tmp_path: pathlib.P
 
 def test_the_mean_of_a_single_server(tool: Tool, tmp_path: pathlib.Path) -> None:
     net = made(tool, tmp_path, "mm1k", KIND_WORDS["mm1k"])
-    weights = [0.8**n for n in range(11)]
-    wanted = sum(n * w for n, w in enumerate(weights)) / sum(weights)
+    wanted = sum(n * share for n, share in enumerate(birth_and_death(0.8, [1] * 10)))
     assert means_of(net)[0]["desk"] == pytest.approx(wanted)
 
 
@@ -91,19 +89,12 @@ def test_the_formula_in_the_comment_is_what_is_solved(tool: Tool, tmp_path: path
 
 def test_phases_have_the_mean_of_pollaczek_and_khinchine(tool: Tool, tmp_path: pathlib.Path) -> None:
     # With room enough the mean number is rho + rho^2 (1 + c^2) / (2 (1 - rho)).
+    first, second = 0.75 / 2 + 0.25 / 0.5, 2 * (0.75 / 4 + 0.25 / 0.25)
     for kind, words, rho, scv in (
-        ("erlang-service", "--arrival 0.3 --service 1 --phases 3 --places 60", 0.3, 1 / 3),
-        (
-            "hyperexponential",
-            "--arrival 0.3 --service 2,0.5 --quick 0.75 --places 60",
-            0.3 * (0.75 / 2 + 0.25 / 0.5),
-            None,
-        ),
+        ("erlang-service", "--service 1 --phases 3", 0.3, 1 / 3),
+        ("hyperexponential", "--service 2,0.5 --quick 0.75", 0.3 * first, second / first**2 - 1),
     ):
-        if scv is None:
-            first, second = 0.75 / 2 + 0.25 / 0.5, 2 * (0.75 / 4 + 0.25 / 0.25)
-            scv = second / first**2 - 1
-        net = made(tool, tmp_path, kind, words)
+        net = made(tool, tmp_path, kind, f"--arrival 0.3 {words} --places 60")
         wanted = rho + rho**2 * (1 + scv) / (2 * (1 - rho))
         assert means_of(net)[0]["jobs"] == pytest.approx(wanted, rel=1e-6)
 
@@ -140,9 +131,6 @@ def test_words_that_are_not_right(tool: Tool, words: str) -> None:
     assert error.startswith("psi-new: ") and error.count("\n") == 1
 
 
-SHOWN = re.compile(r"^# `psi ([^`]*)` prints\n#\n((?:#     .*\n)+)", re.M)
-
-
 @pytest.mark.parametrize("kind", KIND_WORDS)
 def test_the_comment_shows_what_psi_prints(tool: Tool, program: str, tmp_path: pathlib.Path, kind: str) -> None:
     made(tool, tmp_path, kind, KIND_WORDS[kind])
@@ -150,10 +138,8 @@ def test_the_comment_shows_what_psi_prints(tool: Tool, program: str, tmp_path: p
     commands = ["closed"] if kind == "closed" else ["sample", "report"]
     assert [words.split()[0] for words, _ in runs] == commands
     for words, text in runs:
-        call = [program, *words.split()]
-        done = subprocess.run(call, cwd=tmp_path, capture_output=True, text=True)
         wanted = "".join(line.removeprefix("#     ") for line in text.splitlines(True))
-        assert (done.returncode, done.stdout) == (0, wanted)
+        assert ended([program, *words.split()], cwd=tmp_path)[:2] == (0, wanted)
 
 
 def test_the_comment_of_what_does_not_couple(tool: Tool, program: str, tmp_path: pathlib.Path) -> None:
@@ -178,9 +164,7 @@ def test_without_psi_nothing_is_shown(environment: dict[str, str], tmp_path: pat
     # The package is read elsewhere, where no program is built.
     shutil.copytree(TOP / "python", tmp_path / "python")
     code = "import sys; from psi_tools.cli.entry import new; sys.exit(new())"
-    call = ["/usr/bin/python3", "-c", code, *words]
-    done = subprocess.run(
-        call, cwd=tmp_path / "python", capture_output=True, text=True, env={**environment, "PATH": "/usr/bin:/bin"}
-    )
-    assert done.returncode == 0 and done.stderr.startswith("psi-new: there is no psi that checks the file")
-    assert "` prints" not in done.stdout and "version = 1\n" in done.stdout
+    elsewhere = {**environment, "PATH": "/usr/bin:/bin"}
+    status, out, error = ended(["/usr/bin/python3", "-c", code, *words], cwd=tmp_path / "python", env=elsewhere)
+    assert status == 0 and error.startswith("psi-new: there is no psi that checks the file")
+    assert "` prints" not in out and "version = 1\n" in out

@@ -9,14 +9,13 @@ import os
 import pathlib
 import re
 import shutil
-import subprocess
 import tomllib
 from collections.abc import Callable, Iterator
 from typing import TYPE_CHECKING, Any
 
 import numpy
 import pytest
-from conftest import TOP, Tool
+from conftest import Tool, ended, example, printed_by
 from oracle.log_regions import regions_of as regions_of_text
 from oracle.plain_network import Network as Plain
 
@@ -29,8 +28,9 @@ from psi_tools.plot.past import past_of
 if TYPE_CHECKING:
     from selenium.webdriver.chrome.webdriver import WebDriver
 
-# The page of a network and its log, and what a browser shows it as.
+# The page of a network and its log, what opens a page, and what a browser shows it as.
 Pages = Callable[..., tuple[str, str]]
+Open = Callable[[str], None]
 Emulate = Callable[..., None]
 NETS = (
     "first",
@@ -110,14 +110,9 @@ class Elements(html.parser.HTMLParser):
             self.scripts[-1] += data
 
 
-def path_of(name: str) -> pathlib.Path:
-    return TOP / f"examples/{name}.toml"
-
-
 def log_of(program: str, name: str, stream: int = 0) -> bytes:
     """The log of a sample of a network of the gallery."""
-    words = [program, "sample", str(path_of(name)), "0", str(stream), "log"]
-    return subprocess.run(words, capture_output=True, check=True).stdout
+    return printed_by(program, "sample", example(name), 0, stream, "log").encode()
 
 
 @pytest.fixture(scope="module")
@@ -127,7 +122,7 @@ def pages(program: str) -> Pages:
 
     def page_of(name: str, stream: int = 0) -> tuple[str, str]:
         if (name, stream) not in made:
-            log, net = log_of(program, name, stream), Network.read(path_of(name))
+            log, net = log_of(program, name, stream), Network.read(example(name))
             made[name, stream] = page.page_of(page.runs_of(net, log, name)), log.decode()
         return made[name, stream]
 
@@ -144,14 +139,8 @@ def browser() -> Iterator["WebDriver"]:
 
     options = webdriver.ChromeOptions()
     options.binary_location = shutil.which("chromium")
-    for word in (
-        "--headless=new",
-        "--no-sandbox",
-        "--disable-gpu",
-        "--disable-dev-shm-usage",
-        "--window-size=1280,1000",
-    ):
-        options.add_argument(word)
+    for word in "headless=new no-sandbox disable-gpu disable-dev-shm-usage window-size=1280,1000".split():
+        options.add_argument(f"--{word}")
     options.set_capability("goog:loggingPrefs", {"browser": "ALL"})
     driver = webdriver.Chrome(service=Service(shutil.which("chromedriver")), options=options)
     driver.set_script_timeout(120)
@@ -159,11 +148,15 @@ def browser() -> Iterator["WebDriver"]:
     driver.quit()
 
 
-def opened(browser: "WebDriver", tmp_path: pathlib.Path, text: str) -> "WebDriver":
-    """Opens a page from disk."""
-    (tmp_path / "page.html").write_text(text)
-    browser.get((tmp_path / "page.html").as_uri())
-    return browser
+@pytest.fixture
+def opened(browser: "WebDriver", tmp_path: pathlib.Path) -> Open:
+    """Opens a page from disk in the browser."""
+
+    def open_page(text: str) -> None:
+        (tmp_path / "page.html").write_text(text)
+        browser.get((tmp_path / "page.html").as_uri())
+
+    return open_page
 
 
 def data_of(text: str) -> Any:
@@ -175,19 +168,13 @@ def interval(low: int, high: int) -> str:
     return f"{low:,}" if low == high else f"{low:,} to {high:,}"
 
 
-def states_left(size: int) -> str:
-    return f"{size:,} state{'s' * (size != 1)} left"
-
-
 @pytest.mark.parametrize("name", NETS)
-def test_the_page_shows_the_log(
-    browser: "WebDriver", pages: Pages, program: str, tmp_path: pathlib.Path, name: str
-) -> None:
+def test_the_page_shows_the_log(browser: "WebDriver", opened: Open, pages: Pages, program: str, name: str) -> None:
     """Each step of each run shows the region that the log has, or the plain follower of a run that fails, in the
     table and in the picture; the event and its random word; and nothing is wrong on the console."""
     text, log = pages(name)
-    opened(browser, tmp_path, text)
-    past = past_of(program, str(path_of(name)), 0, 0)
+    opened(text)
+    past = past_of(program, str(example(name)), 0, 0)
     regions = [[*zip(run.low, run.high, run.counts)] for run in past.runs[:-1]] + [
         [(low, high, size) for low, high, size, _ in regions_of_text(log)]
     ]
@@ -196,7 +183,7 @@ def test_the_page_shows_the_log(
         assert len(rows) == len(wanted)
         for row, (low, high, size) in zip(rows, wanted):
             assert row["customers"] == row["drawn"] == [*map(interval, low, high)]
-            assert row["size"] == states_left(size)
+            assert row["size"] == f"{size:,} state{'s' * (size != 1)} left"
     hold_events(rows, name, log)
     assert browser.get_log("browser") == []
 
@@ -204,7 +191,7 @@ def test_the_page_shows_the_log(
 def hold_events(rows: list[dict[str, Any]], name: str, log: str) -> None:
     """The last run shows the events of the log, by their names, the random words that pick them, the arrows that
     they have, and what replay checks."""
-    plain = Plain(tomllib.loads(path_of(name).read_text()))
+    plain = Plain(tomllib.loads(example(name).read_text()))
     numbers = [int(line.split()[2]) for line in log.split("\n")[6:-2]]
     assert len(rows) == len(numbers) + 1
     for place, (row, number) in enumerate(zip(rows[1:], numbers)):
@@ -220,14 +207,19 @@ def hold_events(rows: list[dict[str, Any]], name: str, log: str) -> None:
     assert rows[-1]["checks"][-1].endswith(log.split("\n")[-2].removeprefix("end ") + ".")
 
 
-@pytest.mark.parametrize("name", HOSTILE)
-def test_names_are_only_text(browser: "WebDriver", pages: Pages, tmp_path: pathlib.Path, name: str) -> None:
-    """A name or a title that looks like markup is shown as text, and runs nothing."""
+def hostile_page(pages: Pages, name: str) -> str:
+    """The page of a network whose queue has this name, and the page too."""
     log = pages("first")[1].encode()
-    table = tomllib.loads(path_of("first").read_text().replace('"a"', json.dumps(name)))
+    table = tomllib.loads(example("first").read_text().replace('"a"', json.dumps(name)))
     net = Network()
     net.table |= {key: table[key] for key in ("queue", "event")}
-    opened(browser, tmp_path, page.page_of(page.runs_of(net, log, name)))
+    return page.page_of(page.runs_of(net, log, name))
+
+
+@pytest.mark.parametrize("name", HOSTILE)
+def test_names_are_only_text(browser: "WebDriver", opened: Open, pages: Pages, name: str) -> None:
+    """A name or a title that looks like markup is shown as text, and runs nothing."""
+    opened(hostile_page(pages, name))
     assert browser.find_element("css selector", "h1").text == name
     assert browser.find_element("css selector", "#queues td").text == name
     assert len(browser.find_elements("css selector", "script")) == 2
@@ -235,38 +227,37 @@ def test_names_are_only_text(browser: "WebDriver", pages: Pages, tmp_path: pathl
     assert browser.get_log("browser") == []
 
 
-def test_answers_are_hidden_until_a_key_is_pressed(browser: "WebDriver", pages: Pages, tmp_path: pathlib.Path) -> None:
+def test_answers_are_hidden_until_a_key_is_pressed(browser: "WebDriver", opened: Open, pages: Pages) -> None:
     """While answers are hidden a step shows its event and the region before it; Enter shows the region."""
     text, log = pages("tandem-blocking")
-    opened(browser, tmp_path, text)
+    opened(text)
     regions = [*regions_of_text(log)]
-    press = PRESS
     shown = "return [...document.querySelectorAll('.gauge text')].map((text) => text.textContent)"
-    browser.execute_script(press, "h")
+    browser.execute_script(PRESS, "h")
     for place in range(1, 6):
-        browser.execute_script(press, "ArrowRight")
+        browser.execute_script(PRESS, "ArrowRight")
         before = [*map(interval, *regions[place - 1][:2])]
         assert browser.execute_script(shown) == [f"{one} → ?" for one in before]
         assert browser.find_element("id", "question").is_displayed()
-        browser.execute_script(press, "Enter")
+        browser.execute_script(PRESS, "Enter")
         assert browser.execute_script(shown) == [*map(interval, *regions[place][:2])]
         assert not browser.find_element("id", "question").is_displayed()
     for key, time in (("End", len(regions) - 1), ("Home", 0), ("PageDown", 10), ("PageUp", 0)):
-        browser.execute_script(press, key)
+        browser.execute_script(PRESS, key)
         assert browser.execute_script("return Number(document.getElementById('time').value)") == time
 
 
-def test_all_can_be_done_by_keys(browser: "WebDriver", pages: Pages, tmp_path: pathlib.Path) -> None:
+def test_all_can_be_done_by_keys(browser: "WebDriver", opened: Open, pages: Pages) -> None:
     """Tab leads to each control in its order, and keys that are typed step, choose the run and turn modes on."""
     from selenium.webdriver import ActionChains, Keys
 
-    opened(browser, tmp_path, pages("tandem-blocking")[0])
+    opened(pages("tandem-blocking")[0])
     reached = []
     for _ in range(11):
         ActionChains(browser).send_keys(Keys.TAB).perform()
         reached.append(browser.switch_to.active_element.get_attribute("id"))
     assert reached[:10] == ["run", "first", "back", "play", "next", "last", "speed", "hide", "large", "time"]
-    opened(browser, tmp_path, pages("tandem-blocking")[0])
+    opened(pages("tandem-blocking")[0])
     now = "return [Number(document.getElementById('run').value), Number(document.getElementById('time').value)]"
     last = browser.execute_script(now)[0]
     for keys, expected in (
@@ -306,11 +297,11 @@ def emulated(browser: "WebDriver") -> Iterator[Emulate]:
 
 @pytest.mark.parametrize("scheme, medium", [("light", ""), ("dark", ""), ("dark", "print")])
 def test_texts_stand_out(
-    browser: "WebDriver", pages: Pages, tmp_path: pathlib.Path, emulated: Emulate, scheme: str, medium: str
+    browser: "WebDriver", opened: Open, pages: Pages, emulated: Emulate, scheme: str, medium: str
 ) -> None:
     """Each text has a contrast of 4.5 at least with what is behind it, in light and in dark colours and on paper, where
     the background is white; what is certain and what is possible differ by more than their colours."""
-    opened(browser, tmp_path, pages("tandem-blocking")[0])
+    opened(pages("tandem-blocking")[0])
     emulated(scheme=scheme, medium=medium)
     for key in ("ArrowRight", "h", "ArrowRight"):
         browser.execute_script(PRESS, key)
@@ -326,13 +317,11 @@ def test_texts_stand_out(
 
 
 @pytest.mark.parametrize("name", ["tandem-blocking", "hyperexponential-service"])
-def test_a_phone_shows_all(
-    browser: "WebDriver", pages: Pages, tmp_path: pathlib.Path, emulated: Emulate, name: str
-) -> None:
+def test_a_phone_shows_all(browser: "WebDriver", opened: Open, pages: Pages, emulated: Emulate, name: str) -> None:
     """On a screen of 390 dots the page is no wider than the screen, the numbers in the queues are not smaller than nine
     dots, and the arrow that fires is brought to sight."""
     emulated(width=390)
-    opened(browser, tmp_path, pages(name)[0])
+    opened(pages(name)[0])
     for _ in range(24):
         browser.execute_script(PRESS, "ArrowRight")
         assert browser.execute_script("return document.documentElement.scrollWidth") <= 390
@@ -349,14 +338,14 @@ def test_a_phone_shows_all(
 
 @pytest.mark.parametrize("name", ["first", "tandem-blocking", "longest-queue-split", "hyperexponential-service"])
 def test_the_page_prints(
-    browser: "WebDriver", pages: Pages, tmp_path: pathlib.Path, emulated: Emulate, name: str
+    browser: "WebDriver", opened: Open, pages: Pages, tmp_path: pathlib.Path, emulated: Emulate, name: str
 ) -> None:
     """On paper the network, the time line, the step and the states that are left stand on one white page, within its
     margins; the controls and the keys do not."""
     for program in ("pdftotext", "pdftoppm"):
         if not shutil.which(program):
             pytest.skip("without poppler-utils nobody reads what was printed")
-    opened(browser, tmp_path, pages(name)[0])
+    opened(pages(name)[0])
     emulated(scheme="dark")
     for _ in range(4):
         browser.execute_script(PRESS, "ArrowRight")
@@ -364,7 +353,7 @@ def test_the_page_prints(
     shown += [each.text for each in browser.find_elements("css selector", "h1, #checks li, #queues td")]
     shown += [browser.execute_script("return document.getElementById('states').textContent")]
     (tmp_path / "page.pdf").write_bytes(base64.b64decode(browser.print_page()))
-    read = subprocess.run(["pdftotext", tmp_path / "page.pdf", "-"], capture_output=True, text=True, check=True).stdout
+    read = printed_by("pdftotext", tmp_path / "page.pdf", "-")
     printed = "".join(read.split())
     assert read.count("\f") == 1
     assert [each for each in shown if "".join(each.split()) not in printed] == []
@@ -379,26 +368,23 @@ def test_the_page_prints(
 
 def drawn_on(pdf: pathlib.Path) -> numpy.ndarray[Any, Any]:
     """How light each dot of a printed page is, at 50 dots an inch."""
-    data = subprocess.run(["pdftoppm", "-gray", "-r", "50", "-singlefile", pdf], capture_output=True, check=True).stdout
+    data: Any = ended(["pdftoppm", "-gray", "-r", "50", "-singlefile", pdf], text=False)[1]
     kind, size, _, dots = data.split(b"\n", 3)
     width, height = map(int, size.split())
     assert kind == b"P5" and len(dots) == width * height
     return numpy.frombuffer(dots, dtype=numpy.uint8).reshape(height, width)
 
 
-def test_a_long_log_opens_soon(browser: "WebDriver", pages: Pages, program: str, tmp_path: pathlib.Path) -> None:
+def test_a_long_log_opens_soon(browser: "WebDriver", opened: Open, pages: Pages, program: str) -> None:
     """A page of 4,096 steps opens within a second, and takes half a second of one processor at most. On a
     busy machine only the processor's time is held against it."""
+    net = example("longest-queue")
     stream = next(
-        stream
-        for stream in range(200)
-        if subprocess.run(
-            [program, "sample", path_of("longest-queue"), "0", str(stream)], capture_output=True, text=True
-        ).stdout.startswith("met 4096\n")
+        stream for stream in range(200) if printed_by(program, "sample", net, 0, stream).startswith("met 4096\n")
     )
     text, log = pages("longest-queue", stream)
     browser.execute_cdp_cmd("Performance.enable", {"timeDomain": "threadTicks"})
-    opened(browser, tmp_path, text)
+    opened(text)
     found = browser.execute_cdp_cmd("Performance.getMetrics", {})["metrics"]
     browser.execute_cdp_cmd("Performance.disable", {})
     assert len(text) < 200_000 + 3 * len(log)
@@ -443,11 +429,7 @@ def test_the_page_needs_nothing_else(pages: Pages) -> None:
 @pytest.mark.parametrize("name", HOSTILE)
 def test_hostile_names_are_no_elements(pages: Pages, name: str) -> None:
     """As the test in a browser, by Python's parser: a hostile name adds no element."""
-    log = pages("first")[1].encode()
-    table = tomllib.loads(path_of("first").read_text().replace('"a"', json.dumps(name)))
-    net = Network()
-    net.table |= {key: table[key] for key in ("queue", "event")}
-    found = Elements(page.page_of(page.runs_of(net, log, name)))
+    found = Elements(hostile_page(pages, name))
     tags = [tag for tag, _ in found.found]
     assert tags.count("script") == 2 and "img" not in tags and tags.count("svg") == 2
     assert json.loads(found.scripts[0])["queues"][0]["name"] == name
@@ -456,8 +438,8 @@ def test_hostile_names_are_no_elements(pages: Pages, name: str) -> None:
 def test_the_command_writes_a_page(tool: Tool, tmp_path: pathlib.Path, program: str) -> None:
     """The page of a sample, and that of its log, are the same bytes."""
     (tmp_path / "own.log").write_bytes(log_of(program, "overflow"))
-    assert tool("psi-page", path_of("overflow"), "0", "0", "-o", "one.html") == (0, "", "")
-    assert tool("psi-page", path_of("overflow"), "--log", "own.log", "-o", "two.html") == (0, "", "")
+    assert tool("psi-page", example("overflow"), "0", "0", "-o", "one.html") == (0, "", "")
+    assert tool("psi-page", example("overflow"), "--log", "own.log", "-o", "two.html") == (0, "", "")
     text = (tmp_path / "one.html").read_text()
     assert text.startswith("<!DOCTYPE html>") and text == (tmp_path / "two.html").read_text()
 
@@ -470,7 +452,7 @@ def test_what_replay_does_not_accept_is_refused(tool: Tool, tmp_path: pathlib.Pa
     with open(tmp_path / "long.log", "wb") as file:
         file.write(log)
         file.truncate(MOST_LOG + 1)
-    net, short = path_of("overflow"), path_of("short-past")
+    net, short = example("overflow"), example("short-past")
     for words, status, printed in (
         ((net, "--log", "changed.log"), 4, "log rejected 3"),
         ((net, "--log", "long.log"), 2, "20,000,000 bytes"),

@@ -5,13 +5,11 @@ import io
 import json
 import math
 import pathlib
-import subprocess
-import sys
 import types
 from typing import Any
 
 import pytest
-from conftest import TOP, Tool, ends_of
+from conftest import Tool, checked, ends_of, example
 from solving import means_of
 
 import psi as module
@@ -19,8 +17,7 @@ from psi_tools.model.networks import Network
 from psi_tools.stats.intervals import FEW, Span, probability, spread_of, student
 from psi_tools.stats.paths import CHOSEN, MOVED, QUEUE, PathRow, Paths, columns_of
 
-EXAMPLES = TOP / "examples"
-TANDEM, SHORT, CENTRAL = (EXAMPLES / f"{name}.toml" for name in ("tandem-blocking", "short-past", "central-server"))
+TANDEM, SHORT, CENTRAL = map(example, ("tandem-blocking", "short-past", "central-server"))
 
 
 def of_csv(text: str) -> dict[tuple[str, str], dict[str, float]]:
@@ -104,12 +101,10 @@ def test_guaranteed_intervals_have_certificates(
     assert status == 0 and "assumed: the random words" in err
     found = of_csv(out)
     assert {item for item, _ in found} <= {"mean", "reward-mean"}
-    done = subprocess.run(
-        [sys.executable, TOP / "tools/check_interval.py", tmp_path / "c.json"], capture_output=True, text=True
-    )
-    assert done.returncode == 0
+    status, out, _ = checked(tmp_path / "c.json")
+    assert status == 0
     proved = {}
-    for line in done.stdout.splitlines()[:-1]:
+    for line in out.splitlines()[:-1]:
         name, _, ends = line.partition(": mean: ")
         proved[name] = [float(end) for end in ends.split(" to ")]
     names = {("reward " if item == "reward-mean" else "queue ") + name: own for (item, name), own in found.items()}
@@ -124,19 +119,20 @@ def test_guaranteed_intervals_have_certificates(
 def test_a_certificate_of_paths_is_of_a_mean_alone(tmp_path: pathlib.Path) -> None:
     """The checker divides the ends of a mean by the number of times, and takes no other claim of such sums."""
     claim = {"of": "mean", "q": 10, "unit": 1, "low": None, "high": None}
-    row = {"name": "a", "samples": 2, "uncoupled": 0, "least": 0, "greatest": 50, "times": 10, "counts": [[3, 2]]}
+    row = {"name": "a", "samples": 2, "uncoupled": 0, "least": 0, "greatest": 50, "counts": [[3, 2]]}
     file = tmp_path / "c.json"
 
-    def checked(**more: object) -> tuple[int, list[str]]:
-        file.write_text(json.dumps({"format": "psi certificates 1", "d": 40, "rows": [{**row, **more}]}))
-        words = [sys.executable, str(TOP / "tools/check_interval.py"), str(file)]
-        done = subprocess.run(words, capture_output=True, text=True)
-        return done.returncode, done.stdout.splitlines()[:1]
-
-    assert checked(claims=[claim]) == (0, ["a: mean: 0.000000 to 5.000000"])
-    assert checked(claims=[claim], times=1) == (0, ["a: mean: 0.000000 to 50.000000"])
-    assert checked(claims=[{**claim, "of": "share", "from": 0, "to": 1}]) == (3, [])
-    assert checked(claims=[claim], times=0) == (3, [])
+    share = {**claim, "of": "share", "from": 0, "to": 1}
+    for claims, times, wanted in (
+        ([claim], 10, (0, ["a: mean: 0.000000 to 5.000000"])),
+        ([claim], 1, (0, ["a: mean: 0.000000 to 50.000000"])),
+        ([share], 10, (3, [])),
+        ([claim], 0, (3, [])),
+    ):
+        rows = [{**row, "times": times, "claims": claims}]
+        file.write_text(json.dumps({"format": "psi certificates 1", "d": 40, "rows": rows}))
+        status, out, _ = checked(file)
+        assert (status, out.splitlines()[:1]) == wanted
 
 
 def test_words_that_are_refused(tool: Tool, program: str, tmp_path: pathlib.Path) -> None:
@@ -152,8 +148,7 @@ def test_words_that_are_refused(tool: Tool, program: str, tmp_path: pathlib.Path
         ),
         ((TANDEM, "--paths", 1, "--first", 2**64 - 1), f"the last stream would be above {2**64 - 1}"),
     ):
-        status, out, err = tool("psi-means", *words)
-        assert (status, out, err) == (2, "", f"psi-means: {line}\n")
+        assert tool("psi-means", *words) == (2, "", f"psi-means: {line}\n")
     status, _, err = tool("psi-means", TANDEM, "--paths", 2**32)
     assert status == 2 and "--paths" in err
 

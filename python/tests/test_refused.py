@@ -3,19 +3,18 @@ line; and an answer that fits on no disk is told. The tools are called in this p
 
 import pathlib
 import re
-import resource
 import signal
-import subprocess
 from collections.abc import Iterator
 
 import pytest
-from conftest import SECONDS, TOP, Tool
+from conftest import Tool, example, limited
 from generate import case_files
 
 from psi_tools.cli.command import run
 from psi_tools.cli import law, many, mean_values, page, plot, sweep, where, why
 
-NET = TOP / "examples/single-server.toml"
+NET = example("single-server")
+SWEPT = [NET, "desk.capacity=2,3", "--of", "desk", "--count", "20"]
 # Of each tool its work, and words that are right but for the file.
 CALLS = {
     "psi-law": (law, ["{}", "a", "--count", "2"]),
@@ -31,11 +30,8 @@ CALLS = {
 WRITES = {
     "psi-law": (law, [NET, "desk", "--count", "20", "-o", "{}"]),
     "psi-law with a picture": (law, [NET, "desk", "--count", "20", "--picture", "{}.svg"]),
-    "psi-sweep": (sweep, [NET, "desk.capacity=2,3", "--of", "desk", "--count", "20", "-o", "{}"]),
-    "psi-sweep with a picture": (
-        sweep,
-        [NET, "desk.capacity=2,3", "--of", "desk", "--count", "20", "--picture", "{}.svg"],
-    ),
+    "psi-sweep": (sweep, [*SWEPT, "-o", "{}"]),
+    "psi-sweep with a picture": (sweep, [*SWEPT, "--picture", "{}.svg"]),
     "psi-why": (why, [NET, "--seconds", "1", "-o", "{}"]),
     "psi-where": (where, [NET, "-o", "{}"]),
     "psi-many": (many, [NET, "0", "0", "20", "-o", "{}"]),
@@ -60,12 +56,9 @@ def here(
 
 def refused() -> list[bytes]:
     """The networks of the cases that psi refuses, each once."""
-    found = {}
-    for file in sorted(case_files.DATA.glob("*.cases")):
-        for case in case_files.cases(file.name):
-            if case.status == 3 and case.words[1:] and case.words[1] in case.files:
-                found[case.files[case.words[1]]] = case.name
-    return list(found)
+    cases = [case for file in sorted(case_files.DATA.glob("*.cases")) for case in case_files.cases(file.name)]
+    found = [case for case in cases if case.status == 3 and case.words[1:] and case.words[1] in case.files]
+    return [*dict.fromkeys(case.files[case.words[1]] for case in found)]
 
 
 @pytest.mark.slow
@@ -97,18 +90,9 @@ def test_an_answer_that_fits_on_no_disk(here: pathlib.Path, capsys: pytest.Captu
 
 
 @pytest.mark.parametrize("name", ["psi-law", "psi-sweep", "psi-why", "psi-many"])
-def test_files_that_take_no_more(tool: Tool, environment: dict[str, str], tmp_path: pathlib.Path, name: str) -> None:
+def test_files_that_take_no_more(tool: Tool, tmp_path: pathlib.Path, name: str) -> None:
     words = [str(word).format("answer") for word in WRITES[name][1]]
-    done = subprocess.run(
-        [TOP / "tools" / name, *words],
-        cwd=tmp_path,
-        capture_output=True,
-        text=True,
-        timeout=SECONDS,
-        env=environment,
-        preexec_fn=lambda: resource.setrlimit(resource.RLIMIT_FSIZE, (100, 100)),
-    )
-    assert (done.returncode, done.stdout) == (7, ""), done.stderr
-    last = done.stderr.splitlines()[-1]
-    assert re.fullmatch(rf"{name}: \S+ can't be written: File too large", last), done.stderr
-    assert "Traceback" not in done.stderr and not (tmp_path / "answer").exists()
+    status, out, error = tool(name, *words, **limited("FSIZE", 100))
+    assert (status, out) == (7, ""), error
+    assert re.fullmatch(rf"{name}: \S+ can't be written: File too large", error.splitlines()[-1]), error
+    assert "Traceback" not in error and not (tmp_path / "answer").exists()

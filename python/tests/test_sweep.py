@@ -5,8 +5,8 @@ import pathlib
 from typing import Any
 
 import pytest
-from conftest import Tool
-from solving import means_of
+from conftest import Tool, is_refused
+from solving import birth_and_death, means_of
 
 from psi_tools.model.designs import aligned, common_events, designs_of, check_bounds
 from psi_tools.model.networks import Network
@@ -26,6 +26,11 @@ CALLS = (
 def net(tmp_path: pathlib.Path) -> str:
     (tmp_path / "calls.toml").write_text(CALLS)
     return "calls.toml"
+
+
+def times_of(folder: pathlib.Path) -> dict[pathlib.Path, int]:
+    """When each block of a folder was written."""
+    return {file: file.stat().st_mtime_ns for file in folder.rglob("*.csv")}
 
 
 def rows_of(tool: Tool, net: str, *words: object) -> list[dict[str, Any]]:
@@ -93,16 +98,7 @@ def test_an_index_without_a_value_is_refused() -> None:
 
 
 @pytest.mark.parametrize(
-    "word",
-    [
-        "ring.rate",
-        "ring.speed=1",
-        "bell.rate=2",
-        "calls.capacity=2.5",
-        "ring.rate=5..1",
-        "ring.rate=0",
-        "calls.servers=2,2",
-    ],
+    "word", "ring.rate ring.speed=1 bell.rate=2 calls.capacity=2.5 ring.rate=5..1 ring.rate=0 calls.servers=2,2".split()
 )
 def test_words_that_are_not_right(word: str) -> None:
     with pytest.raises(PsiError):
@@ -133,15 +129,13 @@ def test_a_tenth_of_the_samples_that_two_seeds_need(tool: Tool, net: str) -> Non
 def test_it_goes_on_where_it_was_stopped(tool: Tool, tmp_path: pathlib.Path, net: str) -> None:
     kept = ("--count", "400", "--folder", "kept", "--anyway")
     rows_of(tool, net, "calls.capacity=10,12", *kept)
-    before = {file: file.stat().st_mtime_ns for file in (tmp_path / "kept").rglob("*.csv")}
+    before = times_of(tmp_path / "kept")
     removed = sorted(before)[3]
     removed.unlink()
     rows = rows_of(tool, net, "calls.capacity=10,12,14", *kept)
-    after = {file: file.stat().st_mtime_ns for file in (tmp_path / "kept").rglob("*.csv")}
+    after = times_of(tmp_path / "kept")
     assert len(rows) == 6
-    assert {f: t for f, t in after.items() if f in before and f != removed} == {
-        f: t for f, t in before.items() if f != removed
-    }
+    assert all(after[file] == time for file, time in before.items() if file != removed)
     assert len(after) == len(before) * 3 // 2
 
 
@@ -154,10 +148,10 @@ def test_a_picture(tool: Tool, tmp_path: pathlib.Path, net: str) -> None:
 def test_more_streams_are_added(tool: Tool, tmp_path: pathlib.Path, net: str) -> None:
     words = "calls.capacity=10,12", "--anyway", "--folder", "kept", "--count"
     rows_of(tool, net, *words, "400")
-    before = {file: file.stat().st_mtime_ns for file in (tmp_path / "kept").rglob("*.csv")}
+    before = times_of(tmp_path / "kept")
     rows = rows_of(tool, net, *words, "600")
     assert len(before) >= 40
-    assert all(file.stat().st_mtime_ns == time for file, time in before.items())
+    assert before.items() <= times_of(tmp_path / "kept").items()
     fresh = rows_of(tool, net, "calls.capacity=10,12", "--anyway", "--count", "600")
     assert [row["mean"] for row in rows] == [row["mean"] for row in fresh]
     assert {row["samples"] for row in rows} == {600}
@@ -168,14 +162,9 @@ ABANDONMENT = "--arrival 5 --service 2 --places 30 --patience 0.5".split()
 
 def solved_abandonment(servers: int) -> dict[str, float]:
     """The mean number of calls and of those who wait, by the formula for birth and death."""
-    weights = [1.0]
-    for number in range(1, 31):
-        death = 2 * min(number, servers) + 0.5 * max(0, number - servers)
-        weights.append(weights[-1] * 5 / death)
-    total = sum(weights)
-    calls = sum(number * weight for number, weight in enumerate(weights)) / total
-    waiting = sum(max(0, n - servers) * weight for n, weight in enumerate(weights)) / total
-    return {"calls": calls, "waiting": waiting}
+    law = birth_and_death(5, [2 * min(n, servers) + 0.5 * max(0, n - servers) for n in range(1, 31)])
+    calls = sum(number * share for number, share in enumerate(law))
+    return {"calls": calls, "waiting": sum(max(0, n - servers) * share for n, share in enumerate(law))}
 
 
 def test_a_sweep_of_servers_is_refused_where_guards_go_by_them(tool: Tool, tmp_path: pathlib.Path) -> None:
@@ -187,12 +176,10 @@ def test_a_sweep_of_servers_is_refused_where_guards_go_by_them(tool: Tool, tmp_p
     assert error.startswith(
         "psi-sweep: least = 4 of event give-up-1 goes by calls and would stay as it is while calls.servers differs: "
     ), error
-    status, _, _ = tool("psi-sweep", "3.toml", "calls.servers=3,4", "--anyway", "--count", "100")
-    assert status == 0
+    assert tool("psi-sweep", "3.toml", "calls.servers=3,4", "--anyway", "--count", "100")[0] == 0
     # The files as they are have what the formula says.
-    status, out, error = tool("psi-sweep", "3.toml", "4.toml", "--count", "20000", "--format", "json")
-    assert (status, error) == (0, "")
-    rows = {(row["network"], row["name"]): row for row in json.loads(out)["rows"]}
+    found = rows_of(tool, "3.toml", "4.toml", "--count", "20000")
+    rows = {(row["network"], row["name"]): row for row in found}
     for servers in (3, 4):
         for name, wanted in solved_abandonment(servers).items():
             row = rows[f"{servers}.toml", name]
@@ -212,14 +199,14 @@ GUARDED = (
     .event("out", "service", 2, source="a")
     .toml()
 )
+EVENT = '[[event]]\nkind = "guarded"\nname = "g"\nrate = 1\n'
 PARTS = {
-    "least": '[[event]]\nkind = "guarded"\nname = "g"\nrate = 1\npart = [{ queue = "a", least = 3, shift = -1 }]\n',
-    "most": '[[event]]\nkind = "guarded"\nname = "g"\nrate = 1\npart = [{ queue = "a", most = 3, shift = 1 }]\n',
-    "floor": '[[event]]\nkind = "guarded"\nname = "g"\nrate = 1\npart = [{ queue = "a", floor = 1, shift = -1 }]\n',
-    "ceiling": '[[event]]\nkind = "guarded"\nname = "g"\nrate = 1\n'
-    'part = [{ queue = "a", ceiling = 5, shift = 1 }]\n',
+    "least": EVENT + 'part = [{ queue = "a", least = 3, shift = -1 }]\n',
+    "most": EVENT + 'part = [{ queue = "a", most = 3, shift = 1 }]\n',
+    "floor": EVENT + 'part = [{ queue = "a", floor = 1, shift = -1 }]\n',
+    "ceiling": EVENT + 'part = [{ queue = "a", ceiling = 5, shift = 1 }]\n',
     "level": '[[reward]]\nkind = "above"\nname = "full"\nqueues = ["a"]\nlevel = 5\n',
-    "the table": '[[reward]]\nkind = "table"\nname = "w"\nqueues = ["a"]\n' "table = [[0, 0, 0, 1, 2, 3, 4]]\n",
+    "the table": '[[reward]]\nkind = "table"\nname = "w"\nqueues = ["a"]\ntable = [[0, 0, 0, 1, 2, 3, 4]]\n',
 }
 
 
@@ -264,47 +251,32 @@ def test_files_with_other_events_have_them_in_one_order() -> None:
 
 def test_files_that_are_not_to_be_compared(tool: Tool, tmp_path: pathlib.Path, net: str) -> None:
     (tmp_path / "same.toml").write_text("# the same\n" + CALLS)
-    status, out, error = tool("psi-sweep", net, "calls.capacity=10,12", "same.toml")
-    assert (status, out) == (2, "") and "files are compared as they are" in error
+    assert is_refused(tool("psi-sweep", net, "calls.capacity=10,12", "same.toml"), "files are compared as they are")
     (tmp_path / "copy.toml").write_text(CALLS)
-    status, out, error = tool("psi-sweep", net, "copy.toml")
-    assert (status, out) == (2, "") and "copy.toml is the same network as calls.toml" in error
+    assert is_refused(tool("psi-sweep", net, "copy.toml"), "copy.toml is the same network as calls.toml")
     other = CALLS.replace('"calls"', '"lines"').replace('"full"', '"busy"')
     (tmp_path / "other.toml").write_text(other)
     rows = rows_of(tool, net, "other.toml", "--count", "400")
     lacking = [row for row in rows if (row["network"], row["name"]) == ("calls.toml", "lines")]
     assert [(row["mean"], row["low"], row["difference"]) for row in lacking] == [(None,) * 3]
-    status, out, error = tool("psi-sweep", net, "absent.toml")
-    assert (status, out) == (2, "") and "absent.toml isn't NAME.KEY=VALUES" in error
+    assert is_refused(tool("psi-sweep", net, "absent.toml"), "absent.toml isn't NAME.KEY=VALUES")
 
 
 def test_a_folder_has_one_size_of_blocks(tool: Tool, tmp_path: pathlib.Path, net: str) -> None:
-    words = "--folder", "kept", "--anyway", "--format", "csv", "--count"
-    first = tool("psi-sweep", net, "calls.capacity=10,12", *words, 40_000)
-    assert first[0] == 0
-    before = {file: file.stat().st_mtime_ns for file in (tmp_path / "kept").rglob("*.csv")}
+    words = "--anyway", "--format", "csv", "--folder", "kept", "--count"
+    assert tool("psi-sweep", net, "calls.capacity=10,12", *words, 40_000)[0] == 0
+    before = times_of(tmp_path / "kept")
     # 40,960 streams would be blocks of 1,024, and 40,000 are blocks of 1,000.
     status, out, error = tool("psi-sweep", net, "calls.capacity=10,12,14", *words, 40_960)
     assert status == 0, error
-    after = {file: file.stat().st_mtime_ns for file in (tmp_path / "kept").rglob("*.csv")}
-    assert all(after.get(file) == time for file, time in before.items())
+    after = times_of(tmp_path / "kept")
+    assert before.items() <= after.items()
     assert len(after) == 3 * 41
-    fresh = tool(
-        "psi-sweep",
-        net,
-        "calls.capacity=10,12,14",
-        "--anyway",
-        "--format",
-        "csv",
-        "--count",
-        40_960,
-        "--folder",
-        "fresh",
-    )[1]
+    fresh = tool("psi-sweep", net, "calls.capacity=10,12,14", *words[:4], "fresh", "--count", 40_960)[1]
     means = [[line.split(",")[3] for line in text.splitlines()] for text in (out, fresh)]
     assert means[0] == means[1]
-    status, _, error = tool("psi-sweep", net, "calls.capacity=10,12", *words, 40_000, "--seed", 1)
-    assert status == 2 and "of another call: seed 0, not 1" in error
+    end = tool("psi-sweep", net, "calls.capacity=10,12", *words, 40_000, "--seed", 1)
+    assert is_refused(end, "of another call: seed 0, not 1")
 
 
 def test_both_ends_are_in_csv_and_text(tool: Tool, net: str) -> None:

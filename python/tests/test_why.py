@@ -6,7 +6,7 @@ import tomllib
 import types
 
 import pytest
-from conftest import TOP, Tool
+from conftest import TOP, Tool, example
 from oracle import plain_network
 
 from psi_tools.model.classes import closed_classes
@@ -53,28 +53,17 @@ def test_the_gallery_is_free_but_for_the_closed_one() -> None:
         assert bool(found) == (file.stem == "central-server"), (file, found)
 
 
-@pytest.mark.parametrize("text", [PAIRS, PARITY])
-def test_what_is_told_never_to_couple_does_not(tool: Tool, tmp_path: pathlib.Path, text: str) -> None:
-    (tmp_path / "net.toml").write_text(text)
-    status, out, _ = tool("psi-why", "net.toml")
-    assert status == 1
-    assert out.startswith("NEVER COUPLES: ")
-    report = tool("psi-many", "net.toml", 0, 0, 40)[1]
-    assert "\nmet,-,0\n" in report
-
-
 def test_loads() -> None:
-    net = Network.read(TOP / "examples/call-centre.toml")
-    assert loads_of(net) == [Load(5, 6, 0)]
-    net = Network.read(TOP / "examples/tandem-blocking.toml")
-    assert [each.arrivals > 0 and each.service > 0 for each in loads_of(net)] == [True] * 3
+    assert loads_of(Network.read(example("call-centre"))) == [Load(5, 6, 0)]
+    loads = loads_of(Network.read(example("tandem-blocking")))
+    assert [each.arrivals > 0 and each.service > 0 for each in loads] == [True] * 3
 
 
-@pytest.mark.parametrize("servers, places, load", [(3, 30, 5 / 6), (100, 140, 150 / 200)])
+@pytest.mark.parametrize("arrival, servers, places", [(5, 3, 30), (150, 100, 140)])
 def test_the_load_counts_each_server_once_and_abandonment_apart(
-    tool: Tool, tmp_path: pathlib.Path, servers: int, places: int, load: float
+    tool: Tool, tmp_path: pathlib.Path, arrival: int, servers: int, places: int
 ) -> None:
-    arrival = 5 if servers == 3 else 150
+    load = arrival / (2 * servers)
     words = f"--arrival {arrival} --service 2 --servers {servers} --places {places} --patience 0.5"
     assert tool("psi-new", "abandonment", *words.split(), "-o", "net.toml")[0] == 0
     [found] = loads_of(Network.read(tmp_path / "net.toml"))
@@ -107,9 +96,17 @@ SWAP = (
 )
 
 
-def test_closed_classes_of_small_networks_are_found(tool: Tool, tmp_path: pathlib.Path, program: str) -> None:
+@pytest.mark.parametrize("text, line", [(PAIRS, ""), (PARITY, ""), (SWAP, "the states have 2 classes that no event")])
+def test_what_is_told_never_to_couple_does_not(tool: Tool, tmp_path: pathlib.Path, text: str, line: str) -> None:
+    (tmp_path / "net.toml").write_text(text)
+    status, out, _ = tool("psi-why", "net.toml")
+    assert status == 1
+    assert out.startswith(f"NEVER COUPLES: {line}")
+    assert "\nmet,-,0\n" in tool("psi-many", "net.toml", 0, 0, 40)[1]
+
+
+def test_closed_classes_of_small_networks_are_found() -> None:
     assert never_of(SWAP) == []
-    (tmp_path / "net.toml").write_text(SWAP)
     classes = closed_classes(Network.parse(SWAP))
     assert classes is not None and len(classes) == 2
     # Each class is left by no event, as the plain program has them.
@@ -117,10 +114,6 @@ def test_closed_classes_of_small_networks_are_found(tool: Tool, tmp_path: pathli
     for states in classes:
         reached = {event.after(x) for event in plain.events for x in states}
         assert reached <= {*states}
-    status, out, _ = tool("psi-why", "net.toml")
-    assert status == 1 and out.startswith("NEVER COUPLES: the states have 2 classes that no event")
-    report = tool("psi-many", "net.toml", 0, 0, 40)[1]
-    assert "\nmet,-,0\n" in report
 
 
 def test_what_couples_has_one_closed_class() -> None:
@@ -130,8 +123,8 @@ def test_what_couples_has_one_closed_class() -> None:
 
 
 def test_horizons_are_those_of_the_report(tool: Tool, psi: types.SimpleNamespace) -> None:
-    reported = json.loads(tool("psi-why", TOP / "examples/single-server.toml", "--format", "json")[1])
-    report = psi.report(TOP / "examples/single-server.toml", 0, 0, 20)
+    reported = json.loads(tool("psi-why", example("single-server"), "--format", "json")[1])
+    report = psi.report(example("single-server"), 0, 0, 20)
     rows = report[report["item"] == "horizon"]
     wanted = [[int(name), value] for name, value in zip(rows["name"], rows["value"])]
     assert reported["horizons"][-1][1:] == [20, wanted]
@@ -139,7 +132,7 @@ def test_horizons_are_those_of_the_report(tool: Tool, psi: types.SimpleNamespace
 
 
 def test_single_states_are_told_where_streams_are_not_met(tool: Tool, tmp_path: pathlib.Path) -> None:
-    text = (TOP / "examples/longest-queue.toml").read_text()
+    text = example("longest-queue").read_text()
     (tmp_path / "net.toml").write_text(text.replace("\nsplit = 1\n", "\nsplit = 1\nlimit = 8\n"))
     status, out, _ = tool("psi-why", "net.toml", "--seconds", "60")
     assert status == 0
@@ -149,6 +142,6 @@ def test_single_states_are_told_where_streams_are_not_met(tool: Tool, tmp_path: 
 
 
 def test_events_that_are_not_monotone(tool: Tool) -> None:
-    status, out, _ = tool("psi-why", TOP / "examples/batch-arrivals.toml", "--seconds", "2")
+    status, out, _ = tool("psi-why", example("batch-arrivals"), "--seconds", "2")
     assert status == 0
     assert "isn't monotone" in out

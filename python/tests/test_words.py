@@ -4,18 +4,18 @@ import concurrent.futures
 import os
 import pathlib
 import re
-import subprocess
+import shutil
 from collections.abc import Sequence
 
 import pytest
-from conftest import SECONDS, TOP, Tool, match_in
+from conftest import TOP, Tool, ended, example, match_in
 
 from psi_tools.cli.entry import NAMES
 from psi_tools.cli.completion import SHELLS, completion
 from psi_tools.errors import PsiError
 from psi_tools.io.output import check_writable
 
-NET = TOP / "examples/single-server.toml"
+NET = example("single-server")
 # Of each command words that are right, with a place for a file.
 RIGHT = {
     "many": ["{}", "0", "0", "20"],
@@ -27,6 +27,7 @@ RIGHT = {
     "why": ["{}"],
     "page": ["{}", "0", "0", "-o", "p.html"],
 }
+NEW = "mm1k --arrival 1 --service 2 --places 3".split()
 
 
 def side_by_side(tool: Tool, name: str, calls: Sequence[Sequence[object]]) -> list[tuple[int, str, str]]:
@@ -74,15 +75,7 @@ def test_files_that_are_not_what_they_should_be(tool: Tool, tmp_path: pathlib.Pa
 
 @pytest.mark.parametrize("name", NAMES)
 def test_words_that_are_not_right(tool: Tool, name: str) -> None:
-    calls: list[list[object]] = [
-        [],
-        ["--no-such-option"],
-        ["--seed"],
-        ["a"] * 9,
-        ["", ""],
-        ["-"],
-        ["--count", "x", "y"],
-    ]
+    calls: list[list[str]] = [[], ["--no-such-option"], ["--seed"], ["a"] * 9, ["", ""], ["-"], ["--count", "x", "y"]]
     for words, (status, out, error) in zip(calls, side_by_side(tool, f"psi-{name}", calls)):
         assert status in (2, 6), (words, status)
         assert out == "" and is_one_line(name, error), (words, error)
@@ -102,13 +95,11 @@ OTHERS = {"mean_values.py": ["{0}", "{1}", "{2}"], "psi-many": ["{0}", "0", "0",
 
 
 @pytest.mark.parametrize("name", OTHERS)
-def test_the_other_tools_end_with_one_line(
-    tool: Tool, environment: dict[str, str], tmp_path: pathlib.Path, name: str
-) -> None:
+def test_the_other_tools_end_with_one_line(tool: Tool, tmp_path: pathlib.Path, name: str) -> None:
     command = pathlib.Path(name).stem
     status, out, error = tool(name, "-h")
     assert (status, error) == (0, "") and out.startswith(f"usage: {command} ")
-    closed = str(TOP / "examples/central-server.toml")
+    closed = str(example("central-server"))
     named = [(file, "6", "2") for file in [*files(tmp_path), NET]]
     named += [(closed, "x", "2"), (closed, "257", "2"), (closed, "6", "-2")]
     calls = [[], ["a"], *([word.format(*each) for word in OTHERS[name]] for each in named)]
@@ -116,16 +107,8 @@ def test_the_other_tools_end_with_one_line(
         assert status in (2, 3, 6, 11) and out == "", (words, status, error)
         assert re.fullmatch(rf"{command}: [^\n]+\n", error), (words, error)
     with open("/dev/full", "wb") as full:
-        done = subprocess.run(
-            [TOP / "tools" / name, *(word.format(closed, "6", "2") for word in OTHERS[name])],
-            stdout=full,
-            stderr=subprocess.PIPE,
-            text=True,
-            cwd=tmp_path,
-            timeout=SECONDS,
-            env=environment,
-        )
-    assert done.returncode == 7 and "No space left on device" in done.stderr
+        status, _, error = tool(name, *(word.format(closed, "6", "2") for word in OTHERS[name]), stdout=full)
+    assert status == 7 and "No space left on device" in error
 
 
 def test_each_option_says_what_it_does() -> None:
@@ -141,34 +124,18 @@ def test_each_option_says_what_it_does() -> None:
 
 
 @pytest.mark.parametrize("name", [*RIGHT, "new"])
-def test_a_full_disk(environment: dict[str, str], tmp_path: pathlib.Path, name: str) -> None:
-    words = [word.format(NET) for word in RIGHT.get(name, [])]
-    words = {
-        "new": ["mm1k", "--arrival", "1", "--service", "2", "--places", "3"],
-        "plot": ["--help"],
-        "means": ["--help"],
-        "page": [str(NET), "0", "0", "-o", "/dev/stdout"],
-    }.get(name, words)
+def test_a_full_disk(tool: Tool, name: str) -> None:
+    own = {"new": NEW, "plot": ["--help"], "means": ["--help"], "page": [str(NET), "0", "0", "-o", "/dev/stdout"]}
+    words = own.get(name) or [word.format(NET) for word in RIGHT[name]]
     with open("/dev/full", "wb") as full:
-        done = subprocess.run(
-            [TOP / f"tools/psi-{name}", *words],
-            stdout=full,
-            stderr=subprocess.PIPE,
-            text=True,
-            cwd=tmp_path,
-            timeout=SECONDS,
-            env=environment,
-        )
-    lines = done.stderr.splitlines()
-    assert done.returncode == 7, done.stderr
-    assert "No space left on device" in lines[-1] and "Traceback" not in done.stderr
+        status, _, error = tool(f"psi-{name}", *words, stdout=full)
+    assert status == 7, error
+    assert "No space left on device" in error.splitlines()[-1] and "Traceback" not in error
 
 
 @pytest.mark.parametrize("name", ["many", "law", "sweep", "where", "why", "new", "means"])
 def test_where_it_is_written_is_looked_at_first(tool: Tool, tmp_path: pathlib.Path, name: str) -> None:
-    words = [word.format(NET) for word in RIGHT.get(name, [])]
-    if name == "new":
-        words = ["mm1k", "--arrival", "1", "--service", "2", "--places", "3"]
+    words = [word.format(NET) for word in RIGHT.get(name, NEW)]
     status, out, error = tool(f"psi-{name}", *words, "-o", "absent/file")
     assert (status, out) == (7, "") and is_one_line(name, error)
     assert [*pathlib.Path(tmp_path).iterdir()] == []
@@ -176,9 +143,8 @@ def test_where_it_is_written_is_looked_at_first(tool: Tool, tmp_path: pathlib.Pa
 
 def test_where_a_picture_is_written_is_looked_at_first(tool: Tool, tmp_path: pathlib.Path) -> None:
     for words in (("forward", NET), ("report", "absent"), ("coupling", "absent")):
-        status, out, error = tool("psi-plot", *words, "-o", "none/picture.svg")
-        printed = "-o none/picture.svg can't be written: No such file or directory"
-        assert (status, out, error) == (7, "", f"psi-plot: {printed}\n")
+        line = "psi-plot: -o none/picture.svg can't be written: No such file or directory\n"
+        assert tool("psi-plot", *words, "-o", "none/picture.svg") == (7, "", line)
     assert [*tmp_path.iterdir()] == []
 
 
@@ -231,21 +197,20 @@ def test_completion_is_of_its_shell(tmp_path: pathlib.Path, shell: str, name: st
     text = completion(shell, name)
     assert "--help" in text or "-l help" in text
     (tmp_path / "completion").write_text(text)
-    try:
-        done = subprocess.run([shell, "-n", tmp_path / "completion"], capture_output=True)
-    except FileNotFoundError:
+    if not shutil.which(shell):
         pytest.skip(f"{shell} isn't installed")
-    assert (done.returncode, done.stderr) == (0, b"")
+    status, _, error = ended([shell, "-n", tmp_path / "completion"])
+    assert (status, error) == (0, "")
 
 
 def test_completion_in_bash(tmp_path: pathlib.Path) -> None:
     (tmp_path / "completion").write_text(completion("bash", "law"))
     for words, wanted in (
-        (["psi-law", str(TOP / "examples/breakdowns.toml"), ""], ["jobs", "broken", "cost", "full"]),
+        (["psi-law", str(example("breakdowns")), ""], ["jobs", "broken", "cost", "full"]),
         (["psi-law", "--se"], ["--seed"]),
         (["psi-law", "--format", "j"], ["json"]),
     ):
         script = f". ./completion\nCOMP_WORDS=({' '.join(repr(word) for word in words)})\n"
         script += f'COMP_CWORD={len(words) - 1}\n_psi_law && echo "${{COMPREPLY[@]}}"'
-        done = subprocess.run(["bash", "-c", script], cwd=tmp_path, capture_output=True, text=True)
-        assert done.stdout.split() == wanted, done.stderr
+        _, out, error = ended(["bash", "-c", script], cwd=tmp_path)
+        assert out.split() == wanted, error
