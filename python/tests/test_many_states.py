@@ -2,54 +2,41 @@
 
 import os
 import pathlib
-import resource
 import shutil
 import signal
-import subprocess
-import time
 from collections.abc import Sequence
-from typing import Any
 
 import pytest
-from conftest import SECONDS, TOP, Tool, lines_of
+from conftest import Started, Tool, example, is_refused, limited, lines_of, printed_by, scripted, wait_for
 
 from psi_tools.io.samples import is_table, uncoupled_in
 
-NET, SHORT, RING = (TOP / "examples" / f"{name}.toml" for name in ("overflow", "short-past", "central-server"))
+NET, SHORT, RING = map(example, ("overflow", "short-past", "central-server"))
 CALL = ["psi-many", str(NET), "5", "7", "400", "--block", "50", "--states"]
-
-
-def table(states_program: str, *words: object) -> str:
-    """What one process prints."""
-    return subprocess.run([states_program, *map(str, words)], capture_output=True, text=True).stdout
 
 
 def beside(folder: pathlib.Path, program: str, lines: Sequence[str]) -> pathlib.Path:
     """A folder with psi, and a script in place of psi_states."""
-    (folder / "own" / "kept").mkdir(parents=True)
-    shutil.copy(program, folder / "own" / "psi")
-    path = folder / "own" / "psi_states"
-    path.write_text("\n".join(["#!/bin/sh", f"KEPT={folder}/own/kept", *lines, ""]))
-    path.chmod(0o755)
-    return folder / "own" / "psi"
+    scripted(folder / "own/psi_states", *lines)
+    return pathlib.Path(shutil.copy(program, folder / "own/psi"))
 
 
 def test_a_table_is_that_of_one_process(tool: Tool, states_program: str, tmp_path: pathlib.Path) -> None:
-    wanted = table(states_program, NET, 5, 7, 400)
+    wanted = printed_by(states_program, NET, 5, 7, 400)
     assert tool(*CALL)[:2] == (0, wanted)
     assert (tmp_path / "overflow.toml.5.7.400.states.many").is_dir()
     status, out, error = tool(*CALL, "-o", "table.csv", "--folder", "own", "--jobs", 3)
     assert (status, out, lines_of(error)) == (0, "", [])
     assert (tmp_path / "table.csv").read_text() == wanted
     last = 2**64 - 41
-    assert tool("psi-many", NET, 0, last, 41, "--states")[1] == table(states_program, NET, 0, last, 41)
-    wanted = table(states_program, RING, 2, 4, 90, "closed", 6)
+    assert tool("psi-many", NET, 0, last, 41, "--states")[1] == printed_by(states_program, NET, 0, last, 41)
+    wanted = printed_by(states_program, RING, 2, 4, 90, "closed", 6)
     assert tool("psi-many", RING, 2, 4, 90, "--closed", 6, "--states", "--block", 20)[:2] == (0, wanted)
     assert (tmp_path / "central-server.toml.2.4.90.6.states.many").is_dir()
 
 
 def test_streams_that_are_not_coupled_have_their_rows(tool: Tool, states_program: str) -> None:
-    wanted = table(states_program, SHORT, 0, 0, 100)
+    wanted = printed_by(states_program, SHORT, 0, 0, 100)
     lost = sum(line.endswith(",,,") for line in wanted.splitlines())
     status, out, error = tool("psi-many", SHORT, 0, 0, 100, "--states", "--block", 30)
     assert (status, out) == (0, wanted)
@@ -59,24 +46,21 @@ def test_streams_that_are_not_coupled_have_their_rows(tool: Tool, states_program
 
 
 def test_a_call_goes_on_where_it_was_ended(
-    tool: Tool, states_program: str, program: str, environment: dict[str, str], tmp_path: pathlib.Path
+    tool: Tool, started: Started, states_program: str, program: str, tmp_path: pathlib.Path
 ) -> None:
     """A call that is ended keeps the blocks that were whole; the same call draws the others alone."""
     slow = beside(tmp_path, program, ['echo "$3" >>"$KEPT/drawn"', "sleep 0.3", f'exec {states_program} "$@"'])
     call = [*CALL, "--folder", "kept", "--psi", slow]
-    words = [str(TOP / "tools" / CALL[0]), *map(str, call[1:]), "--jobs", "1"]
-    run = subprocess.Popen(words, cwd=tmp_path, env=environment, stdout=subprocess.PIPE, stderr=subprocess.PIPE)
-    begun = time.monotonic()
-    while len([*(tmp_path / "kept").glob("blocks/0*.csv")]) < 3 and time.monotonic() - begun < SECONDS:
-        time.sleep(0.05)
+    run = started(*call, "--jobs", 1)
+    assert wait_for(lambda: len([*(tmp_path / "kept").glob("blocks/0*.csv")]) >= 3)
     run.send_signal(signal.SIGTERM)
     out, _ = run.communicate()
-    assert (run.returncode, out) == (128 + signal.SIGTERM, b"")
+    assert (run.returncode, out) == (128 + signal.SIGTERM, "")
     kept = {file.name: file.stat().st_ino for file in (tmp_path / "kept/blocks").glob("0*.csv")}
     assert 3 <= len(kept) < 8
-    (tmp_path / "own/kept/drawn").write_text("")
-    assert tool(*call)[:2] == (0, table(states_program, NET, 5, 7, 400))
-    assert len((tmp_path / "own/kept/drawn").read_text().split()) == 8 - len(kept)
+    (tmp_path / "own/psi_states.kept/drawn").write_text("")
+    assert tool(*call)[:2] == (0, printed_by(states_program, NET, 5, 7, 400))
+    assert len((tmp_path / "own/psi_states.kept/drawn").read_text().split()) == 8 - len(kept)
     assert all((tmp_path / "kept/blocks" / name).stat().st_ino == number for name, number in kept.items())
 
 
@@ -97,12 +81,12 @@ def test_a_block_that_is_no_table_does_not_count(
     ]
     other = beside(tmp_path, program, lines)
     status, out, error = tool(*CALL, "--psi", other)
-    assert (status, out) == (0, table(states_program, NET, 5, 7, 400))
+    assert (status, out) == (0, printed_by(states_program, NET, 5, 7, 400))
     assert "8 blocks" in lines_of(error)[0]
 
 
 def test_a_file_that_was_changed_is_drawn_again(tool: Tool, states_program: str, tmp_path: pathlib.Path) -> None:
-    wanted = table(states_program, NET, 5, 7, 400)
+    wanted = printed_by(states_program, NET, 5, 7, 400)
     assert tool(*CALL, "--folder", "kept")[0] == 0
     first, second, *_ = sorted((tmp_path / "kept/blocks").iterdir())
     first.write_text(first.read_text().replace("\n7,", "\n8,"))
@@ -113,51 +97,28 @@ def test_a_file_that_was_changed_is_drawn_again(tool: Tool, states_program: str,
     assert lines_of(error) == [f"psi-many: {again}"]
 
 
-def test_streams_are_added(tool: Tool, states_program: str) -> None:
-    for count in (100, 110, 260):
-        words = ("psi-many", NET, 0, 0, count, "--block", 50, "--folder", "kept", "--states")
-        assert tool(*words)[:2] == (0, table(states_program, NET, 0, 0, count))
-
-
 def test_what_does_not_fit_is_refused(tool: Tool, states_program: str, program: str, tmp_path: pathlib.Path) -> None:
     assert tool(*CALL, "--folder", "samples")[0] == 0
     assert tool(*CALL[:-1], "--folder", "report")[0] == 0
     for folder, words, reported, asked in (("samples", CALL[:-1], 1, None), ("report", CALL, None, 1)):
         message = f"the blocks in {tmp_path}/{folder} are of another call: states {reported}, not {asked}"
         assert tool(*words, "--folder", folder) == (2, "", f"psi-many: {message}\n")
-    status, out, error = tool("psi-means", "samples")
-    assert (status, out) == (2, "") and "is a folder of samples" in error
+    assert is_refused(tool("psi-means", "samples"), "is a folder of samples")
     more = "goes without --states: samples are drawn on this machine, and not merged"
     for option in (("--hosts", "hosts"), ("--slurm",), ("--merge", "psi_merge")):
         assert tool(*CALL, *option) == (2, "", f"psi-many: {option[0]} {more}\n")
-    status, out, error = tool("psi-many", NET, 0, 0, 10, "--closed", 3, "--states")
-    assert (status, out, error) == (11, "", "psi-many: not closed event 0\n")
+    assert tool("psi-many", NET, 0, 0, 10, "--closed", 3, "--states") == (11, "", "psi-many: not closed event 0\n")
 
 
-def test_files_and_streams_that_cannot_be_written(
-    environment: dict[str, str], states_program: str, tmp_path: pathlib.Path
-) -> None:
-    words = [str(TOP / "tools" / CALL[0]), *map(str, CALL[1:]), "--folder", "kept"]
-    pipes: dict[str, Any] = {
-        "cwd": tmp_path,
-        "env": environment,
-        "stderr": subprocess.PIPE,
-        "text": True,
-        "timeout": SECONDS,
-    }
+def test_files_and_streams_that_cannot_be_written(tool: Tool, states_program: str, tmp_path: pathlib.Path) -> None:
     with open("/dev/full", "wb") as full:
-        done = subprocess.run(words, stdout=full, **pipes)
-    assert done.returncode == 7
-    assert lines_of(done.stderr) == ["psi-many: standard output can't be written: No space left on device"]
+        status, _, error = tool(*CALL, "--folder", "kept", stdout=full)
+    assert status == 7
+    assert lines_of(error) == ["psi-many: standard output can't be written: No space left on device"]
     (tmp_path / "table.csv").write_text("as it was")
     most = os.stat(next((tmp_path / "kept/blocks").iterdir())).st_size + 20
-
-    def limit() -> None:
-        resource.setrlimit(resource.RLIMIT_FSIZE, (most, most))
-
-    done = subprocess.run([*words, "-o", "table.csv"], stdout=subprocess.PIPE, preexec_fn=limit, **pipes)
-    assert (done.returncode, done.stdout) == (7, "")
-    assert lines_of(done.stderr) == ["psi-many: table.csv can't be written: File too large"]
+    status, out, error = tool(*CALL, "--folder", "kept", "-o", "table.csv", **limited("FSIZE", most))
+    assert (status, out, lines_of(error)) == (7, "", ["psi-many: table.csv can't be written: File too large"])
     assert (tmp_path / "table.csv").read_text() == "as it was"
     assert not [*tmp_path.glob(".table*")]
 
