@@ -7,7 +7,8 @@ import warnings
 
 import pandas
 import pytest
-from conftest import TOP, rows_in
+from conftest import desk, example, rows_in
+from solving import birth_and_death
 
 import psi as module
 from oracle import paths as plain
@@ -17,7 +18,6 @@ from psi_tools.draw.program import Program
 from psi_tools.errors import PsiError
 from psi_tools.model.networks import Network
 
-EXAMPLES = TOP / "examples"
 LAST = 2**64 - 1
 BILLION = 1_000_000_000
 pytestmark = pytest.mark.usefixtures("paths_program")
@@ -46,14 +46,14 @@ def rows_wanted(
 def test_rows_are_the_plain_programs(
     psi: types.SimpleNamespace, name: str, seed: int, first: int, count: int, steps: int
 ) -> None:
-    file = EXAMPLES / f"{name}.toml"
+    file = example(name)
     table = psi.paths(file, seed, first, count, steps)
     columns, rows = rows_wanted(file, seed, range(first, first + count), steps)
     assert ([*table.columns], rows_in(table)) == (columns, rows)
 
 
 def test_rows_of_a_closed_network(psi: types.SimpleNamespace) -> None:
-    file = EXAMPLES / "central-server.toml"
+    file = example("central-server")
     table = psi.paths(file, 2, 4, 12, 30, total=6)
     columns, rows = rows_wanted(file, 2, range(4, 16), 30, 6)
     assert ([*table.columns], rows_in(table)) == (columns, rows)
@@ -61,7 +61,7 @@ def test_rows_of_a_closed_network(psi: types.SimpleNamespace) -> None:
 
 
 def test_a_path_of_no_step_is_its_sample(psi: types.SimpleNamespace) -> None:
-    file = EXAMPLES / "tandem-blocking.toml"
+    file = example("tandem-blocking")
     states, paths = psi.states(file, 1, 2, 30), psi.paths(file, 1, 2, 30, steps=0)
     for name in states.columns:
         assert paths[name].tolist() == states[name].tolist()
@@ -70,7 +70,7 @@ def test_a_path_of_no_step_is_its_sample(psi: types.SimpleNamespace) -> None:
 
 
 def test_a_stream_that_is_not_coupled_keeps_its_row(psi: types.SimpleNamespace) -> None:
-    file = EXAMPLES / "short-past.toml"
+    file = example("short-past")
     columns, rows = rows_wanted(file, 0, range(40), 20)
     lost = [row[1] is None for row in rows]
     assert 0 < sum(lost) < 40
@@ -81,21 +81,10 @@ def test_a_stream_that_is_not_coupled_keeps_its_row(psi: types.SimpleNamespace) 
         assert [*table[name].isna()] == lost
 
 
-def test_processes_make_no_difference(program: str) -> None:
-    with pytest.warns(module.Uncoupled):
-        one, four = (
-            module.paths(EXAMPLES / "short-past.toml", 1, 3, 133, 40, program=module.Program(program, jobs))
-            for jobs in (1, 4)
-        )
-    pandas.testing.assert_frame_equal(one, four)
-    assert len(one) == 133
-
-
 def test_sums_of_any_size_are_exact(psi: types.SimpleNamespace) -> None:
     net = psi.Network().queue("a", 2_000)
     net.event("in", "arrival", 400, to=["a"]).event("out", "service", 1, source="a")
-    net.reward("cost", "linear", ["a"], weights=[-BILLION])
-    net.reward("number", "linear", ["a"], weights=[1])
+    net.reward("cost", "linear", ["a"], weights=[-BILLION]).reward("number", "linear", ["a"], weights=[1])
     net.heads["limit"] = 14
     assert (2_000 * BILLION) * 5_000_001 > 2**63 > (2_000 * BILLION) * 101
     table = psi.paths(net, count=2, steps=100)
@@ -113,7 +102,7 @@ def test_sums_of_any_size_are_exact(psi: types.SimpleNamespace) -> None:
 
 
 def test_events_and_their_unit(psi: types.SimpleNamespace) -> None:
-    net = psi.Network.read(EXAMPLES / "call-centre.toml")
+    net = psi.Network.read(example("call-centre"))
     lines = [line.split() for line in psi.check(net).splitlines()]
     assert [(name, str(k)) for name, k in events_of(net)] == [tuple(line[1:3]) for line in lines if line[0] == "event"]
     assert modulus_of(net) == next(int(line[1]) for line in lines if line[0] == "modulus")
@@ -121,34 +110,15 @@ def test_events_and_their_unit(psi: types.SimpleNamespace) -> None:
     assert modulus_of(one) == 4 and events_of(one) == [("in", 1), ("out", 1)]
 
 
-def test_what_is_refused(psi: types.SimpleNamespace, tmp_path: pathlib.Path) -> None:
-    net = psi.Network().queue("a", 2).event("out", "service", 1, source="b")
-    with pytest.raises(psi.Refused) as fault:
-        psi.paths(net, count=1)
-    assert (fault.value.status, fault.value.line) == (3, "psi: network refused 9 UnknownQueue event 1 from")
-    opened = EXAMPLES / "tandem-blocking.toml"
-    with pytest.raises(psi.Refused) as fault:
-        psi.paths(opened, total=3, count=5)
-    assert (fault.value.status, fault.value.line) == (11, "psi: not closed event 0")
-    with pytest.raises(psi.PsiError):
-        psi.paths(tmp_path / "absent.toml")
-    for words in (
-        {"count": 0},
-        {"seed": -1},
-        {"first": LAST, "count": 2},
-        {"total": 257},
-        {"steps": -1},
-        {"steps": MOST_STEPS + 1},
-        {"steps": 1.5},
-    ):
-        with pytest.raises(psi.ArgumentError):
-            psi.paths(opened, **words)
+@pytest.mark.parametrize("steps", [-1, MOST_STEPS + 1, 1.5])
+def test_steps_that_are_refused(psi: types.SimpleNamespace, steps: float) -> None:
+    with pytest.raises(psi.ArgumentError):
+        psi.paths(example("tandem-blocking"), steps=steps)
 
 
 def test_a_text_that_is_no_such_table(program: str, monkeypatch: pytest.MonkeyPatch) -> None:
-    net = Network.read(EXAMPLES / "short-past.toml")
+    net = Network.read(example("short-past"))
     head = ",".join(header_of(net))
-
     text = f"{head}\n7,64,1,2,0,1,1,0,0\n8,,,,,,,,\n"
     monkeypatch.setattr(Program, "paths", lambda *words: text)
     assert paths_of(Program(program), net, 0, [(7, 2)], 1) == ["64,1,2,0,1,1,0,0", None]
@@ -161,18 +131,15 @@ def test_without_psi_paths(program: str, tmp_path: pathlib.Path, monkeypatch: py
     (tmp_path / "psi").symlink_to("/bin/true")
     monkeypatch.setattr("psi_tools.draw.program.TOP", tmp_path)
     with pytest.raises(PsiError, match="^psi_paths isn't built, .*`rt run` in crates/psi_paths builds it$"):
-        module.paths(EXAMPLES / "first.toml", program=module.Program(tmp_path / "psi"))
+        module.paths(example("first"), program=module.Program(tmp_path / "psi"))
 
 
 def test_means_of_paths_are_stationary(psi: types.SimpleNamespace) -> None:
     """The mean of all sums is steps + 1 times the stationary mean, within five standard errors."""
-    net = psi.Network().queue("desk", 10)
-    net.event("come", "arrival", 4, to=["desk"]).event("serve", "service", 5, source="desk")
-    weights = [0.8**number for number in range(11)]
-    exact = sum(number * weight for number, weight in enumerate(weights)) / sum(weights)
+    exact = sum(number * share for number, share in enumerate(birth_and_death(4, [5] * 10)))
     with warnings.catch_warnings():
         warnings.simplefilter("error")
-        table = psi.paths(net, 11, count=200, steps=300)
+        table = psi.paths(desk(), 11, count=200, steps=300)
     means = table["queue.desk"].astype(float) / 301
     assert abs(means.mean() - exact) < 5 * means.std() / 200**0.5
     assert (table["event.come.1"] >= table["moved.come.1"]).all()

@@ -1,9 +1,9 @@
 """Tables of samples: psi.states, and what psi.samples and psi.closed take of them, beside psi itself."""
 
+import functools
 import pathlib
 import re
 import shutil
-import subprocess
 import types
 import warnings
 from collections.abc import Callable
@@ -12,7 +12,7 @@ from typing import Any
 import numpy
 import pandas
 import pytest
-from conftest import TOP, rows_in
+from conftest import companion, ended, example, rows_in
 
 import psi as module
 from psi_tools.draw.law import Samples
@@ -23,19 +23,26 @@ from psi_tools.io.samples import rows_of
 from psi_tools.io.terminal import Bar
 from psi_tools.model.networks import Network, header_of, values_of
 
-EXAMPLES = TOP / "examples"
 LAST = 2**64 - 1
+Draw = Callable[..., pandas.DataFrame]
+
+
+@pytest.fixture(params=["states", "paths"])
+def table_of(request: pytest.FixtureRequest, psi: types.SimpleNamespace, program: str) -> Draw:
+    """psi.states, and psi.paths of 40 steps."""
+    companion(program, f"psi_{request.param}")
+    calls: dict[str, Draw] = {"states": psi.states, "paths": functools.partial(psi.paths, steps=40)}
+    return calls[request.param]
 
 
 def printed_sample(
     program: str, command: str, file: pathlib.Path, seed: int, stream: int, *total: int
 ) -> tuple[int, list[int]] | None:
     """The horizon and the state that psi prints of one stream; none where it isn't coupled."""
-    words = [program, command, file, seed, stream, *total]
-    done = subprocess.run([*map(str, words)], capture_output=True, text=True)
-    found = re.fullmatch(r"met (\d+)\nstate (\S+)\n", done.stdout)
+    status, out, _ = ended([program, command, file, seed, stream, *total])
+    found = re.fullmatch(r"met (\d+)\nstate (\S+)\n", out)
     if found is None:
-        assert (done.returncode, done.stdout[:18]) == (1, "not coupled within")
+        assert (status, out[:18]) == (1, "not coupled within")
         return None
     return int(found[1]), [*map(int, found[2].split(","))]
 
@@ -63,7 +70,7 @@ def rows_said(
 def test_rows_are_what_psi_samples(
     psi: types.SimpleNamespace, program: str, name: str, seed: int, first: int, count: int
 ) -> None:
-    file, streams = EXAMPLES / f"{name}.toml", range(first, first + count)
+    file, streams = example(name), range(first, first + count)
     table, net = psi.states(file, seed, first, count), Network.read(file)
     wanted = rows_said(program, "sample", file, seed, streams)
     queues, rewards = [f"queue.{queue}" for queue in net.queues], [f"reward.{reward}" for reward in net.rewards]
@@ -74,7 +81,7 @@ def test_rows_are_what_psi_samples(
 
 
 def test_rows_are_what_psi_samples_of_a_closed_network(psi: types.SimpleNamespace, program: str) -> None:
-    file = EXAMPLES / "central-server.toml"
+    file = example("central-server")
     wanted = rows_said(program, "closed", file, 2, range(4, 16), 6)
     table = psi.states(file, 2, 4, 12, total=6)
     assert rows_in(table.iloc[:, 1:]) == wanted
@@ -83,7 +90,7 @@ def test_rows_are_what_psi_samples_of_a_closed_network(psi: types.SimpleNamespac
 
 
 def test_a_stream_that_is_not_coupled_keeps_its_row(psi: types.SimpleNamespace, program: str) -> None:
-    file = EXAMPLES / "short-past.toml"
+    file = example("short-past")
     wanted = rows_said(program, "sample", file, 0, range(60))
     lost = [row[0] is None for row in wanted]
     assert 0 < sum(lost) < 60
@@ -105,12 +112,10 @@ def test_a_stream_that_is_not_coupled_keeps_its_row(psi: types.SimpleNamespace, 
         assert rows_in(psi.states(file, first=unmet, count=1).iloc[:, 1:]) == [wanted[unmet]]
 
 
-def test_processes_make_no_difference(program: str) -> None:
+def test_processes_make_no_difference(table_of: Draw, program: str) -> None:
+    own = [module.Program(program, jobs) for jobs in (1, 4)]
     with pytest.warns(module.Uncoupled):
-        one, four = (
-            module.states(EXAMPLES / "short-past.toml", 1, 3, 333, program=module.Program(program, jobs))
-            for jobs in (1, 4)
-        )
+        one, four = (table_of(example("short-past"), 1, 3, 333, program=each) for each in own)
     pandas.testing.assert_frame_equal(one, four)
     assert len(one) == 333
 
@@ -128,29 +133,37 @@ def test_types_are_as_narrow_as_capacities(psi: types.SimpleNamespace) -> None:
             table = psi.states(net, count=2)
         assert [str(kind) for kind in table.dtypes] == ["uint64", "Int64", "Int8", "Int16", "Int16", "Int32"]
         assert psi.samples(net, count=2, keep=True).dtype == "int32"
-    assert psi.samples(EXAMPLES / "tandem-blocking.toml", count=2).dtype == "int8"
+    assert psi.samples(example("tandem-blocking"), count=2).dtype == "int8"
 
 
-def test_what_is_refused(psi: types.SimpleNamespace, tmp_path: pathlib.Path) -> None:
-    net = psi.Network().queue("a", 0)
-    with pytest.raises(psi.Refused) as fault:
-        psi.states(net, count=1)
-    error = fault.value
-    assert error.status == 3
-    assert error.line == f"psi: {error.message}" == "psi: network refused 6 OutOfRange queue 1 capacity"
-    opened = EXAMPLES / "tandem-blocking.toml"
-    for call in (psi.states, psi.closed):
+def test_what_is_refused(table_of: Draw, psi: types.SimpleNamespace, tmp_path: pathlib.Path) -> None:
+    opened = example("tandem-blocking")
+    for net, total, status, message in (
+        (psi.Network().queue("a", 0), None, 3, "network refused 6 OutOfRange queue 1 capacity"),
+        (
+            psi.Network().queue("a", 2).event("out", "service", 1, "b"),
+            None,
+            3,
+            "network refused 9 UnknownQueue event 1 from",
+        ),
+        (opened, 3, 11, "not closed event 0"),
+        (example("central-server"), 256, 12, "no state with this total"),
+    ):
         with pytest.raises(psi.Refused) as fault:
-            call(opened, total=3, count=5)
-        assert (fault.value.status, fault.value.line) == (11, "psi: not closed event 0")
-    with pytest.raises(psi.Refused) as fault:
-        psi.states(EXAMPLES / "central-server.toml", total=256, count=5)
-    assert (fault.value.status, str(fault.value)) == (12, "no state with this total")
+            table_of(net, total=total, count=5)
+        error = fault.value
+        assert (error.status, error.line, error.message, str(error)) == (status, f"psi: {message}", message, message)
     with pytest.raises(psi.PsiError):
-        psi.states(tmp_path / "absent.toml")
+        table_of(tmp_path / "absent.toml")
     for words in ({"count": 0}, {"seed": -1}, {"first": LAST, "count": 2}, {"total": 257}):
         with pytest.raises(psi.ArgumentError):
-            psi.states(opened, **words)
+            table_of(opened, **words)
+
+
+def test_a_network_that_is_not_closed(psi: types.SimpleNamespace) -> None:
+    with pytest.raises(psi.Refused) as fault:
+        psi.closed(example("tandem-blocking"), total=3, count=5)
+    assert (fault.value.status, fault.value.line) == (11, "psi: not closed event 0")
 
 
 def test_the_program_is_looked_for_beside_psi_first(
@@ -164,18 +177,18 @@ def test_the_program_is_looked_for_beside_psi_first(
     monkeypatch.setattr("psi_tools.draw.program.TOP", tmp_path)
     psi = module.Program(link / "psi")
     with pytest.raises(PsiError, match="^psi_states isn't built, .*`rt run` in crates/psi_states builds it$"):
-        module.states(EXAMPLES / "first.toml", program=psi)
+        module.states(example("first"), program=psi)
     built, dashed, beside = (tmp_path / "crates/psi_states/out/psi_states", own / "psi-states", link / "psi_states")
     for place in (built, dashed, beside):
         place.parent.mkdir(parents=True, exist_ok=True)
         shutil.copy("/bin/true", place)
         assert companion_of(psi.path, "psi_states") == str(place)
     with pytest.raises(PsiError, match="^psi_states printed no table"):
-        module.states(EXAMPLES / "first.toml", program=psi)
+        module.states(example("first"), program=psi)
 
 
 def test_a_text_that_is_no_such_table() -> None:
-    net = Network.read(EXAMPLES / "short-past.toml")
+    net = Network.read(example("short-past"))
     head = "stream,horizon,queue.desk,reward.full\n"
     assert head == ",".join(header_of(net)) + "\n"
     assert rows_of(header_of(net), head + "7,64,2,0\n8,,,\n", 7, 2) == ["64,2,0", None]
@@ -226,7 +239,7 @@ def test_a_bar_is_told_of_each_block(program: str) -> None:
         def show(self, done: int) -> None:
             reported.append(done)
 
-    net = Network.read(EXAMPLES / "single-server.toml")
+    net = Network.read(example("single-server"))
     law = Samples(module.Program(program, 2), net, count=8, progress=Recorded).law("desk")
     assert reported == [1, 2, 3, 4] and law.known == 8
 
@@ -236,9 +249,9 @@ def test_states_without_psi_states(program: str, tmp_path: pathlib.Path, monkeyp
     alone = tmp_path / "psi"
     shutil.copy(program, alone)
     draws: list[Callable[[module.Program], numpy.ndarray[Any, Any]]] = [
-        lambda one: module.samples(EXAMPLES / "tandem-blocking.toml", count=20, program=one),
-        lambda one: module.closed(EXAMPLES / "central-server.toml", 2, count=20, program=one),
-        lambda one: module.samples(EXAMPLES / "short-past.toml", count=9, keep=True, program=one),
+        lambda one: module.samples(example("tandem-blocking"), count=20, program=one),
+        lambda one: module.closed(example("central-server"), 2, count=20, program=one),
+        lambda one: module.samples(example("short-past"), count=9, keep=True, program=one),
     ]
     both = module.Program(program)
     assert both.has_states()
@@ -248,4 +261,4 @@ def test_states_without_psi_states(program: str, tmp_path: pathlib.Path, monkeyp
     assert not lone.has_states()
     assert [draw(lone).tolist() for draw in draws] == wanted
     with pytest.raises(PsiError, match="psi_states isn't built"):
-        module.states(EXAMPLES / "tandem-blocking.toml", count=2, program=lone)
+        module.states(example("tandem-blocking"), count=2, program=lone)
