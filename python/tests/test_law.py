@@ -6,13 +6,14 @@ import pathlib
 import shutil
 import types
 from collections.abc import Callable, Iterable
+from typing import Any
 
 import numpy
 import pandas
 import pytest
-from conftest import Tool
+from conftest import Tool, desk
 from scipy.stats import binom
-from solving import law_of
+from solving import birth_and_death, law_of
 
 import psi as module
 from psi_tools.model.conditions import FORM
@@ -33,24 +34,38 @@ NET = (
 
 @pytest.fixture
 def net(tmp_path: pathlib.Path) -> str:
+    """The file of the network."""
     (tmp_path / "net.toml").write_text(NET)
     return "net.toml"
 
 
-def test_the_law_is_that_of_the_states(psi: types.SimpleNamespace, tmp_path: pathlib.Path, net: str) -> None:
-    network = psi.Network.read(tmp_path / net)
+@pytest.fixture
+def network(tmp_path: pathlib.Path, net: str) -> Network:
+    return Network.read(tmp_path / net)
+
+
+@pytest.fixture
+def short(tmp_path: pathlib.Path, net: str) -> str:
+    """The file of the network with a past that is too short for some streams."""
+    (tmp_path / net).write_text("limit = 10\n" + NET)
+    return net
+
+
+def reported(tool: Tool, *words: object) -> Any:
+    """The answer of psi-law in JSON."""
+    return json.loads(tool("psi-law", *words, "--format", "json")[1])
+
+
+def test_the_law_is_that_of_the_states(psi: types.SimpleNamespace, network: Network) -> None:
     states = psi.samples(network, seed=3, first=10, count=300)
-    for place, name in enumerate(network.queues):
-        counts = collections.Counter(states[:, place].tolist())
+    near, far = states.T.tolist()
+    cost, longest = [[5, 0, 0, 7][number] for number in near], states.max(axis=1).tolist()
+    for name, values in (("near", near), ("far", far), ("longest", longest), ("cost", cost)):
+        counts = collections.Counter(values)
         assert dict(psi.law(network, name, 3, 10, 300)["count"]) == dict(sorted(counts.items()))
-    longest = collections.Counter(states.max(axis=1).tolist())
-    assert dict(psi.law(network, "longest", 3, 10, 300)["count"]) == dict(sorted(longest.items()))
-    cost = collections.Counter([5, 0, 0, 7][near] for near in states[:, 0].tolist())
-    assert dict(psi.law(network, "cost", 3, 10, 300)["count"]) == dict(sorted(cost.items()))
 
 
-def test_the_solved_law_is_in_most_intervals(psi: types.SimpleNamespace, tmp_path: pathlib.Path, net: str) -> None:
-    network = psi.Network.read(tmp_path / net)
+def test_the_solved_law_is_in_most_intervals(psi: types.SimpleNamespace, network: Network) -> None:
     states, law = law_of(network)
     found = psi.law(network, "near", count=20_000)
     for number in range(4):
@@ -71,25 +86,20 @@ def test_forms_and_pictures(tool: Tool, tmp_path: pathlib.Path, net: str) -> Non
     assert (status, out) == (0, "")
     lines = (tmp_path / "law.csv").read_text().splitlines()
     assert sum(int(line.split(",")[1]) for line in lines[1:]) == 500
-    reported = json.loads(tool("psi-law", *words, "--format", "json")[1])
-    assert sum(each["count"] for each in reported["values"]) == reported["samples"] == 500
+    found = reported(tool, *words)
+    assert sum(each["count"] for each in found["values"]) == found["samples"] == 500
 
 
-def test_streams_that_are_not_coupled_are_told_first(tool: Tool, tmp_path: pathlib.Path, net: str) -> None:
-    (tmp_path / net).write_text("limit = 10\n" + NET)
-    status, out, _ = tool("psi-law", net, "near", "--count", "200")
+def test_streams_that_are_not_coupled_are_told_first(tool: Tool, short: str) -> None:
+    status, out, _ = tool("psi-law", short, "near", "--count", "200")
     assert status == 0
     assert out.startswith("NOT COUPLED: ")
 
 
 RARE = (
-    Network()
-    .queue("desk", 4)
-    .event("come", "arrival", 2, to=["desk"])
-    .event("serve", "service", 11, source="desk")
+    desk(2, 11, 4)
     .reward("full", "above", ["desk"], level=3)
     .reward("fine", "table", ["desk"], table=[[0, 0, 0, 0, 1000]])
-    .toml()
 )
 
 
@@ -97,22 +107,19 @@ RARE = (
 def test_the_mean_of_a_rare_reward_has_an_interval_though_none_came(
     tool: Tool, tmp_path: pathlib.Path, name: str, unit: int
 ) -> None:
-    (tmp_path / "rare.toml").write_text(RARE)
-    law = [(2 / 11) ** n for n in range(5)]
-    wanted = unit * law[4] / sum(law)
-    call = ("psi-law", "rare.toml", name, "--count", 300)
-    mean = json.loads(tool(*call, "--format", "json")[1])["mean"]
+    RARE.write(tmp_path / "rare.toml")
+    wanted = unit * birth_and_death(2, [11] * 4)[4]
+    call = "rare.toml", name, "--count", 300
+    mean = reported(tool, *call)["mean"]
     assert mean["mean"] == 0 == mean["low"]
     assert wanted < mean["high"] == pytest.approx(unit * (1 - 0.025 ** (1 / 300)), rel=1e-6)
-    line = next(line for line in tool(*call)[1].splitlines() if line.startswith("mean "))
+    line = next(line for line in tool("psi-law", *call)[1].splitlines() if line.startswith("mean "))
     assert "±" not in line and line.endswith(f" to {mean['high']:.{4 if unit == 1 else 1}f}")
 
 
-def test_streams_that_are_not_coupled_widen_the_mean(tool: Tool, tmp_path: pathlib.Path, net: str) -> None:
-    (tmp_path / net).write_text("limit = 10\n" + NET)
+def test_streams_that_are_not_coupled_widen_the_mean(tool: Tool, short: str) -> None:
     for name, least, greatest in (("near", 0, 3), ("cost", 0, 7), ("longest", 0, 70)):
-        call = ("psi-law", net, name, "--count", "200", "--format", "json")
-        found = json.loads(tool(*call)[1])
+        found = reported(tool, short, name, "--count", "200")
         lost = found["unknown"]
         total = sum(each["value"] * each["count"] for each in found["values"])
         assert lost > 5
@@ -125,9 +132,8 @@ def joined(rows: Iterable[Iterable[int]]) -> dict[tuple[int, ...], int]:
     return dict(sorted(collections.Counter(tuple(row) for row in rows).items()))
 
 
-def test_a_joint_law_is_that_of_the_states(psi: types.SimpleNamespace, tmp_path: pathlib.Path, net: str) -> None:
-    net = psi.Network.read(tmp_path / net)
-    states = psi.samples(net, seed=3, first=10, count=300).astype(int)
+def test_a_joint_law_is_that_of_the_states(psi: types.SimpleNamespace, network: Network) -> None:
+    states = psi.samples(network, seed=3, first=10, count=300).astype(int)
     near, far = states.T
     cost, longest = [[5, 0, 0, 7][number] for number in near], states.max(axis=1).tolist()
     for names, columns, rows in (
@@ -136,7 +142,7 @@ def test_a_joint_law_is_that_of_the_states(psi: types.SimpleNamespace, tmp_path:
         (["reward.cost", "queue.near", "longest"], None, zip(cost, near.tolist(), longest)),
         (["cost"], ["reward.cost"], zip(cost)),
     ):
-        found, wanted = psi.law(net, names, 3, 10, 300), joined(rows)
+        found, wanted = psi.law(network, names, 3, 10, 300), joined(rows)
         if columns:
             assert [*found.index.names] == columns
         index = found.index if len(names) > 1 else [(value,) for value in found.index]
@@ -144,14 +150,13 @@ def test_a_joint_law_is_that_of_the_states(psi: types.SimpleNamespace, tmp_path:
         assert (found["probability"] == found["count"] / 300).all()
         assert [*found.columns] == ["count", "probability", "low", "high"]
     for value, row in found.iterrows():
-        alone = psi.law(net, "cost", 3, 10, 300).loc[value]
+        alone = psi.law(network, "cost", 3, 10, 300).loc[value]
         assert (row["low"], row["high"]) == (alone["low"], alone["high"])
 
 
 def test_a_condition_is_counted_over_the_states(
-    psi: types.SimpleNamespace, tool: Tool, tmp_path: pathlib.Path, net: str
+    psi: types.SimpleNamespace, tool: Tool, net: str, network: Network
 ) -> None:
-    network = psi.Network.read(tmp_path / net)
     states = psi.samples(network, seed=3, first=10, count=300).astype(int)
     near, far = states.T
     cost = numpy.array([5, 0, 0, 7])[near]
@@ -171,9 +176,7 @@ def test_a_condition_is_counted_over_the_states(
         if count < 300:
             assert binom.cdf(count, 300, found.high) == pytest.approx(0.025)
         assert (found.low > 0, found.high < 1) == (count > 0, count < 300)
-        streams = ("--seed", 3, "--first", 10, "--count", 300)
-        reported = json.loads(tool("psi-law", net, "--where", where, *streams, "--format", "json")[1])
-        assert reported == {
+        assert reported(tool, net, "--where", where, "--seed", 3, "--first", 10, "--count", 300) == {
             **{"where": where, "samples": 300, "unknown": 0, "notes": []},
             **{"count": count, "probability": count / 300, "low": found.low, "high": found.high},
         }
@@ -182,14 +185,13 @@ def test_a_condition_is_counted_over_the_states(
 
 
 def test_several_names_and_conditions_as_texts(
-    psi: types.SimpleNamespace, tool: Tool, tmp_path: pathlib.Path, net: str
+    psi: types.SimpleNamespace, tool: Tool, net: str, network: Network
 ) -> None:
     status, out, error = tool("psi-law", net, "near", "cost", "--count", 200)
     assert (status, error) == (0, "")
     head, columns, *rows = out.splitlines()
     assert head == "queue.near, reward.cost: 200 samples, streams 0 to 199 of seed 0; intervals of 95 %"
     assert columns.split() == ["queue.near", "reward.cost", "samples", "probability", "from", "to"]
-    network = psi.Network.read(tmp_path / net)
     near = psi.samples(network, count=200)[:, 0].tolist()
     wanted = joined((number, [5, 0, 0, 7][number]) for number in near)
     assert {(int(row.split()[0]), int(row.split()[1])): int(row.split()[2]) for row in rows} == wanted
@@ -197,9 +199,9 @@ def test_several_names_and_conditions_as_texts(
     lines = [line.split(",") for line in out.splitlines()]
     assert lines[0] == ["queue.near", "reward.cost", "count", "probability", "low", "high"]
     assert {(int(line[0]), int(line[1])): int(line[2]) for line in lines[1:]} == wanted
-    reported = json.loads(tool("psi-law", net, "near", "cost", "--count", 200, "--format", "json")[1])
-    assert (reported["names"], reported["samples"], reported["unknown"]) == (["queue.near", "reward.cost"], 200, 0)
-    assert {(each["queue.near"], each["reward.cost"]): each["count"] for each in reported["values"]} == wanted
+    found = reported(tool, net, "near", "cost", "--count", 200)
+    assert (found["names"], found["samples"], found["unknown"]) == (["queue.near", "reward.cost"], 200, 0)
+    assert {(each["queue.near"], each["reward.cost"]): each["count"] for each in found["values"]} == wanted
     where = "near == 0"
     status, out, _ = tool("psi-law", net, "--where", where, "--count", 200)
     head, columns, row = out.splitlines()
@@ -208,10 +210,9 @@ def test_several_names_and_conditions_as_texts(
 
 
 def test_streams_that_are_not_coupled_widen_probabilities(
-    psi: types.SimpleNamespace, tool: Tool, tmp_path: pathlib.Path, net: str
+    psi: types.SimpleNamespace, tool: Tool, tmp_path: pathlib.Path, short: str
 ) -> None:
-    (tmp_path / net).write_text("limit = 10\n" + NET)
-    network = psi.Network.read(tmp_path / net)
+    network = Network.read(tmp_path / short)
     states = psi.samples(network, count=200, keep=True)
     lost, met = int((states[:, 0] < 0).sum()), int(((states[:, 0] == 0) & (states[:, 1] >= 0)).sum())
     assert lost > 5
@@ -224,17 +225,16 @@ def test_streams_that_are_not_coupled_widen_probabilities(
         both = psi.law(network, ["near", "far"], count=200)
     assert int(both["count"].sum()) == 200 - lost
     for words in (("near", "far"), ("--where", "near == 0")):
-        status, out, error = tool("psi-law", net, *words, "--count", "200")
+        status, out, error = tool("psi-law", short, *words, "--count", "200")
         assert (status, error) == (0, "")
         assert out.startswith(f"NOT COUPLED: {lost} of 200 streams; ")
-        status, out, error = tool("psi-law", net, *words, "--count", "200", "--format", "csv")
+        status, out, error = tool("psi-law", short, *words, "--count", "200", "--format", "csv")
         assert (status, error.startswith(f"psi-law: NOT COUPLED: {lost} of 200 streams; ")) == (0, True)
 
 
-def test_words_that_do_not_fit_together(
-    psi: types.SimpleNamespace, tool: Tool, tmp_path: pathlib.Path, net: str
-) -> None:
-    for words, message in (
+@pytest.mark.parametrize(
+    "words, message",
+    (
         ((), "a queue or a reward is expected, or --where with a condition"),
         (("near", "--where", "near == 0"), "--where goes without a queue or a reward"),
         (("near", "far", "near"), "near is given twice"),
@@ -242,14 +242,19 @@ def test_words_that_do_not_fit_together(
         (("near", "far", "--guaranteed"), "--guaranteed goes with one queue or reward"),
         (("--where", "near == 0", "--guaranteed"), "--guaranteed goes with one queue or reward"),
         (("near", "far", "--picture", "law.svg"), "--picture goes with one queue or reward"),
+        (("middle",), "the network has no queue and no reward middle"),
         (("near", "middle"), "the network has no queue and no reward middle"),
         (("--where", "middle == 0"), "the network has no queue and no reward middle"),
         (("--where", "near"), f"the condition has `near` where it can't stand: {FORM}"),
         (("--where", ""), f"the condition can't be read: invalid syntax; {FORM}"),
         (("--reward", "near", "cost"), "the network has no reward near"),
-    ):
-        assert tool("psi-law", net, *words) == (2, "", f"psi-law: {message}\n"), words
-    network = psi.Network.read(tmp_path / net)
+    ),
+)
+def test_words_that_do_not_fit_together(tool: Tool, net: str, words: tuple[str, ...], message: str) -> None:
+    assert tool("psi-law", net, *words) == (2, "", f"psi-law: {message}\n")
+
+
+def test_arguments_that_do_not_fit_together(psi: types.SimpleNamespace, network: Network) -> None:
     for more in ({"name": []}, {"name": ["near", "far"], "guaranteed": True}):
         with pytest.raises(psi.ArgumentError):
             psi.law(network, **more)
@@ -260,12 +265,11 @@ def test_words_that_do_not_fit_together(
 
 
 def test_laws_without_psi_states(
-    program: str, tmp_path: pathlib.Path, net: str, monkeypatch: pytest.MonkeyPatch
+    program: str, tmp_path: pathlib.Path, network: Network, monkeypatch: pytest.MonkeyPatch
 ) -> None:
     """Where psi_states is not built, distributions are the same, by the states that psi prints."""
     alone = tmp_path / "psi"
     shutil.copy(program, alone)
-    network = module.Network.read(tmp_path / net)
     draws: list[Callable[[module.Program], pandas.DataFrame]] = [
         lambda one: module.law(network, "longest", count=40, program=one),
         lambda one: module.law(network, ["cost", "far"], count=40, program=one),
@@ -278,7 +282,7 @@ def test_laws_without_psi_states(
         pandas.testing.assert_frame_equal(draw(lone), one)
 
 
-def test_the_cumulative_line_reaches_its_last_point(tool: Tool, tmp_path: pathlib.Path, net: str) -> None:
+def test_the_cumulative_line_reaches_its_last_point() -> None:
     from psi_tools.stats.intervals import Span
     from psi_tools.stats.law import Law
     from psi_tools.plot.draw_law import draw_law
@@ -290,9 +294,3 @@ def test_the_cumulative_line_reaches_its_last_point(tool: Tool, tmp_path: pathli
         assert (xs[0] < counts[0][0], ys[0]) == (True, 0)
         assert (xs[-1] > counts[-1][0], ys[-1]) == (True, 1)
         assert ys[list(xs).index(counts[-1][0])] == 1
-
-
-def test_names_that_are_not_there(tool: Tool, net: str) -> None:
-    status, out, error = tool("psi-law", net, "middle")
-    assert (status, out) == (2, "")
-    assert error == "psi-law: the network has no queue and no reward middle\n"
