@@ -5,14 +5,13 @@ import math
 import os
 import pathlib
 import re
-import subprocess
 import sys
 import tomllib
 import xml.etree.ElementTree
 from typing import Any
 
 import pytest
-from conftest import TOP, Tool, match_in
+from conftest import TOP, Tool, ended, example, match_in, svg_ids
 from matplotlib.figure import Figure
 
 from psi_tools.model.networks import Network, Table
@@ -21,10 +20,10 @@ from psi_tools.plot.draw_network import MOST_SERVERS, draw_network
 from psi_tools.plot.network_folding import folded
 from psi_tools.plot.network_layout import laid_out, size_of
 from psi_tools.plot.network_scene import Arrow, NetworkPicture, Node, scene_of
+from tests.figures import cut_off, overlapping, texts_of
 
 GALLERY = sorted((TOP / "examples").glob("*.toml"))
 NAMES = [path.stem for path in GALLERY]
-SVG = "{http://www.w3.org/2000/svg}"
 # The graphviz that laid out the pictures in docs/pictures, and the events that servers make.
 GRAPHVIZ = "graphviz version 2.43.0"
 SERVING = "service", "index", "negative", "fork"
@@ -45,11 +44,18 @@ def line_of(count: int) -> Network:
     return net.event("leave", "service", 4, f"queue-{count - 1}")
 
 
-def drawn(net: Network, **more: Any) -> tuple[Figure, list[str], xml.etree.ElementTree.Element]:
-    """The figure of a network, and the ids of the elements of its SVG."""
-    figure = draw_network(NetworkPicture(net, "title", **more))
-    root = xml.etree.ElementTree.fromstring(style.saved(figure, "svg"))
-    return figure, [each.get("id", "") for each in root.iter(f"{SVG}g")], root
+EACH = pytest.mark.parametrize("path", GALLERY, ids=NAMES)
+EACH_AND_A_LINE = pytest.mark.parametrize("net", [line_of(32), *map(Network.read, GALLERY)], ids=["line", *NAMES])
+
+
+def drawn(net: Network, **more: Any) -> Figure:
+    """The figure of a network."""
+    return draw_network(NetworkPicture(net, "title", **more))
+
+
+def ids_of(net: Network) -> list[str]:
+    """The ids of the elements of the SVG of a network."""
+    return svg_ids(style.saved(drawn(net), "svg"))
 
 
 def counted(ids: list[str], kind: str) -> int:
@@ -74,11 +80,10 @@ def expected_arrows(event: Table) -> int:
     return 1 if kind == "negative" else len(event["part"])
 
 
-@pytest.mark.parametrize("path", GALLERY, ids=NAMES)
+@EACH
 def test_the_picture_has_what_the_file_has(path: pathlib.Path) -> None:
     """As many queues, servers and arrows as the file has, in every network of the gallery."""
-    table = tomllib.loads(path.read_text())
-    _, ids, _ = drawn(Network.read(path))
+    table, ids = tomllib.loads(path.read_text()), ids_of(Network.read(path))
     assert counted(ids, "queue") == len(table["queue"])
     served = {name for event in table["event"] if event["kind"] in SERVING for name in names_in(event.get("from"))}
     servers = [queue.get("servers", 1) for queue in table["queue"] if queue["name"] in served]
@@ -88,51 +93,38 @@ def test_the_picture_has_what_the_file_has(path: pathlib.Path) -> None:
         assert counted(ids, kind) == sum(event["kind"] in word for event in table["event"])
 
 
-@pytest.mark.parametrize("path", GALLERY, ids=NAMES)
+@EACH
 def test_blocking_is_marked_at_the_source(path: pathlib.Path) -> None:
     """A service that stays where its target is full has a double bar at its first arrow, and no other has."""
     events = tomllib.loads(path.read_text())["event"]
     stays = sum(event.get("full") == "stay" for event in events if event["kind"] in ("service", "index"))
     stays += sum(bool(event.get("from")) for event in events if event["kind"] == "fork")
     stays += sum(len(event["from"]) for event in events if event["kind"] == "join" and event.get("to"))
-    _, ids, _ = drawn(Network.read(path))
-    assert sum(each.endswith("-blocks") for each in ids) == 2 * stays
+    assert sum(each.endswith("-blocks") for each in ids_of(Network.read(path))) == 2 * stays
 
 
-@pytest.mark.parametrize("net", [line_of(32), *map(Network.read, GALLERY)], ids=["line", *NAMES])
+@EACH_AND_A_LINE
 def test_no_text_is_cut_off(net: Network) -> None:
     """Each text is within the picture."""
-    figure, _, _ = drawn(net, with_legend=True, with_tables=True)
-    figure.canvas.draw()
-    whole = figure.bbox
-    for text in figure.axes[0].texts:
-        box = text.get_window_extent()
-        assert whole.x0 <= box.x0 and box.x1 <= whole.x1, text.get_text()
-        assert whole.y0 <= box.y0 and box.y1 <= whole.y1, text.get_text()
+    assert cut_off(drawn(net, with_legend=True, with_tables=True)) == []
 
 
-@pytest.mark.parametrize("net", [line_of(32), *map(Network.read, GALLERY)], ids=["line", *NAMES])
+@EACH_AND_A_LINE
 def test_texts_can_be_read_on_a_slide(net: Network) -> None:
     """On a slide of 13.33 by 7.5 inches no text is smaller than 5.5 points."""
-    figure, _, _ = drawn(net, with_legend=True)
+    figure = drawn(net, with_legend=True)
     width, height = figure.get_size_inches()
     scale = min(13.33 / width, 7.5 / height)
     assert min(text.get_fontsize() for text in figure.axes[0].texts) * scale >= 5.5
 
 
-@pytest.mark.parametrize("net", [line_of(32), *map(Network.read, GALLERY)], ids=["line", *NAMES])
+@EACH_AND_A_LINE
 def test_no_text_covers_another(net: Network) -> None:
     """Each text stands apart from all others."""
-    figure, _, _ = drawn(net, with_legend=True, with_tables=True)
-    figure.canvas.draw()
-    boxes = [(text.get_text(), text.get_window_extent()) for text in figure.axes[0].texts]
-    for (one, first), (two, second) in itertools.combinations(boxes, 2):
-        across = min(first.x1, second.x1) - max(first.x0, second.x0)
-        up = min(first.y1, second.y1) - max(first.y0, second.y0)
-        assert across <= 1 or up <= 1, (one, two)
+    assert overlapping(drawn(net, with_legend=True, with_tables=True)) == []
 
 
-@pytest.mark.parametrize("path", GALLERY, ids=NAMES)
+@EACH
 def test_losses_are_small_arrows(path: pathlib.Path) -> None:
     """Each arrow of customers who are lost is short: its cross stands beside its source."""
     scene = scene_of(Network.read(path))
@@ -165,26 +157,27 @@ def test_names_are_only_names() -> None:
     for name in names:
         net.queue(name, 2)
         net.event(name, "service", 1, name, [])
-    _, ids, root = drawn(net, with_legend=True)
-    assert counted(ids, "queue") == len(names) and counted(ids, "arrow") == len(names)
-    assert not [each for each in root.iter() if each.tag.rpartition("}")[2] == "script"]
+    picture = style.saved(drawn(net, with_legend=True), "svg")
+    assert [counted(svg_ids(picture), kind) for kind in ("queue", "arrow")] == [len(names)] * 2
+    tags = [each.tag.rpartition("}")[2] for each in xml.etree.ElementTree.fromstring(picture).iter()]
+    assert "g" in tags and "script" not in tags
 
 
-@pytest.mark.parametrize("path", GALLERY, ids=NAMES)
+@EACH
 def test_the_gallery_shows_the_picture(path: pathlib.Path) -> None:
     """The gallery's page shows the picture of each network, and it is what is drawn of the file."""
     name = f"network-{path.stem}.svg"
     assert f"](../docs/pictures/{name})" in (TOP / "examples/README.md").read_text()
     shown = (TOP / "docs/pictures" / name).read_bytes()
-    drawn = style.saved(draw_network(NetworkPicture(Network.read(path), path.stem)), "svg")
-    versions = {match_in(r"Matplotlib v[\d.]+", data.decode())[0] for data in (shown, drawn)}
-    graphviz = subprocess.run(["dot", "-V"], capture_output=True, text=True, check=True).stderr
+    made = style.saved(draw_network(NetworkPicture(Network.read(path), path.stem)), "svg")
+    versions = {match_in(r"Matplotlib v[\d.]+", data.decode())[0] for data in (shown, made)}
+    _, _, graphviz = ended(["dot", "-V"])
     if len(versions) > 1 or GRAPHVIZ not in graphviz:
         pytest.skip(f"the picture was drawn by other versions than {versions} and {graphviz}")
-    assert drawn == shown
+    assert made == shown
 
 
-@pytest.mark.parametrize("path", GALLERY, ids=NAMES)
+@EACH
 def test_the_gallery_has_a_line_and_means(path: pathlib.Path) -> None:
     """The gallery's page has each network below a topic, with a line on what it shows, and the measured mean of each
     of its queues."""
@@ -199,8 +192,8 @@ def test_the_gallery_has_a_line_and_means(path: pathlib.Path) -> None:
 
 def test_a_notebook_shows_the_picture() -> None:
     """A notebook shows a network as its picture, and one that cannot be drawn yet as Python does."""
-    root = xml.etree.ElementTree.fromstring(Network.read(TOP / "examples/overflow.toml")._repr_svg_() or "")
-    assert sum(each.get("id", "").startswith("queue-") for each in root.iter(f"{SVG}g")) == 2
+    ids = svg_ids(Network.read(example("overflow"))._repr_svg_() or "")
+    assert sum(each.startswith("queue-") for each in ids) == 2
     assert Network().queue("desk", 3)._repr_svg_() is not None
     unfinished = Network().event("serve", "service", 1, "nowhere", [])
     assert Network()._repr_svg_() is None and unfinished._repr_svg_() is None
@@ -208,16 +201,16 @@ def test_a_notebook_shows_the_picture() -> None:
 
 def test_tables_are_drawn_on_demand() -> None:
     """The tables of a choice by an index stand below the picture where they are asked for."""
-    net = Network.read(TOP / "examples/shortest-queue.toml")
-    texts = [text.get_text() for text in drawn(net, with_tables=True)[0].axes[0].texts]
-    assert "come, index of left: 0, 1, 2, 3, 4" in texts
-    assert not [text for text in drawn(net)[0].axes[0].texts if "index of" in text.get_text()]
+    net = Network.read(example("shortest-queue"))
+    with_tables, without = ([text for text, _ in texts_of(drawn(net, with_tables=each))] for each in (True, False))
+    assert "come, index of left: 0, 1, 2, 3, 4" in with_tables
+    assert not [text for text in without if "index of" in text]
 
 
 @pytest.mark.slow
 def test_the_command_draws_each_format(tool: Tool, tmp_path: pathlib.Path) -> None:
     """The command draws SVG, PNG and PDF, the same bytes for the same network."""
-    net = TOP / "examples/overflow.toml"
+    net = example("overflow")
     for form, head in (("svg", b"<?xml"), ("png", b"\x89PNG"), ("pdf", b"%PDF")):
         for name in (f"one.{form}", f"two.{form}"):
             assert tool("psi-plot", "network", net, "--legend", "-o", name) == (0, "", "")
@@ -245,6 +238,6 @@ def test_without_graphviz_one_line_says_so(tmp_path: pathlib.Path) -> None:
     call += "from psi_tools.errors import PsiError\ntry:\n    laid_out(Scene([], []))\n"
     call += "except PsiError as error:\n    print(error.status, error)"
     place = {**os.environ, "PATH": str(tmp_path), "PYTHONPATH": str(TOP / "python")}
-    done = subprocess.run([sys.executable, "-c", call], env=place, capture_output=True, text=True, check=True)
-    assert done.stdout == "1 a picture of a network needs graphviz: tools/setup graphviz\n"
+    status, out, _ = ended([sys.executable, "-c", call], env=place)
+    assert (status, out) == (0, "1 a picture of a network needs graphviz: tools/setup graphviz\n")
     assert pathlib.Path(sys.executable).is_absolute()

@@ -2,10 +2,9 @@
 
 import pathlib
 import tomllib
-import xml.etree.ElementTree
 
 import pytest
-from conftest import TOP, Tool
+from conftest import Tool, example, svg_ids
 from oracle.plain_network import Network as Plain
 
 from psi_tools.model.networks import Network
@@ -13,13 +12,13 @@ from psi_tools.plot.past import Follower, past_of
 from psi_tools.plot import style
 from psi_tools.plot.draw_past import draw_past
 from psi_tools.errors import InputError
+from tests.figures import cut_off
 
-SVG = "{http://www.w3.org/2000/svg}"
 SMALL = "first", "single-server", "tandem-blocking", "fork-join", "longest-queue", "reset"
 
 
 def path_of(name: str) -> str:
-    return str(TOP / f"examples/{name}.toml")
+    return str(example(name))
 
 
 @pytest.mark.parametrize("name", SMALL)
@@ -35,7 +34,7 @@ def test_runs_end_where_psi_says(program: str, name: str) -> None:
 @pytest.mark.parametrize("name", SMALL)
 def test_runs_are_those_of_a_plain_walk(name: str) -> None:
     """A run's paths are a walk by the plain program's events, and a longer run ends with a shorter one's events."""
-    table = tomllib.loads((TOP / f"examples/{name}.toml").read_text())
+    table = tomllib.loads(example(name).read_text())
     plain, follower = Plain(table), Follower(table)
     run = follower.run(5, 11, 8)
     events = [
@@ -53,7 +52,7 @@ def test_runs_are_those_of_a_plain_walk(name: str) -> None:
 
 def test_a_large_network_is_followed_by_regions(program: str, tmp_path: pathlib.Path) -> None:
     """Where there are too many paths, bounds are drawn, which hold those of a smaller split number."""
-    text = (TOP / "examples/tandem-blocking.toml").read_text().replace("capacity = 4", "capacity = 40")
+    text = example("tandem-blocking").read_text().replace("capacity = 4", "capacity = 40")
     (tmp_path / "large.toml").write_text(text)
     past = past_of(program, str(tmp_path / "large.toml"), 0, 0)
     assert past.runs[-1].has_coalesced and past.runs[0].paths is None
@@ -84,7 +83,7 @@ def test_new_words_differ_from_run_to_run(program: str) -> None:
     """The wrong way draws each run from another stream; the right one keeps the words."""
     right, wrong = (past_of(program, path_of("single-server"), 0, 1, new) for new in (False, True))
     assert right.has_new_words is False and wrong.has_new_words is True
-    follower = Follower(tomllib.loads((TOP / "examples/single-server.toml").read_text()))
+    follower = Follower(tomllib.loads(example("single-server").read_text()))
     assert wrong.runs[1] == follower.run(0, 2, 2) and right.runs[1] == follower.run(0, 1, 2)
 
 
@@ -92,8 +91,7 @@ def test_each_run_has_a_row(program: str) -> None:
     """The picture has a band and an end for each run, paths where they are drawn, and says how each one ends."""
     past = past_of(program, path_of("tandem-blocking"), 0, 0)
     figure = draw_past((past, None), "")
-    root = xml.etree.ElementTree.fromstring(style.saved(figure, "svg"))
-    ids = [each.get("id", "") for each in root.iter(f"{SVG}g")]
+    ids = svg_ids(style.saved(figure, "svg"))
     assert all(ids.count(kind) == len(past.runs) for kind in ("band", "end", "paths"))
     texts = [text.get_text() for axes in figure.axes for text in axes.texts]
     assert "64 steps:\ncoalesced in\nstate 3,2,1" in texts and "32 steps:\n2 states left" in texts
@@ -106,14 +104,10 @@ def test_no_text_is_cut_off(program: str, tmp_path: pathlib.Path) -> None:
         net.queue(f"a-queue-with-a-long-name-{place}", 40)
         net.event(f"come-{place}", "arrival", 1, to=[f"a-queue-with-a-long-name-{place}"])
         net.event(f"serve-{place}", "service", 5, f"a-queue-with-a-long-name-{place}")
-    (tmp_path / "wide.toml").write_text(net.toml())
+    net.write(tmp_path / "wide.toml")
     for path, queue in ((str(tmp_path / "wide.toml"), 11), (path_of("first"), None), (path_of("tandem-blocking"), 0)):
         figure = draw_past((past_of(program, path, 0, 0), queue), "A title that is long enough for two lines " * 2)
-        figure.draw_without_rendering()
-        whole = figure.bbox
-        for text in [*figure.texts, *(text for axes in figure.axes for text in axes.texts)]:
-            box = text.get_window_extent()
-            assert whole.x0 <= box.x0 and box.x1 <= whole.x1 and whole.y0 <= box.y0, text.get_text()
+        assert cut_off(figure) == []
 
 
 def test_the_command_draws_and_refuses(tool: Tool, tmp_path: pathlib.Path) -> None:
@@ -135,7 +129,6 @@ def test_a_network_that_does_not_coalesce_is_refused(program: str, tmp_path: pat
     """Longer runs than can be drawn are refused by name."""
     ring = Network().queue("a", 2).queue("b", 2)
     ring.event("there", "service", 1, "a", ["b"], full="stay").event("back", "service", 1, "b", ["a"], full="stay")
-    text = ring.toml()
-    (tmp_path / "never.toml").write_text(text)
+    ring.write(tmp_path / "never.toml")
     with pytest.raises(InputError, match="4,096 steps"):
         past_of(program, str(tmp_path / "never.toml"), 0, 0)

@@ -4,7 +4,7 @@ import pathlib
 import tomllib
 
 import pytest
-from conftest import TOP, Tool
+from conftest import Tool, example
 from matplotlib.axes import Axes
 
 from oracle import paths as plain
@@ -18,7 +18,7 @@ from psi_tools.plot.path import path_of, row_of
 
 
 def file_of(name: str) -> str:
-    return str(TOP / f"examples/{name}.toml")
+    return str(example(name))
 
 
 @pytest.mark.parametrize("name", ("first", "tandem-blocking", "fork-join", "call-centre", "longest-queue"))
@@ -66,10 +66,11 @@ def test_the_tool_draws_a_path(tool: Tool, program: str) -> None:
     ):
         status, out, err = tool("psi-plot", *words, "c.svg", *more)
         assert (status, out) == (2, "") and err.rstrip().endswith(line)
-    status, _, err = tool("psi-plot", "past", file_of("first"), 0, 0, "--steps", 1, "-o", "c.svg")
-    assert (status, err) == (2, "psi-plot: --steps is path's\n")
-    status, _, err = tool("psi-plot", "path", file_of("first"), 0, "--psi", program, "-o", "c.svg")
-    assert (status, err) == (2, "psi-plot: path is given NET SEED STREAM\n")
+    for call, line in (
+        (("past", file_of("first"), 0, 0, "--steps", 1), "--steps is path's"),
+        (("path", file_of("first"), 0, "--psi", program), "path is given NET SEED STREAM"),
+    ):
+        assert tool("psi-plot", *call, "-o", "c.svg") == (2, "", f"psi-plot: {line}\n")
 
 
 def test_a_sample_that_is_not_coupled_has_no_path(program: str) -> None:
