@@ -1,5 +1,6 @@
-"""How often the intervals of the tools hold what they are of, over 400 repetitions: by values that numpy
-draws, and by the built program (study_intervals.py, study_guaranteed.py)."""
+"""How often the intervals of the tools hold what they are of: by values that numpy draws, and by the built
+program (study_intervals.py, study_guaranteed.py); over a few repetitions, which report a fault that is great,
+and before a release over 400."""
 
 import sys
 
@@ -10,11 +11,25 @@ from tests.support import TOP, answer
 HOURS = 4 * 3_600
 
 
+def printed_by_study(program: str, study: str) -> str:
+    """What a study prints, of which there are the name and its words; PSI is the program."""
+    name, *words = (program if word == "PSI" else word for word in study.split())
+    status, out, err = answer([sys.executable, "-m", f"tests.study_{name}", *words], TOP, seconds=HOURS)
+    assert status == 0, (out + err).decode()
+    return out.decode()
+
+
+@pytest.mark.slow
+@pytest.mark.parametrize(
+    "study, lines",
+    (("intervals --repetitions 40 --count 2000 --least 80", 21), ("guaranteed PSI --repetitions 10 --count 60", 48)),
+)
+def test_a_few_repetitions(program: str, study: str, lines: int) -> None:
+    assert printed_by_study(program, study).count(" of 100  width ") == lines
+
+
 @pytest.mark.slow
 @pytest.mark.release
 @pytest.mark.parametrize("study", ("intervals", "intervals PSI", "guaranteed PSI"))
 def test_study(program: str, study: str) -> None:
-    name, _, psi = study.partition(" ")
-    call = [sys.executable, "-m", f"tests.study_{name}", *([program] if psi else [])]
-    status, out, err = answer(call, TOP, seconds=HOURS)
-    assert status == 0, (out + err).decode()
+    printed_by_study(program, study)

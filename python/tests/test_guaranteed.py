@@ -6,14 +6,12 @@ import json
 import math
 import pathlib
 import random
-import subprocess
-import sys
 import types
 from collections.abc import Callable, Iterator, Sequence
 from typing import Any
 
 import pytest
-from conftest import TOP, Tool
+from conftest import TOP, Tool, checked, example, is_refused
 
 from psi_tools import check_interval
 from psi_tools.stats.guaranteed import (
@@ -33,7 +31,6 @@ from psi_tools.stats.guaranteed import (
 )
 from psi_tools.stats.intervals import Span, probability
 
-# The lengths of the trials in this test; the study has more of them.
 # A row, a claim or a file of certificates; the path of a number in one; and both ends of a claim.
 Record = dict[str, Any]
 Place = tuple[Any, ...]
@@ -42,8 +39,7 @@ Ends = tuple[fractions.Fraction | int | None, ...]
 Scores = Sequence[tuple[fractions.Fraction | int, int]]
 # Files of certificates by name, each with what its tool printed.
 Files = dict[str, tuple[pathlib.Path, str]]
-REPEATED, CHANGED = 10, 400
-CHECKER = [sys.executable, "-IS", str(TOP / "tools/check_interval.py")]
+CHANGED = 400
 
 
 def tail(u: int, v: int, k: int, i: int) -> int:
@@ -257,10 +253,10 @@ def test_files_of_certificates_that_are_worked_by_hand(
     for r, status in ((proof["r"], 0), (wrong, 4)):
         proof["r"] = r
         path.write_text(json.dumps({"d": 40, "rows": [{**row, "claims": [claim]}]}))
-        done = subprocess.run([*CHECKER, path], capture_output=True, text=True)
+        found, out, error = checked(path)
         shown = ends if status == 0 else f"not proved to {ends.split()[-1]}"
-        assert (done.returncode, done.stderr) == (status, "")
-        assert done.stdout.splitlines()[0] == f"row: mean: {shown}"
+        assert (found, error) == (status, "")
+        assert out.splitlines()[0] == f"row: mean: {shown}"
 
 
 BETS: Record = {"by": "bets", "r": 11, "t": 10, "stakes": [7]}
@@ -324,9 +320,9 @@ def test_what_numbers_of_a_file_prove(row: Record, claim: Record, low: object) -
 def test_what_is_no_file_of_certificates(tmp_path: pathlib.Path, wrong: object) -> None:
     path = tmp_path / "file.json"
     path.write_text(json.dumps(wrong))
-    done = subprocess.run([*CHECKER, path], capture_output=True, text=True)
-    assert (done.returncode, done.stdout) == (3, "")
-    assert done.stderr.startswith(f"check_interval: {path} is no file of certificates: ")
+    status, out, error = checked(path)
+    assert (status, out) == (3, "")
+    assert error.startswith(f"check_interval: {path} is no file of certificates: ")
 
 
 def test_a_share_holds_for_each_probability() -> None:
@@ -407,11 +403,11 @@ def test_twenty_thousand_streams_are_fast() -> None:
 @pytest.fixture
 def files(tool: Tool, tmp_path: pathlib.Path) -> Files:
     """A file of certificates of each tool, with what the tool has printed."""
-    net = TOP / "examples/short-past.toml"
-    reported = {}
-    reported["law.json"] = tool("psi-law", net, "desk", "--count", 300, "--guaranteed", "--certificate", "law.json")
+    net = example("short-past")
     tool("psi-many", net, 0, 0, 300, "--block", 15, "--folder", "short")
-    reported["means.json"] = tool("psi-means", "short", "--guaranteed", "--certificate", "means.json")
+    calls = ("psi-law", net, "desk", "--count", 300), ("psi-means", "short")
+    names = "law.json", "means.json"
+    reported = {name: tool(*call, "--guaranteed", "--certificate", name) for name, call in zip(names, calls)}
     assert [status for status, *_ in reported.values()] == [0, 0], reported
     return {name: (tmp_path / name, out) for name, (_, out, _) in reported.items()}
 
@@ -420,13 +416,13 @@ def test_the_tools_write_what_the_checker_proves(files: Files) -> None:
     for path, out in files.values():
         assert out.startswith("NOT COUPLED: ")
         assert out.endswith("were drawn evenly and independently\n")
-        done = subprocess.run([*CHECKER, path], capture_output=True, text=True)
-        assert (done.returncode, done.stderr) == (0, ""), done.stdout
-        assert "not proved" not in done.stdout
-        assert done.stdout.endswith("each misses for at most 2 in 40 lists of the streams' random words\n")
-    means = files["means.json"][1].splitlines()
-    checked = subprocess.run([*CHECKER, files["means.json"][0]], capture_output=True, text=True)
-    for line in checked.stdout.splitlines()[:-1]:
+        status, proved, error = checked(path)
+        assert (status, error) == (0, ""), proved
+        assert "not proved" not in proved
+        assert proved.endswith("each misses for at most 2 in 40 lists of the streams' random words\n")
+    path, out = files["means.json"]
+    means = out.splitlines()
+    for line in checked(path)[1].splitlines()[:-1]:
         name, _, ends = line.partition(": mean: ")
         _, _, mean, low, high, *_ = next(line for line in means if " ".join(line.split()[:2]) == name).split()
         exact = [float(end) for end in ends.split(" to ")]
@@ -434,7 +430,7 @@ def test_the_tools_write_what_the_checker_proves(files: Files) -> None:
 
 
 def test_the_means_that_the_guide_has(tool: Tool) -> None:
-    call = ("psi-law", TOP / "examples/call-centre.toml", "calls", "--count", 20_000)
+    call = ("psi-law", example("call-centre"), "calls", "--count", 20_000)
     guide = (TOP / "docs/TOOLS.md").read_text()
     for more in ((), ("--guaranteed",), ("--guaranteed", "--pilot", 0)):
         out = tool(*call, *more)[1].splitlines()
@@ -442,42 +438,36 @@ def test_the_means_that_the_guide_has(tool: Tool) -> None:
 
 
 def test_forms_and_levels(tool: Tool, tmp_path: pathlib.Path, files: Files) -> None:
-    reported = json.loads(tool("psi-means", "short", "--guaranteed", "--format", "json")[1])
+    words = "psi-means", "short", "--guaranteed", "--format"
+    reported, wide = (json.loads(tool(*words, "json", *more)[1]) for more in ((), ("--level", 99)))
     assert [row["item"] for row in reported["rows"]] == ["mean", "reward-mean"]
     assert any(note.startswith("assumed: ") for note in reported["notes"])
-    wide = tool("psi-means", "short", "--guaranteed", "--format", "json", "--level", 99)[1]
-    for one, other in zip(reported["rows"], json.loads(wide)["rows"]):
+    for one, other in zip(reported["rows"], wide["rows"]):
         assert other["low"] < one["low"] < one["high"] < other["high"]
-    status, out, error = tool("psi-means", "short", "--guaranteed", "--format", "csv")
+    status, out, error = tool(*words, "csv")
     assert status == 0 and "assumed: " in error
     assert [line.split(",")[0] for line in out.splitlines()] == ["item", "mean", "reward-mean"]
-    net = TOP / "examples/first.toml"
-    call = ("psi-law", net, "a", "--count", 100, "--guaranteed", "--pilot", 0)
+    call = ("psi-law", example("first"), "a", "--count", 100, "--guaranteed", "--pilot", 0)
     assert "stakes from the number of streams and the range" in tool(*call)[1]
 
 
 def test_what_is_refused(tool: Tool, tmp_path: pathlib.Path) -> None:
-    net = TOP / "examples/first.toml"
-    status, out, error = tool("psi-law", net, "a", "--certificate", "file")
-    assert (status, out, error) == (2, "", "psi-law: --certificate goes with --guaranteed\n")
-    status, out, error = tool("psi-law", net, "a", "--pilot", "5")
-    assert (status, out, error) == (2, "", "psi-law: --pilot goes with --guaranteed\n")
+    net = example("first")
+    for option, value in (("--certificate", "file"), ("--pilot", 5)):
+        assert tool("psi-law", net, "a", option, value) == (2, "", f"psi-law: {option} goes with --guaranteed\n")
     last = ("--first", 2**64 - 100, "--count", 100, "--guaranteed")
-    status, out, error = tool("psi-law", net, "a", *last)
-    assert (status, out) == (2, "") and "--pilot 0" in error
+    assert is_refused(tool("psi-law", net, "a", *last), "--pilot 0")
     assert tool("psi-law", net, "a", *last, "--pilot", 0)[0] == 0
     tool("psi-many", net, 0, 0, 200, "--block", 10, "--folder", "kept")
     blocks = sorted((tmp_path / "kept/blocks").iterdir())
-    status, out, error = tool("psi-means", blocks[0], "--guaranteed")
-    assert (status, out) == (2, "") and "--net NET" in error
+    assert is_refused(tool("psi-means", blocks[0], "--guaranteed"), "--net NET")
     assert tool("psi-means", blocks[0], "--guaranteed", "--net", net)[0] == 0
     blocks[3].unlink()
-    status, out, error = tool("psi-means", "kept", "--guaranteed")
-    assert (status, out) == (2, "") and "fixed beforehand" in error
+    assert is_refused(tool("psi-means", "kept", "--guaranteed"), "fixed beforehand")
 
 
 def test_in_python(psi: types.SimpleNamespace, tmp_path: pathlib.Path) -> None:
-    net = TOP / "examples/call-classes.toml"
+    net = example("call-classes")
     means = psi.means(net, seed=3, count=200, guaranteed=True)
     law = psi.law(net, "near", seed=3, count=200, guaranteed=True)
     plain = psi.law(net, "near", seed=3, count=200)
@@ -487,13 +477,13 @@ def test_in_python(psi: types.SimpleNamespace, tmp_path: pathlib.Path) -> None:
         assert "evenly and independently" in table.attrs["assumed"]
         path = tmp_path / "file.json"
         path.write_text(json.dumps(table.attrs["certificates"]))
-        done = subprocess.run([*CHECKER, path], capture_output=True, text=True)
-        assert done.returncode == 0, done.stdout + done.stderr
+        end = checked(path)
+        assert end[0] == 0, end
 
 
 def test_a_reward_of_several_queues_goes_by_states(psi: types.SimpleNamespace, tmp_path: pathlib.Path) -> None:
     """Its value counts where the states have met, also where psi reward knows it before."""
-    net = psi.Network.read(TOP / "examples/tandem-blocking.toml")
+    net = psi.Network.read(example("tandem-blocking"))
     net.heads["limit"] = 5
     states = psi.samples(net, count=60, keep=True)
     known = [sum(state) for state in states.tolist() if state[0] >= 0]
@@ -501,12 +491,3 @@ def test_a_reward_of_several_queues_goes_by_states(psi: types.SimpleNamespace, t
     with pytest.warns(psi.Uncoupled):
         found = psi.law(net, "parts", count=60, guaranteed=True)
     assert dict(found["count"]) == {value: known.count(value) for value in sorted({*known})}
-
-
-@pytest.mark.slow
-def test_guaranteed_intervals_hold(program: str) -> None:
-    """A few repetitions of the study, which report a fault that is great; 400 are made by hand."""
-    call = ["/usr/bin/python3", "-m", "tests.study_guaranteed", program, "--repetitions", REPEATED, "--count", 60]
-    done = subprocess.run([*map(str, call)], cwd=TOP, capture_output=True, text=True)
-    assert done.returncode == 0, done.stdout + done.stderr
-    assert done.stdout.count(" of 100  width ") == 48

@@ -1,10 +1,8 @@
 """Intervals: values from tables, and how often they hold what they are of."""
 
-import subprocess
-
 import numpy
 import pytest
-from conftest import TOP, ends_of
+from conftest import ends_of
 from solving import means_of
 
 from psi_tools.stats.batches import Batches, batches_of
@@ -210,15 +208,11 @@ def test_figures_have_the_places_of_their_interval() -> None:
 
 @pytest.mark.slow
 def test_intervals_hold_the_solved_mean(program: str) -> None:
-    net = Network()
-    net.queue("calls", 8, 3)
-    net.event("ring", "arrival", 5, to=["calls"])
-    net.event("answer", "service", 2, source="calls")
-    net.reward("full", "above", ["calls"], level=7)
+    net = Network().queue("calls", 8, 3).reward("full", "above", ["calls"], level=7)
+    net.event("ring", "arrival", 5, to=["calls"]).event("answer", "service", 2, source="calls")
     # One of a thousand samples: in a third of all reports none comes.
-    net.queue("rare", 4)
+    net.queue("rare", 4).reward("rare-full", "above", ["rare"], level=3)
     net.event("seldom", "arrival", 2, to=["rare"]).event("gone", "service", 11, source="rare")
-    net.reward("rare-full", "above", ["rare"], level=3)
     queues, rewards = means_of(net)
     blocks = blocks_of(0, REPEATED * 20 * 50, 50)
     reports = reports_of(Program(program, 2), net.data, 7, blocks)
@@ -231,12 +225,3 @@ def test_intervals_hold_the_solved_mean(program: str) -> None:
     # The interval of a share holds it more often still where it is rare.
     assert LEAST <= held.pop("rare-full")
     assert all(LEAST <= count <= MOST for count in held.values()), held
-
-
-@pytest.mark.slow
-def test_intervals_hold_rare_and_skewed_means() -> None:
-    """A few repetitions of the study, which tell a fault that is great; 400 are made by hand."""
-    call = ["/usr/bin/python3", "-m", "tests.study_intervals", "--repetitions", "40", "--count", "2000"]
-    done = subprocess.run([*call, "--least", "80"], cwd=TOP, capture_output=True, text=True)
-    assert done.returncode == 0, done.stdout + done.stderr
-    assert done.stdout.count(" of 100  width ") == 21
