@@ -24,7 +24,8 @@ Samples = list[tuple[int, tuple[int, ...]] | None]
 Drawn = tuple[list[str], list[str], list[Samples]]
 NAMES = st.from_regex(r"[A-Za-z0-9_-]{1,32}", fullmatch=True)
 # The same inputs in each run, so that a gate does not fail by chance.
-FEW = settings(max_examples=60, deadline=None, derandomize=True, database=None)
+settings.register_profile("few", max_examples=60, deadline=None, derandomize=True, database=None)
+settings.load_profile("few")
 
 
 def first_of(pair: tuple[int, int]) -> int:
@@ -63,7 +64,6 @@ def text_of(queues: list[str], rewards: list[str], samples: Samples) -> bytes:
     return ("item,name,value\n" + "".join("%s,%s,%d\n" % row for row in rows)).encode()
 
 
-@FEW
 @given(reports_of_one_network())
 def test_reports_merge_as_lists_join(drawn: Drawn) -> None:
     queues, rewards, lists = drawn
@@ -107,7 +107,6 @@ def events_by_word(net: Network) -> list[str | None]:
     return found
 
 
-@FEW
 @given(networks(), st.lists(st.integers(1, 500), min_size=2, max_size=3, unique=True), st.data())
 def test_designs_keep_the_order_of_words(net: Network, rates: list[int], data: st.DataObject) -> None:
     """In aligned designs a word picks the same event in all of them, or none where a rate is less."""
@@ -125,7 +124,6 @@ def test_designs_keep_the_order_of_words(net: Network, rates: list[int], data: s
         assert all(column.count(name) == count for name, count in own.items())
 
 
-@FEW
 @given(st.lists(networks(), min_size=1, max_size=3))
 def test_common_events_keep_the_order_of_each_network(nets: list[Network]) -> None:
     names = common_events(nets)
@@ -134,7 +132,6 @@ def test_common_events_keep_the_order_of_each_network(nets: list[Network]) -> No
     assert [name for name in names if name in own] == own
 
 
-@FEW
 @given(st.integers(0, 100), st.integers(0, 100), st.integers(1, 7))
 def test_a_range_of_values_is_python_s(first: int, more: int, step: int) -> None:
     assert values_of("a.rate=..", f"{first}..{first + more}..{step}") == [
@@ -150,7 +147,6 @@ VALUES = st.recursive(
 )
 
 
-@FEW
 @given(st.dictionaries(NAMES, VALUES, max_size=6))
 def test_toml_is_read_as_it_was_written(table: dict[str, Any]) -> None:
     from psi_tools.model.networks import written
@@ -159,14 +155,12 @@ def test_toml_is_read_as_it_was_written(table: dict[str, Any]) -> None:
     assert plain(toml.read(text.encode())) == table == tomllib.loads(text)
 
 
-@FEW
 @given(networks())
 def test_a_network_is_read_as_it_was_written(net: Network) -> None:
     again = Network.parse(net.toml())
     assert again.table == net.table and again.toml() == net.toml() and again.data == net.toml().encode()
 
 
-@FEW
 @given(st.integers(1, 2_000), st.data())
 def test_an_interval_of_a_share_holds_its_estimate(many: int, data: st.DataObject) -> None:
     count, unknown = data.draw(st.integers(0, many)), 0
@@ -179,7 +173,6 @@ def test_an_interval_of_a_share_holds_its_estimate(many: int, data: st.DataObjec
     assert more[1] - more[0] < high - low
 
 
-@FEW
 @given(st.lists(st.tuples(st.integers(0, 20), st.integers(1, 200)), min_size=1, max_size=8, unique_by=first_of))
 def test_an_interval_of_a_mean_holds_it_and_shrinks(counts: list[tuple[int, int]]) -> None:
     span = Span(0, 20, 0, 20)
@@ -193,7 +186,6 @@ def test_an_interval_of_a_mean_holds_it_and_shrinks(counts: list[tuple[int, int]
     assert least <= low + 1e-9 and high <= most + 1e-9
 
 
-@FEW
 @given(st.lists(st.tuples(st.integers(0, 10_000), st.integers(1, 1_000)), min_size=20, max_size=40))
 def test_an_interval_of_batches_holds_the_mean(batches: list[tuple[int, int]]) -> None:
     counts = [count for _, count in batches]
@@ -205,7 +197,6 @@ def test_an_interval_of_batches_holds_the_mean(batches: list[tuple[int, int]]) -
     assert 0 <= low <= high <= 20
 
 
-@FEW
 @given(st.lists(st.tuples(st.integers(-50, 50), st.integers(1, 40)), min_size=1, max_size=9, unique_by=first_of))
 def test_a_quantile_is_that_of_the_list(counts: list[tuple[int, int]]) -> None:
     counts.sort()
@@ -216,7 +207,6 @@ def test_a_quantile_is_that_of_the_list(counts: list[tuple[int, int]]) -> None:
     assert high is None or middle <= high
 
 
-@FEW
 @given(st.integers(20, 400), st.data())
 def test_guaranteed_claims_have_their_certificates(many: int, data: st.DataObject) -> None:
     ones = data.draw(st.integers(1, many))
@@ -230,7 +220,6 @@ def test_guaranteed_claims_have_their_certificates(many: int, data: st.DataObjec
     assert low <= claim["r"] / q + 1e-12 and high >= ones / many - 1e-12
 
 
-@FEW
 @given(st.integers(0, 2**63), st.integers(1, 10**6))
 def test_blocks_are_all_streams_once(first: int, count: int) -> None:
     blocks = blocks_of(first, count, size_of(count))
@@ -239,7 +228,6 @@ def test_blocks_are_all_streams_once(first: int, count: int) -> None:
     assert 1 <= len(blocks) <= max(41, count // 65_536 + 1) or len(blocks) < 80
 
 
-@FEW
 @given(st.integers(1, 500), st.data())
 def test_a_share_without_unknown_ones_is_probability(many: int, data: st.DataObject) -> None:
     count = data.draw(st.integers(0, many))
