@@ -15,7 +15,7 @@ from psi_tools.io.terminal import Progress
 from psi_tools.model.designs import Design
 from psi_tools.model.networks import Network
 from psi_tools.stats.batches import REWARD, Batches, batches_of
-from psi_tools.stats.intervals import LEVEL, NO_MEAN, Mean, difference_of_batches, reading_ahead
+from psi_tools.stats.intervals import LEVEL, NO_MEAN, Mean, difference_of_batches
 from psi_tools.stats.spans import Row
 
 
@@ -62,8 +62,7 @@ class Work:
         waiting.sort(key=lambda each: each[1].number)
         progress = Progress(command, len(waiting), "blocks")
         calls = [lambda each=each: self.keep(*each) for each in waiting]
-        with reading_ahead():
-            self.psi.all(calls, progress.show)
+        self.psi.all(calls, progress.show)
         progress.end()
         return [self.batches(folder, net) for folder, net in zip(self.folders, self.nets)]
 
