@@ -26,6 +26,14 @@ MOST = {b"": 32, b"reward-": 64}
 NAME = re.compile(rb"[A-Za-z0-9_-]{1,32}")
 NUMBER = re.compile(rb"-?[0-9]*")
 FIGURE = re.compile(rb"(reward-)?(sum|least|greatest)")
+# A text whose rows are in their order, with no number out of its range: its counts, horizons and figures.
+IN_ORDER = re.compile(
+    rb"item,name,value\nsamples,-,(\d{1,19})\nmet,-,(\d{1,19})\nuncoupled,-,\d{1,19}\n"
+    rb"((?:horizon,\d{1,19},\d{1,19}\n)*+)"
+    rb"((?:(?:reward-)?(?:sum|least|greatest),[\w-]{1,32},-?\d{1,37}\n)*+)"
+)
+# The items of figures: their kinds, and which of them they are.
+ITEMS = {kind + word: (kind, word) for kind in MOST for word in (b"sum", b"least", b"greatest")}
 
 
 class ReportError(Exception):
@@ -46,9 +54,6 @@ class Figure:
     def __init__(self, kind: bytes, word: bytes, name: bytes, value: int) -> None:
         self.kind, self.word, self.name, self.value = kind, word, name, value
 
-    def row(self) -> bytes:
-        return b"%s%s,%s,%d\n" % (self.kind, self.word, self.name, self.value)
-
 
 class Report:
     """What a report has: how many samples there are, how many are met and at which horizons, and
@@ -65,7 +70,8 @@ class Report:
         counts = self.samples, self.met, max(self.samples - self.met, 0)
         rows = [b"item,name,value\n", b"samples,-,%d\nmet,-,%d\nuncoupled,-,%d\n" % counts]
         rows += [b"horizon,%d,%d\n" % horizon for horizon in self.horizons]
-        return b"".join(rows + [figure.row() for figure in self.figures])
+        rows += [b"%s%s,%s,%d\n" % (each.kind, each.word, each.name, each.value) for each in self.figures]
+        return b"".join(rows)
 
     def sums(self) -> list[tuple[bytes, bytes]]:
         return [(figure.kind, figure.name) for figure in self.figures if figure.word == b"sum"]
@@ -107,7 +113,7 @@ def is_extreme(figure: Figure, word: bytes, of: Figure) -> bool:
     """Whether a figure is the least or the greatest value of what a sum is of, in its range."""
     low = -MOST_WORTH if of.kind else 0
     high = MOST_WORTH if of.kind else MOST_CUSTOMERS
-    is_of = (figure.kind, figure.word, figure.name) == (of.kind, word, of.name)
+    is_of = figure.word == word and figure.name == of.name and figure.kind == of.kind
     return is_of and low <= figure.value <= high
 
 
@@ -172,15 +178,33 @@ def flaw(report: Report) -> int | None:
     return None if place is None else line + place
 
 
-def read(text: bytes) -> Report:
-    """The report that a text is; raises ReportError where it is none."""
-    if len(text) > MOST_BYTES:
-        raise refusal("0 TooLong", 0)
+def read_in_order(found: re.Match[bytes]) -> Report:
+    """The report of a text whose rows are in their order."""
+    report = Report()
+    report.samples, report.met = int(found[1]), int(found[2])
+    horizons, figures = ([row.split(b",") for row in rows.splitlines()] for rows in found.group(3, 4))
+    report.horizons = [(int(horizon), int(count)) for _, horizon, count in horizons]
+    report.figures = [Figure(*ITEMS[item], name, int(value)) for item, name, value in figures]
+    return report
+
+
+def read_by_rows(text: bytes) -> Report:
+    """The report of a text row by row, whatever their order; raises ReportError at the first that is none."""
     report = Report()
     for line, row in enumerate(text.split(b"\n"), 1):
         fields = row.split(b",")
         if fields != [b""] and (len(fields) != 3 or not take(report, *fields)):
             raise refusal("1 Row", line)
+    return report
+
+
+def read(text: bytes) -> Report:
+    """The report that a text is; raises ReportError where it is none."""
+    if len(text) > MOST_BYTES:
+        raise refusal("0 TooLong", 0)
+    found = IN_ORDER.fullmatch(text)
+    # A text in another order is none, but a row of it may be refused first.
+    report = read_in_order(found) if found else read_by_rows(text)
     if report.text() != text:
         raise refusal("2 Text", 0)
     wrong = flaw(report)
