@@ -11,7 +11,7 @@ from typing import Any, NamedTuple
 
 from psi_tools.errors import PsiError, reason
 from psi_tools.io import files
-from psi_tools.io.reports import ReportError, read
+from psi_tools.io.reports import Report, ReportError, read
 from psi_tools.io.samples import is_table
 from psi_tools.model.networks import Network, header_of
 
@@ -39,13 +39,13 @@ def digest_of(text: bytes) -> str:
     return hashlib.sha256(text).hexdigest()
 
 
-def names_of(text: bytes, count: int) -> Names | None:
-    """The queues and rewards of a whole report of this number of samples; none where a text is anything else."""
+def whole_report(text: bytes, count: int) -> Report | None:
+    """The whole report of this number of samples that a text is; none where it is anything else."""
     try:
         report = read(text)
     except ReportError:
         return None
-    return (*report.sums(),) if report.samples == count else None
+    return report if report.samples == count else None
 
 
 def digest_in(file: pathlib.Path) -> str | None:
@@ -265,14 +265,17 @@ class Folder:
         begin = number * self.size
         return Block(number, self.first + begin, min(self.size, self.count - begin))
 
-    def names_in(self, number: int, text: bytes) -> Names | None:
-        """The queues and rewards of a block's text: of its report, or of the table of its samples; none
-        where it isn't whole."""
+    def names_in(self, number: int, text: bytes, reports: dict[int, Report] | None = None) -> Names | None:
+        """The queues and rewards of a block's text: of its report, which is put into `reports` where those are
+        wanted, or of the table of its samples; none where it isn't whole."""
         _, first, count = self.block(number)
-        if not self.has_samples:
-            return names_of(text, count)
-        header = header_of(self.network())
-        return (",".join(header).encode(),) if is_table(header, text, first, count) else None
+        if self.has_samples:
+            header = header_of(self.network())
+            return (",".join(header).encode(),) if is_table(header, text, first, count) else None
+        report = whole_report(text, count)
+        if report and reports is not None:
+            reports[number] = report
+        return (*report.sums(),) if report else None
 
     def accept(self, number: int, text: bytes) -> bool:
         """Keeps the text of a block where it is whole."""
@@ -304,17 +307,17 @@ class Folder:
             if is_left(file.name):
                 file.unlink(missing_ok=True)
 
-    def finished(self) -> dict[int, pathlib.Path]:
+    def finished(self, reports: dict[int, Report] | None = None) -> dict[int, pathlib.Path]:
         """The files of the blocks that are whole and of one network, by number. Others are removed:
         those cut short or changed, and all of a block that has several. What was wrong with them is
-        kept in `removed`, by number.
+        kept in `removed`, by number. Where `reports` is given, it gets the reports that were read.
         """
         whole: dict[int, list[pathlib.Path]] = {}
         names: dict[int, Names] = {}
         self.removed: dict[int, str] = {}
         for number, same in sorted(self.listed().items()):
             text = same[0].read_bytes()
-            names[number] = self.names_in(number, text) or ()
+            names[number] = self.names_in(number, text, reports) or ()
             if len(same) > 1:
                 self.removed[number] = "has several files"
             elif digest_in(same[0]) != digest_of(text)[:16]:

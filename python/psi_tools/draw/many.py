@@ -5,7 +5,7 @@ import pathlib
 import subprocess
 from collections.abc import Iterator
 
-from psi_tools.draw.blocks import Block, Folder, digest_in, digest_of, names_of, write_whole
+from psi_tools.draw.blocks import Block, Folder, digest_in, digest_of, whole_report, write_whole
 from psi_tools.draw.engines import ROUNDS, Progress, Way
 from psi_tools.errors import PsiError, reason
 from psi_tools.io.terminal import print_note
@@ -93,7 +93,7 @@ def merge(folder: Folder, files: list[pathlib.Path], program: str | None) -> byt
         files = made[begun:]
     for file in made:
         file.unlink()
-    if names_of(texts[0], folder.count) is None:
+    if whole_report(texts[0], folder.count) is None:
         raise PsiError("the merged text isn't the report of all streams", 1)
     return texts[0]
 

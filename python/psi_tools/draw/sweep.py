@@ -7,9 +7,10 @@ from typing import Any
 from psi_tools.draw.blocks import Block, Folder, digest_of
 from psi_tools.draw.kept import Kept
 from psi_tools.draw.program import Program
-from psi_tools.draw.reports import read_report, report_of
+from psi_tools.draw.reports import report_of
 from psi_tools.draw.streams import size_of
 from psi_tools.errors import PsiError
+from psi_tools.io.reports import Report
 from psi_tools.io.tables import Record
 from psi_tools.io.terminal import Progress
 from psi_tools.model.designs import Design
@@ -39,13 +40,14 @@ class Work:
     folder whose blocks all have one size."""
 
     def __init__(self, psi: Program, path: pathlib.Path, designs: list[Design], numbers: dict[str, Any]) -> None:
-        self.psi, self.folders, self.nets = psi, [], [design.net for design in designs]
+        self.psi, self.nets = psi, [design.net for design in designs]
+        self.folders: list[Folder] = []
         self.kept = Kept(path, numbers["seed"], numbers["first"])
         size = self.kept.open(size_of(numbers["count"]))
-        for net in self.nets:
-            folder = Folder(self.kept.path / digest_of(net.data)[:16])
+        for data in [net.data for net in self.nets]:
+            folder = Folder(self.kept.path / digest_of(data)[:16])
             folder.lock()
-            folder.bind(net.data, numbers, None, size)
+            folder.bind(data, numbers, None, size)
             if folder.size != size:
                 raise PsiError(f"{folder.path} has blocks of {folder.size} streams, not of {size}")
             self.folders.append(folder)
@@ -74,9 +76,9 @@ class Work:
 
     def batches(self, folder: Folder, net: Network) -> Batches:
         """The batches of a design."""
-        files = folder.finished()
-        reports = [read_report(files[k].read_bytes(), files[k]) for k in sorted(files)]
-        return batches_of(reports).of_network(net)
+        reports: dict[int, Report] = {}
+        files = folder.finished(reports)
+        return batches_of([reports[number] for number in sorted(files)]).of_network(net)
 
 
 def rows_of(batches: list[Batches], names: list[str] | None) -> list[tuple[str, str]]:
