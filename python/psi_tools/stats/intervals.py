@@ -238,10 +238,8 @@ def end_of_batches(spread: Spread, far: float | None, level: float = LEVEL) -> f
     return spread.error * student_and_unseen(spread.batches - 1, unseen / spread.error, level)
 
 
-def filled(sums: Sequence[int], counts: Sequence[int], lost: Sequence[int] | None, value: int | None) -> Spread | None:
+def filled(sums: Sequence[int], counts: Sequence[int], lost: Sequence[int], value: int | None) -> Spread | None:
     """The batches, in which each stream that isn't coupled counts with a value."""
-    if lost is None or not any(lost):
-        return spread_of(sums, counts)
     if value is None:
         return None
     sums = [total + number * value for total, number in zip(sums, lost)]
@@ -263,8 +261,11 @@ def mean_of_batches(
     whole = spread_of(sums, counts)
     if whole is None:
         return NO_MEAN
-    ends = (span.least, span.greatest) if span else (None, None)
-    below, above = (filled(sums, counts, lost, end) for end in ends)
+    below: Spread | None = whole
+    above: Spread | None = whole
+    if lost is not None and any(lost):
+        ends = (span.least, span.greatest) if span else (None, None)
+        below, above = (filled(sums, counts, lost, end) for end in ends)
     if below is None or above is None or below.error is None or above.error is None:
         return Mean(whole.mean, None)
     if span is None:
@@ -312,16 +313,19 @@ def difference_of_batches(
         found = mean_of_batches([x - y for x, y in zip(sums, others)], counts, level)
         return Mean(gap, found.half)
     ends = [end for span in spans for end in (span.least, span.greatest)]
-    if (any(mine) or any(theirs)) and None in ends:
+    has_lost = any(mine) or any(theirs)
+    if has_lost and None in ends:
         return Mean(gap, None)
     values = (spans[0].least, spans[1].greatest), (spans[0].greatest, spans[1].least)
-    low, high = (difference_end(sums, others, counts, mine, theirs, each) for each in values)
+    low = high = difference_end(sums, others, counts, mine, theirs, values[0])
+    if has_lost:
+        high = difference_end(sums, others, counts, mine, theirs, values[1])
     if low is None or high is None or low.error is None:
         return Mean(gap, None)
     both = spans[0].less(spans[1])
     lower = low.mean - end_of_batches(low, min(both.low, low.mean), level)
     upper = high.mean + end_of_batches(high, max(both.high, high.mean), level)
-    if spans[0].two and spans[1].two and ends[:2] == ends[2:] and not any([*mine, *theirs]):
+    if spans[0].two and spans[1].two and ends[:2] == ends[2:] and not has_lost:
         least, greatest = spans[0].ends
         # Of a width of 0 both rows are one number.
         width = (greatest - least) or 1
@@ -424,13 +428,13 @@ def deviate(values: Any, shapes: Any, x: float) -> tuple[float, float]:
     import numpy
 
     weights = shapes / (1 - x * values)
-    t = (weights * values).sum() / weights.sum()
+    t = (weights @ values) / weights.sum()
     s = x / (1 - x * t)
     rest = 1 - s * (values - t)
     if rest.min() <= 0 or s <= 0:
         return t, FARTHEST if s > 0 else 0.0
-    root = math.sqrt(max(0.0, 2 * (shapes * numpy.log(rest)).sum()))
-    other = s * math.sqrt((shapes * ((values - t) / rest) ** 2).sum())
+    root = math.sqrt(max(0.0, 2 * (shapes @ numpy.log(rest))))
+    other = s * math.sqrt(shapes @ ((values - t) / rest) ** 2)
     if root < 1e-6 or other <= 0:
         return t, 0.0
     return t, min(FARTHEST, root + math.log(other / root) / root)
