@@ -25,7 +25,7 @@ from psi_tools.draw.blocks import MOST_BLOCKS, Folder
 from psi_tools.draw.engines import SHARE, SSH, Here, Hosts, Slurm, Way, run_task
 from psi_tools.draw.many import COMMAND, draw_all, joined, merge
 from psi_tools.draw.program import Program, built_companion, built_program, companion_of, program_of
-from psi_tools.draw.streams import MOST_STREAMS
+from psi_tools.draw.streams import LEAST_BATCHES, MOST_STREAMS
 from psi_tools.errors import PsiError
 from psi_tools.io.files import read_file
 from psi_tools.io.output import check_writable, write_answer, write_pieces
@@ -33,7 +33,6 @@ from psi_tools.io.reports import read
 from psi_tools.io.samples import uncoupled_in
 from psi_tools.io.terminal import print_note
 from psi_tools.model.networks import header_of
-from psi_tools.stats.intervals import LEAST_BATCHES
 
 MOST_COUNT = MOST_BLOCKS * MOST_STREAMS
 ABOUT = """Prints the report of any number of streams, as psi report would if it accepted that many. The

@@ -16,6 +16,7 @@ from psi_tools.cli.options import (
     check_last_stream,
 )
 from psi_tools.draw.reports import read_any
+from psi_tools.draw.streams import LEAST_BATCHES
 from psi_tools.errors import PsiError
 from psi_tools.io import tables
 from psi_tools.io.output import check_writable, write, write_answer
@@ -23,7 +24,6 @@ from psi_tools.io.tables import Record
 from psi_tools.io.terminal import print_note
 from psi_tools.model.networks import Network
 from psi_tools.stats.batches import Batches
-from psi_tools.stats.intervals import LEAST_BATCHES
 from psi_tools.stats.means import KINDS, mean_of, notes_of, records_of, remarks, table_of
 from psi_tools.stats.text import with_interval
 

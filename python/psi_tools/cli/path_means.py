@@ -7,14 +7,14 @@ from psi_tools.cli.means import COMMAND, in_form
 from psi_tools.draw.blocks import digest_of
 from psi_tools.draw.paths import paths_of
 from psi_tools.draw.program import Program
-from psi_tools.draw.streams import blocks_of, table_size
+from psi_tools.draw.streams import LEAST_BATCHES, blocks_of, table_size
 from psi_tools.errors import PsiError
 from psi_tools.io import tables
 from psi_tools.io.output import write
 from psi_tools.io.tables import Record
 from psi_tools.io.terminal import Progress
 from psi_tools.model.networks import Network, checked
-from psi_tools.stats.intervals import LEAST_BATCHES, reading_ahead
+from psi_tools.stats.intervals import reading_ahead
 from psi_tools.stats.means import table_of
 from psi_tools.stats.paths import Paths, paths_of_rows, records_of
 from psi_tools.stats.text import not_coupled

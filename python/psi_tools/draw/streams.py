@@ -6,6 +6,8 @@ Streams = tuple[int, int]
 # As many streams as one call of psi report takes, and how many blocks there are while they allow
 # it. On every machine there are as many, since an interval goes by its batches.
 MOST_STREAMS, BLOCKS = 65_536, 40
+# The least number of batches, each a block, that an interval goes by.
+LEAST_BATCHES = 20
 # How many blocks of a table each process draws: the first shows how long the rest takes.
 ROUNDS = 2
 

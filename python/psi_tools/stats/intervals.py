@@ -23,8 +23,8 @@ import threading
 from collections.abc import Callable, Iterator, Sequence
 from typing import Any
 
-# The least number of batches, and the default confidence level.
-LEAST_BATCHES, LEVEL = 20, 0.95
+# The default confidence level.
+LEVEL = 0.95
 # Steps of a bisection, and of the rule by which the exponential part is integrated, and how near the
 # logarithm of a probability, and a quantile, have to be met.
 HALVINGS, NODES, NEAR, NEAREST = 60, 64, 1e-6, 1e-9
