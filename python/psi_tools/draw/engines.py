@@ -138,8 +138,9 @@ def run_parallel(
     environment = {**os.environ, "PARALLEL_SHELL": "/bin/sh", "PSI_MANY_PSI": psi}
     environment["PSI_MANY_BEGUN"] = str(begun)
     lines = "".join(line_of(folder, block) for block in blocks)
-    write_whole(folder.path / "jobs", lines.encode())
-    write_whole(begun, b"")
+    # Neither is read once this round is over, so a loss of power takes nothing with them.
+    write_whole(folder.path / "jobs", lines.encode(), is_synced=False)
+    write_whole(begun, b"", is_synced=False)
     with open(folder.path / "jobs", "rb") as jobs, open(folder.path / "said", "wb") as errors:
         with subprocess.Popen(
             call,
