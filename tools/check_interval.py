@@ -1,5 +1,5 @@
 #!/usr/bin/env python3
-"""check_interval.py FILE: checks certificates of intervals, by python/psi_tools/check_interval.py, which stands alone."""
+"""check_interval.py FILE: checks certificates of intervals, by python/psi_tools/check_interval.py, which is alone."""
 
 import pathlib
 import runpy
