@@ -6,6 +6,7 @@ import pathlib
 import re
 import resource
 import shutil
+import signal
 import subprocess
 import sys
 import time
@@ -41,6 +42,8 @@ PIPES: dict[str, Any] = {"stdout": subprocess.PIPE, "stderr": subprocess.PIPE, "
 ALONE = not (TOP / "tools").is_dir()
 OWN = "test_api.py", "test_networks.py", "test_properties.py", "test_toml.py", "test_toml_documents.py"
 collect_ignore = [path.name for path in HERE.glob("test_*.py") if ALONE and path.name not in OWN]
+# A job that a shell starts in the background ignores SIGINT, and so would the tools that the tests stop by it.
+signal.signal(signal.SIGINT, signal.default_int_handler)
 
 
 def match_in(pattern: str, text: str, flags: int = 0) -> "re.Match[str]":
