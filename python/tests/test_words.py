@@ -102,7 +102,7 @@ def test_the_other_tools_end_with_one_line(tool: Tool, tmp_path: pathlib.Path, n
     closed = str(example("central-server"))
     named = [(file, "6", "2") for file in [*files(tmp_path), NET]]
     named += [(closed, "x", "2"), (closed, "257", "2"), (closed, "6", "-2")]
-    calls = [[], ["a"], *([word.format(*each) for word in OTHERS[name]] for each in named)]
+    calls: list[list[str]] = [[], ["a"], *([word.format(*each) for word in OTHERS[name]] for each in named)]
     for words, (status, out, error) in zip(calls, side_by_side(tool, name, calls)):
         assert status in (2, 3, 6, 11) and out == "", (words, status, error)
         assert re.fullmatch(rf"{command}: [^\n]+\n", error), (words, error)
