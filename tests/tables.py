@@ -73,8 +73,8 @@ class TableTests:
     name: str
     head: str
     more: tuple[object, ...] = ()
-    # Words from COUNT on of a short table and a long one that make as many growths of memory; those of a short
-    # table and of others that take no more memory.
+    # Arguments from COUNT on of a short table and of a long one, which allocate equally often; those of a short
+    # table and of others that use no more memory.
     growths: tuple[list[str], list[str]]
     long: tuple[list[object], ...]
 
