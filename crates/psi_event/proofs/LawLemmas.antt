@@ -10,19 +10,28 @@ use Rattle.psi_state.specs.Hull.{IsTight, corners}
 use Rattle.psi_state.proofs.HullLemmas.{corners-from_tight}
 use Rattle.psi_event.specs.Law.{IsClosed, IsMonotone}
 
+-- a box is tight around the image of another where the image of each of its states lies inside and each end is the value of one of them
+pub tight-by : (f : List ℕ → List ℕ) (l h u w : List ℕ) → ((x : List ℕ) → IsBetween l h x → IsBetween u w (f x))
+    → ((i : ℕ) → i < length u → (x : List ℕ) × IsBetween l h x × (slice_index (f x) i ≡ slice_index u i))
+    → ((i : ℕ) → i < length w → (x : List ℕ) × IsBetween l h x × (slice_index (f x) i ≡ slice_index w i))
+    → IsTight (image f (box l h)) u w
+tight-by f l h u w inside low high = record {
+  inside = λ z member. (let from = In-of_image f z (box l h) member in
+      subst (λ (y : List ℕ). IsBetween u w y) (sym from.2) (inside from.0 (In-of_box l h from.0 from.1)));
+  low = λ i small. (let found = low i small in
+      (f found.0, In-image f found.0 (box l h) (In-box l h found.0 found.1.low found.1.high), found.2));
+  high = λ i small. (let found = high i small in
+      (f found.0, In-image f found.0 (box l h) (In-box l h found.0 found.1.low found.1.high), found.2));
+}
+
 -- where the function is monotone, the tight box around the image of a box goes from the image of its lower corner to that of its upper corner
 pub monotone-tight : (caps : List ℕ) (f : List ℕ → List ℕ) (l h : List ℕ) → IsMonotone caps f → IsBelow l h → IsBelow h caps
     → IsTight (image f (box l h)) (f l) (f h)
-monotone-tight caps f l h mono ordered within = record {
-  inside = λ z member. (let from = In-of_image f z (box l h) member in
-      let between : IsBetween l h from.0 = In-of_box l h from.0 from.1 in
-      subst (λ (y : List ℕ). IsBetween (f l) (f h) y) (sym from.2) (record {
-        low = mono.each l from.0 (below-through from.0 h caps between.high within) between.low;
-        high = mono.each from.0 h within between.high;
-      }));
-  low = λ i small. (f l, In-image f l (box l h) (In-box l h l (below-itself l) ordered), refl);
-  high = λ i small. (f h, In-image f h (box l h) (In-box l h h ordered (below-itself h)), refl);
-}
+monotone-tight caps f l h mono ordered within =
+    tight-by f l h (f l) (f h)
+    (λ x between. record { low = mono.each l x (below-through x h caps between.high within) between.low; high = mono.each x h within between.high })
+    (λ i small. (l, record { low = below-itself l; high = ordered }, refl))
+    (λ i small. (h, record { low = ordered; high = below-itself h }, refl))
 
 -- a tight box around the image of a box is the hull of that image
 pub tight-corners : (f : List ℕ → List ℕ) (l h u w : List ℕ) → IsBelow l h → IsTight (image f (box l h)) u w
@@ -49,17 +58,3 @@ tight-within caps f l h u w closed ordered within tight =
           let below : IsBelow (f from.0) caps = closed.each from.0 (below-through from.0 h caps between.high within) in
           subst (λ (n : ℕ). n ≤ slice_index caps i) (ap (λ (y : List ℕ). slice_index y i) (sym from.2) ∙ found.2) (below.each i (subst (λ (n : ℕ). i < n) (same ∙ sym below.same_length) small)));
     }
-
--- a box is tight around the image of another where the image of each of its states lies inside and each end is the value of one of them
-pub tight-by : (f : List ℕ → List ℕ) (l h u w : List ℕ) → ((x : List ℕ) → IsBetween l h x → IsBetween u w (f x))
-    → ((i : ℕ) → i < length u → (x : List ℕ) × IsBetween l h x × (slice_index (f x) i ≡ slice_index u i))
-    → ((i : ℕ) → i < length w → (x : List ℕ) × IsBetween l h x × (slice_index (f x) i ≡ slice_index w i))
-    → IsTight (image f (box l h)) u w
-tight-by f l h u w inside low high = record {
-  inside = λ z member. (let from = In-of_image f z (box l h) member in
-      subst (λ (y : List ℕ). IsBetween u w y) (sym from.2) (inside from.0 (In-of_box l h from.0 from.1)));
-  low = λ i small. (let found = low i small in
-      (f found.0, In-image f found.0 (box l h) (In-box l h found.0 found.1.low found.1.high), found.2));
-  high = λ i small. (let found = high i small in
-      (f found.0, In-image f found.0 (box l h) (In-box l h found.0 found.1.low found.1.high), found.2));
-}

@@ -1,6 +1,6 @@
 -- Lemmas. The tests of a piece, queue by queue.
 use Rattle.std.specs.Prelude.{◌≡◌, ℕ, zero, suc, ◌<◌, List, [], ◌∷◌, length, replicate, slice_index, slice_index_or, slice_set, Bool, true, false, ◌+◌, ◌&&◌, refl}
-use Rattle.std.proofs.Common.{ap, sym, ◌∙◌, subst, arith}
+use Rattle.std.proofs.Common.{arith}
 use Rattle.psi_event.specs.declared.sides.Side.{Side}
 use Rattle.psi_event.specs.declared.sides.Side.TheVariants.{Any}
 use Rattle.psi_event.specs.declared.piecewise.Piecewise.{Piecewise}
@@ -19,15 +19,13 @@ pub set-on : (sides : List Side) (q : ℕ) (side : Side) (bounds x : List ℕ) �
 set-on [] q side bounds x in_sides in_bounds in_x free = absurd (omega arith)
 set-on (s ∷ sides) q side [] x in_sides in_bounds in_x free = absurd (omega arith)
 set-on (s ∷ sides) q side (bound ∷ bounds) [] in_sides in_bounds in_x free = absurd (omega arith)
-set-on (s ∷ sides) zero side (bound ∷ bounds) (v ∷ x) in_sides in_bounds in_x free =
-    ap (λ (b : Bool). is_on side bound v && b) (sym (ap (λ t. is_on t bound v && all_on sides bounds x) free))
+set-on (s ∷ sides) zero side (bound ∷ bounds) (v ∷ x) in_sides in_bounds in_x free = rw free
 set-on (s ∷ sides) (suc q) side (bound ∷ bounds) (v ∷ x) in_sides in_bounds in_x free =
-    ap (λ (b : Bool). is_on s bound v && b) (set-on sides q side bounds x (omega arith) (omega arith) (omega arith) free)
-    ∙ swap (is_on s bound v) (is_on side (slice_index bounds q) (slice_index x q)) (all_on sides bounds x)
+    rw (set-on sides q side bounds x (omega arith) (omega arith) (omega arith) free)
+    (swap (is_on s bound v) (is_on side (slice_index bounds q) (slice_index x q)) (all_on sides bounds x))
   where
     swap : (a b c : Bool) → (a && (b && c)) ≡ (b && (a && c))
-    swap true true c = refl
-    swap true false c = refl
+    swap true b c = refl
     swap false true c = refl
     swap false false c = refl
 
@@ -36,11 +34,4 @@ pub sum-by : (p : Piecewise) (x y : List ℕ) (one two : Bool) → first_on p x 
     → ((q : ℕ) → q < length x → slice_index y q + if_on one (slice_index p.first.downs q) + if_on two (slice_index p.second.downs q)
     ≡ slice_index x q + if_on one (slice_index p.first.ups q) + if_on two (slice_index p.second.ups q))
     → IsSum p x y
-sum-by p x y one two is_first is_second long each = record {
-  long = long;
-  each = λ q small.
-      subst (λ b. slice_index y q + if_on b (slice_index p.first.downs q) + if_on (second_on p x) (slice_index p.second.downs q)
-      ≡ slice_index x q + if_on b (slice_index p.first.ups q) + if_on (second_on p x) (slice_index p.second.ups q)) (sym is_first)
-      (subst (λ b. slice_index y q + if_on one (slice_index p.first.downs q) + if_on b (slice_index p.second.downs q)
-      ≡ slice_index x q + if_on one (slice_index p.first.ups q) + if_on b (slice_index p.second.ups q)) (sym is_second) (each q small));
-}
+sum-by p x y one two is_first is_second long each = record { long = long; each = λ q small. rw (is_first, is_second) (each q small) }

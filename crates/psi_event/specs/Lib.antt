@@ -5,3 +5,4 @@ pub mod Choice
 pub mod Idle
 pub mod Inner
 pub mod Piecewise
+pub mod Setting
