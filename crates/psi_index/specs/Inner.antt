@@ -1,4 +1,3 @@
 -- What types keep of their private fields, how they are seen, and laws that clauses rest on.
 pub mod BoundsKept
 pub mod LevelsKept
-pub mod SearchesKept

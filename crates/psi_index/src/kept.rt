@@ -32,12 +32,12 @@ impl Model for Kept {
     ghost Value = { List ℕ };
 
     ghost use Rattle.psi_index.specs.Extremes.{IsFront};
-    ghost use Rattle.psi_index.specs.Inner.LevelsKept.{IsTable};
+    ghost use Rattle.psi_index.specs.Inner.LevelsKept.{AreSparseTables};
     ghost use Rattle.psi_index.specs.Inner.BoundsKept.{AreBounds};
 
     ghost view = { λ kept. kept.values.items };
 
-    ghost invariant = { λ kept. IsTable kept.values.items kept.low.items kept.complements.items kept.high.items kept.rises × AreBounds kept.values.items kept.peaks.items kept.troughs.items kept.rises × IsFront kept.values.items kept.front };
+    ghost invariant = { λ kept. AreSparseTables kept.values.items kept.low.items kept.complements.items kept.high.items kept.rises × AreBounds kept.values.items kept.peaks.items kept.troughs.items kept.rises × IsFront kept.values.items kept.front };
 }
 
 impl Kept {

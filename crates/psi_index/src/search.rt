@@ -1,6 +1,6 @@
 //! Searches for the place at which the values of a table pass a bound.
 
-ghost use Rattle.std.specs.Prelude.{ℕ, ◌-◌, ◌<◌, ◌≤◌, length, slice_index};
+ghost use Rattle.std.specs.Prelude.{ℕ, ◌-◌, ◌<◌, ◌≤◌, true, false, length, slice_index};
 
 use crate::IndexTable;
 
@@ -47,17 +47,9 @@ impl IndexTable {
         if first == past || self.at(first) as u64 >= bound {
             return first;
         }
-        let mut low = first + 1;
-        let mut high = past;
-        while low < high {
-            let middle = low + (high - low) / 2;
-            if self.greatest(first, middle) as u64 >= bound {
-                high = middle;
-            } else {
-                low = middle + 1;
-            }
-        }
-        low
+        first_passing(first + 1, past, |middle| {
+            self.greatest(first, middle) as u64 >= bound
+        })
     }
 
     /// One more than the last place from `first` on and before `past` whose value is below `bound`, or `first` where
@@ -76,17 +68,9 @@ impl IndexTable {
         if first == past || (self.at(past - 1) as u64) < bound {
             return past;
         }
-        let mut low = first;
-        let mut high = past - 1;
-        while low < high {
-            let middle = low + (high - low) / 2;
-            if (self.least(middle, past - 1) as u64) < bound {
-                low = middle + 1;
-            } else {
-                high = middle;
-            }
-        }
-        low
+        first_passing(first, past - 1, |middle| {
+            self.least(middle, past - 1) as u64 >= bound
+        })
     }
 
     /// Returns the first place from `first` on and before `past` whose value is below `bound`, or `past` where there is
@@ -102,19 +86,34 @@ impl IndexTable {
         ensures from { first ≤ result }
         ensures within { result ≤ past }
     {
-        let mut low = first;
-        let mut high = past;
-        if low < high && self.least(low, high - 1) as u64 >= bound {
-            return high;
+        if first < past && self.least(first, past - 1) as u64 >= bound {
+            return past;
         }
-        while low < high {
-            let middle = low + (high - low) / 2;
-            if (self.least(first, middle) as u64) < bound {
-                high = middle;
-            } else {
-                low = middle + 1;
-            }
-        }
-        low
+        first_passing(first, past, |middle| {
+            (self.least(first, middle) as u64) < bound
+        })
     }
+}
+
+// The first place from `low` on and before `high` that passes a test, or `high` where there is none, by halving: a place
+// after one that passes has to pass too.
+fn first_passing<F: Fn(u16) -> bool>(low: u16, high: u16, passes: F) -> u16
+    requires ordered { low ≤ high }
+    requires callable { (k : ℕ) → low ≤ k → k < high → F.pre passes k }
+    ensures from { low ≤ result }
+    ensures within { result ≤ high }
+    ensures before { low < result → F.post passes (result - 1) false }
+    ensures found { result < high → F.post passes result true }
+{
+    let mut first = low;
+    let mut past = high;
+    while first < past {
+        let middle = first + (past - first) / 2;
+        if passes(middle) {
+            past = middle;
+        } else {
+            first = middle + 1;
+        }
+    }
+    first
 }

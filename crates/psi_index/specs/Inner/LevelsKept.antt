@@ -17,8 +17,8 @@ pub record IsSparse (values : List ℕ) (levels : List Level) : Type 0 where
   pub levels_of : AreLevels values levels
   pub enough : (e : ℕ) → 2 ^ e ≤ length values → e ≤ length levels
 
--- values and whether they rise; where they don't, their levels, their complements and the levels of these
-pub record IsTable (values : List ℕ) (low : List Level) (complements : List ℕ) (high : List Level) (rises : Bool) : Type 0 where
+-- the sparse tables of values that don't rise: their levels, their complements and the levels of these
+pub record AreSparseTables (values : List ℕ) (low : List Level) (complements : List ℕ) (high : List Level) (rises : Bool) : Type 0 where
   pub valid : IsValueList values
   pub risen : IsTrue rises ↔ IsRising values
   pub turned : rises ≡ false → complements ≡ map complement values

@@ -1,19 +1,19 @@
 -- Answers in the proof of `Kept::greatest`.
-use Rattle.std.proofs.Common.{ℕ, ◌+◌, List, length, ap, slice_index, ◌∙◌, subst, arith}
+use Rattle.std.proofs.Common.{ℕ, ◌+◌, List, length, ap, slice_index, ◌∙◌, arith}
 use Rattle.std.proofs.lemmas.List.{get_or-map}
-use Rattle.psi_index.specs.Extremes.{IsRising, complement, greatest_of, least_of, stretch}
+use Rattle.psi_index.specs.Extremes.{complement, greatest_of, least_of, stretch}
 use Rattle.psi_index.proofs.JoiningLemmas.{greatest-complements}
 use Rattle.psi_index.proofs.RisingLemmas.{rising-order, rising-greatest}
 use Rattle.psi_index.proofs.kept.Kept.greatest.Goals as goal
 
 pub returns-then-self-clause-value : goal.returns-then-self-clause-value
 returns-then-self-clause-value c =
-    let rising : IsRising c.args.self.now = subst (λ (xs : List ℕ). IsRising xs) c.self.view_is (c.self.invariant.0.risen.0 c.if-self.true) in
+    let rising = rw c.self.view_is at (c.self.invariant.0.risen.0 c.if-self.true) in
     c.at.ensures ∙ rising-greatest c.args.self.now c.args.from c.args.to rising c.requires.ordered c.requires.within
 
 pub returns-then-self-clause-above : goal.returns-then-self-clause-above
 returns-then-self-clause-above c = λ k low high.
-    let rising : IsRising c.args.self.now = subst (λ (xs : List ℕ). IsRising xs) c.self.view_is (c.self.invariant.0.risen.0 c.if-self.true) in
+    let rising = rw c.self.view_is at (c.self.invariant.0.risen.0 c.if-self.true) in
     let order = rising-order c.args.self.now k c.args.to rising high (omega arith) in
     omega (arith, c.at.ensures)
 
