@@ -4,11 +4,12 @@ use Rattle.std.specs.Bool.{MatchBool}
 use Rattle.std.specs.Option.{ForSome}
 use Rattle.std.proofs.lemmas.Bool.{or_left, or_right, or_from, eq-eqb, ne_eqb}
 use Rattle.psi_state.specs.State.{IsBelow}
+use Rattle.psi_event.specs.Setting.{AreSet}
 use Rattle.psi_route.specs.Routing.{Shape, Routing, routing, routed, source_least, source_queue, HasRoom, Lacks, Leaves, Remains, Routed}
 use Rattle.psi_route.proofs.ActingLemmas.{leaves_or_remains}
 use Rattle.psi_route.specs.Accepted.{IsRouteShape}
 use Rattle.psi_route.proofs.AcceptedLemmas.{routing-is}
-use Rattle.psi_route.specs.Ends.{IsLowEnd, IsHighEnd, AreSet, AreCornerEnds, AreEnds, AreTargetEnds}
+use Rattle.psi_route.specs.Ends.{IsLowEnd, IsHighEnd, AreCornerEnds, AreEnds, AreTargetEnds}
 use Rattle.psi_route.specs.Coming.{Comes, Misses, AreComing, is_gone, without}
 use Rattle.psi_route.specs.declared.parts.Source.{Source}
 use Rattle.psi_route.specs.declared.envelope.Coming.{Coming}

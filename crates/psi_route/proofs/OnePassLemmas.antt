@@ -5,11 +5,13 @@ use Rattle.std.proofs.lemmas.Bool.{cases_lt}
 use Rattle.psi_state.specs.State.{IsBelow}
 use Rattle.psi_route.specs.Routing.{Shape, Routing, IsRouting, routing, HasRoom, Lacks, weight}
 use Rattle.psi_route.proofs.PlainLemmas.{weight-none}
-use Rattle.psi_route.specs.Ends.{CanChoose, CanPass, IsLowEnd, IsHighEnd, AreSet, AreTargetEnds}
+use Rattle.psi_route.specs.Ends.{CanChoose, CanPass, IsLowEnd, IsHighEnd, AreTargetEnds}
 use Rattle.psi_route.specs.Coming.{Comes, Misses}
 use Rattle.psi_route.specs.Accepted.{IsRouteShape}
 use Rattle.psi_route.proofs.AcceptedLemmas.{routing-is}
-use Rattle.psi_route.proofs.SettingLemmas.{set-more, targets-ordered}
+use Rattle.psi_event.specs.Setting.{AreSet}
+use Rattle.psi_event.proofs.SettingLemmas.{set-next, set-more}
+use Rattle.psi_route.proofs.SettingLemmas.{targets-ordered}
 
 -- an earlier place has the lesser key
 pub record IsPlain (r : Routing) : Type 0 where
@@ -203,9 +205,7 @@ coming-more r x n false misses lacks = misses-more r x n (n + 1) (omega arith) m
 -- a target that comes later has what it had
 pub target-ends_kept : (r : Routing) (l h u w : List ℕ) (n : ℕ) → IsRouting r → AreTargetEnds r l h u w n → n < r.places
     → (slice_index u (r.queue n) ≡ slice_index l (r.queue n)) × (slice_index w (r.queue n) ≡ slice_index h (r.queue n))
-target-ends_kept r l h u w n is ends small =
-    let free : (i : ℕ) → i < n → r.queue i ≢ r.queue n = λ i less e. (let same : i ≡ n = is.apart i n (omega arith) small e in omega arith) in
-    (ends.low.rest (r.queue n) free, ends.high.rest (r.queue n) free)
+target-ends_kept r l h u w n is ends small = (set-next r.queue _ l u n r.places ends.low small is.apart, set-next r.queue _ h w n r.places ends.high small is.apart)
 
 pub target-ends_more : (r : Routing) (l h u w : List ℕ) (n a b : ℕ) → IsRouting r → AreTargetEnds r l h u w n → n < r.places → r.queue n < length l
     → r.queue n < length h → IsLowEnd r l h n a → IsHighEnd r l h n b

@@ -1,6 +1,5 @@
--- Numbers that are put at one queue after another.
-use Rattle.std.proofs.Common.{◌≡◌, ◌≢◌, ℕ, ◌+◌, ◌<◌, ◌≤◌, List, length, slice_index, slice_set, inl, inr, sym, ◌∙◌, subst, arith, length-set, get_or-set_same, get_or-set_other}
-use Rattle.std.proofs.lemmas.Bool.{cases_lt}
+-- A route's ends in the box that it leaves.
+use Rattle.std.proofs.Common.{◌≡◌, ℕ, ◌<◌, ◌≤◌, List, length, slice_index, sym, ◌∙◌, subst, arith}
 use Rattle.psi_route.specs.Routing.{Shape, routing, routed}
 use Rattle.psi_state.specs.State.{Corners, IsBelow, box}
 use Rattle.psi_state.specs.Sets.{image}
@@ -10,23 +9,7 @@ use Rattle.psi_route.proofs.ActingLemmas.{act-routed}
 use Rattle.psi_route.specs.Accepted.{IsRouteShape}
 use Rattle.psi_route.proofs.AcceptedLemmas.{routing-is}
 use Rattle.psi_route.proofs.TightnessLemmas.{Routes, IsBoxOf, ends-tight, ends-below}
-use Rattle.psi_route.specs.Ends.{AreEnds, AreSet}
-
-pub set-more : (queue : ℕ → ℕ) (E : ℕ → ℕ → Type 0) (start ends : List ℕ) (n places v : ℕ) → AreSet queue E start ends n → n < places
-    → ((i j : ℕ) → i < places → j < places → queue i ≡ queue j → i ≡ j) → queue n < length start → E n v → AreSet queue E start (slice_set ends (queue n) v) (n + 1)
-set-more queue E start ends n places v are within apart place is = record {
-  count = length-set {A = ℕ} ends (queue n) v ∙ are.count;
-  set = λ i small.
-      elim (cases_lt i n) [
-        | inl old ↦ (let other : queue i ≢ queue n = λ e. (let same : i ≡ n = apart i n (omega arith) within e in omega arith) in
-            subst (λ u. E i u) (sym (get_or-set_other {A = ℕ} ends (queue n) (queue i) v 0 other)) (are.set i old))
-        | inr new ↦ (let e : n ≡ i = omega arith in
-            subst (λ m. E m (slice_index (slice_set ends (queue n) v) (queue m))) e
-            (subst (λ u. E n u) (sym (get_or-set_same {A = ℕ} ends (queue n) v 0 (let count = are.count in omega arith))) is))
-      ];
-  rest = λ p free.
-      get_or-set_other {A = ℕ} ends (queue n) p v 0 (λ e. free n (omega arith) (sym e)) ∙ are.rest p (λ i small. free i (omega arith));
-}
+use Rattle.psi_route.specs.Ends.{AreEnds}
 
 -- a route's function routes each state
 pub shape-routes : (s : Shape) → IsRouteShape s → Routes (routing s) (routed s)

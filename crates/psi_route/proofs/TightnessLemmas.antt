@@ -6,12 +6,13 @@ use Rattle.psi_state.specs.Boxes.{IsBetween}
 use Rattle.psi_state.proofs.BoxesLemmas.{below-itself, below-through}
 use Rattle.psi_state.specs.Sets.{image}
 use Rattle.psi_state.specs.Hull.{IsTight}
+use Rattle.psi_event.proofs.ChoiceLemmas.{choose-two}
 use Rattle.psi_event.proofs.LawLemmas.{tight-by}
 use Rattle.psi_route.specs.Routing.{Routing, IsRouting, HasRoom, Lacks, IsBest, IsPassed, Routed}
 use Rattle.psi_route.proofs.ActingLemmas.{best_or_passed}
 use Rattle.psi_route.specs.Ends.{AreCornerEnds, CanChoose, CanPass, IsLowEnd, IsHighEnd, AreEnds}
 use Rattle.psi_route.proofs.MonotoneLemmas.{serves-up, source-below, place_of}
-use Rattle.psi_route.proofs.WitnessesLemmas.{State, state_with}
+use Rattle.psi_route.proofs.WitnessesLemmas.{state_with}
 
 -- a target's number within the box stands for itself
 pub record IsHeld (r : Routing) (l h : List ℕ) (j v : ℕ) : Type 0 where
@@ -105,85 +106,29 @@ pub record Passed (r : Routing) (l h : List ℕ) (j v : ℕ) : Type 0 where
   pub kept : IsPassed r state j ⊎ (slice_index state r.source < r.least)
   pub at : slice_index state (r.queue j) ≡ v
 
--- v at place j and w at place i
-record AreTwo (j v i w k n : ℕ) : Type 0 where
-  own : k ≡ j → n ≡ v
-  other : k ≡ i → n ≡ w
-
-two : (r : Routing) (l h : List ℕ) (j v i w k : ℕ) → IsRouting r → IsBoxOf r l h → IsHeld r l h j v → i ≢ j
-    → slice_index l (r.queue i) ≤ w → w ≤ slice_index h (r.queue i) → k < r.places
-    → (n : ℕ) × (slice_index l (r.queue k) ≤ n) × (n ≤ slice_index h (r.queue k)) × AreTwo j v i w k n
-two r l h j v i w k is is_box held apart low high small =
-    elim (cases_eq k j) [
-      | inl e ↦ (
-        v,
-        subst (λ m. slice_index l (r.queue m) ≤ v) (sym e) held.low,
-        subst (λ m. v ≤ slice_index h (r.queue m)) (sym e) held.high,
-        record { own = λ d. refl; other = λ d. absurd (apart (sym d ∙ e)) },
-      )
-      | inr ne ↦ elim (cases_eq k i) [
-        | inl e ↦ (
-          w,
-          subst (λ m. slice_index l (r.queue m) ≤ w) (sym e) low,
-          subst (λ m. w ≤ slice_index h (r.queue m)) (sym e) high,
-          record { own = λ d. absurd (ne d); other = λ d. refl },
-        )
-        | inr no_i ↦ (
-          slice_index l (r.queue k),
-          omega arith,
-          is_box.below.each (r.queue k) (let count = is_box.count in let within = is.is_queue k small in omega arith),
-          record { own = λ d. absurd (ne d); other = λ d. absurd (no_i d) },
-        )
-      ]
-    ]
-
--- a state with v at place j, and the source at the lower end
-state_of_one : (r : Routing) → IsRouting r → (l h : List ℕ) (j v : ℕ) → IsBoxOf r l h → IsHeld r l h j v
-    → State r l h (λ i w. i ≡ j → w ≡ v) (λ w. w ≡ slice_index l r.source)
-state_of_one r is l h j v is_box held =
-    state_with r is l h is_box.below is_box.count (λ i w. i ≡ j → w ≡ v) (λ w. w ≡ slice_index l r.source)
-    (λ i small. elim (cases_eq i j) [
-      | inl e ↦ (v, subst (λ k. slice_index l (r.queue k) ≤ v) (sym e) held.low, subst (λ k. v ≤ slice_index h (r.queue k)) (sym e) held.high, λ d. refl)
-      | inr ne ↦ (slice_index l (r.queue i), omega arith, is_box.below.each (r.queue i) (let count = is_box.count in let within = is.is_queue i small in omega arith), λ d. absurd (ne d))
-    ])
-    (λ small. (slice_index l r.source, omega arith, is_box.below.each r.source (let count = is_box.count in omega arith), refl))
-
 can_pass : (r : Routing) → IsRouting r → (l h : List ℕ) (j v : ℕ) → IsBoxOf r l h → IsHeld r l h j v → CanPass r l h j v → Passed r l h j v
 can_pass r is l h j v is_box held can =
+    let at_j : r.queue j < length l = omega (arith, is.is_queue j held.place, is_box.count) in
     elim can [
-      | inl lacks ↦ (let made = state_of_one r is l h j v is_box held in
-          let here : slice_index made.state (r.queue j) ≡ v = made.targets j held.place refl in
-          record { state = made.state; between = made.between; kept = inl (inl (subst (λ n. Lacks r j n) (sym here) lacks)); at = here })
+      | inl lacks ↦ (let made = choose-two l h (r.queue j) v (r.queue j) v is_box.below at_j at_j held.low held.high held.low held.high (λ e. refl) in
+          record { state = made.0; between = made.1; kept = inl (inl (subst (λ n. Lacks r j n) (sym made.2) lacks)); at = made.2 })
       | inr rest ↦ elim rest [
-        | inl idle ↦ (let made = state_of_one r is l h j v is_box held in
-            record {
-              state = made.state;
-              between = made.between;
-              kept = inr (elim is.sourced [
-                | inl small ↦ (let e : slice_index made.state r.source ≡ slice_index l r.source = made.source small in omega arith)
-                | inr e ↦ absurd (omega arith)
-              ]);
-              at = made.targets j held.place refl;
-            })
+        | inl idle ↦ elim is.sourced [
+          | inl small ↦ (let there : r.source < length l = omega (arith, is_box.count) in
+              let made = choose-two l h (r.queue j) v r.source (slice_index l r.source) is_box.below at_j there held.low held.high (omega arith) (is_box.below.each r.source there)
+              (λ e. absurd (is.no_source j held.place (sym e))) in
+              record { state = made.0; between = made.1; kept = inr (subst (λ n. n < r.least) (sym made.3) idle); at = made.2 })
+          | inr e ↦ absurd (omega arith)
+        ]
         | inr rival ↦ (let i = rival.0 in
-            let w = rival.3.0 in
-            let made = state_with r is l h is_box.below is_box.count (λ k n. AreTwo j v i w k n) (λ n. Unit {0})
-            (λ k small. two r l h j v i w k is is_box held rival.2 rival.3.1 rival.3.2 small)
-            (λ small. (slice_index l r.source, omega arith, is_box.below.each r.source (let count = is_box.count in omega arith), tt)) in
-            let here : slice_index made.state (r.queue j) ≡ v = (made.targets j held.place).own refl in
-            let there : slice_index made.state (r.queue i) ≡ w = (made.targets i rival.1).other refl in
+            let w = rival.3 in
+            let made = choose-two l h (r.queue j) v (r.queue i) w.0 is_box.below at_j (omega (arith, is.is_queue i rival.1, is_box.count)) held.low held.high w.1 w.2
+            (λ e. absurd (rival.2 (is.apart i j rival.1 held.place e))) in
             record {
-              state = made.state;
-              between = made.between;
-              kept = inl (inr (
-                i,
-                rival.1,
-                rival.2,
-                subst (λ n. HasRoom r i n) (sym there) rival.3.3,
-                subst (λ n. r.key i n < r.key j (slice_index made.state (r.queue j))) (sym there)
-                    (subst (λ n. r.key i w < r.key j n) (sym here) rival.3.4),
-              ));
-              at = here;
+              state = made.0;
+              between = made.1;
+              kept = inl (inr (i, rival.1, rival.2, subst (λ n. HasRoom r i n) (sym made.3) w.3, rw (made.2, made.3) w.4));
+              at = made.2;
             })
       ]
     ]
@@ -231,50 +176,36 @@ low_inside : (r : Routing) → IsRouting r → (f : List ℕ → List ℕ) → R
     → IsLowEnd r l h j u → u ≤ slice_index (f x) (r.queue j)
 low_inside r is f routes l h x j u is_box between small end =
     let held = holds_at r is l h x j is_box between small in
-    elim end [
-      | inl first ↦ (let v = first.0 in
-          let is_v : u ≡ v = first.6 in
-          let near : v < slice_index l (r.queue j) + r.size = first.3 in
-          elim (turn_of r is l h x (f x) j is_box between small (routes x (between-long r l h x is_box between))) [
-            | raised can more ↦ omega arith
-            | kept can same ↦ elim (cases_lt (slice_index x (r.queue j)) v) [
-              | inl less ↦ absurd (first.5 (slice_index x (r.queue j)) held.low less can)
-              | inr most ↦ omega arith
-            ]
-          ])
-      | inr all ↦ (let is_u : u ≡ slice_index l (r.queue j) + r.size = all.1 in
-          elim (turn_of r is l h x (f x) j is_box between small (routes x (between-long r l h x is_box between))) [
-            | raised can more ↦ omega arith
-            | kept can same ↦ elim (cases_lt (slice_index x (r.queue j)) (slice_index l (r.queue j) + r.size)) [
-              | inl less ↦ absurd (all.0 (slice_index x (r.queue j)) held.low held.high less can)
-              | inr most ↦ omega arith
-            ]
-          ])
+    elim (turn_of r is l h x (f x) j is_box between small (routes x (between-long r l h x is_box between))) [
+      | raised can more ↦ elim end [ inl first ↦ omega (arith, first.6, first.3) | inr all ↦ omega (arith, all.1) ]
+      | kept can same ↦ elim end [
+        | inl first ↦ elim (cases_lt (slice_index x (r.queue j)) first.0) [
+          | inl less ↦ absurd (first.5 (slice_index x (r.queue j)) held.low less can)
+          | inr most ↦ omega (arith, first.6)
+        ]
+        | inr all ↦ elim (cases_lt (slice_index x (r.queue j)) (slice_index l (r.queue j) + r.size)) [
+          | inl less ↦ absurd (all.0 (slice_index x (r.queue j)) held.low held.high less can)
+          | inr most ↦ omega (arith, all.1)
+        ]
+      ]
     ]
 
 high_inside : (r : Routing) → IsRouting r → (f : List ℕ → List ℕ) → Routes r f → (l h x : List ℕ) (j u : ℕ) → IsBoxOf r l h → IsBetween l h x → j < r.places
     → IsHighEnd r l h j u → slice_index (f x) (r.queue j) ≤ u
 high_inside r is f routes l h x j u is_box between small end =
     let held = holds_at r is l h x j is_box between small in
-    elim end [
-      | inl last ↦ (let v = last.0 in
-          let is_v : u ≡ v + r.size = last.6 in
-          let near : slice_index h (r.queue j) < v + r.size = last.3 in
-          elim (turn_of r is l h x (f x) j is_box between small (routes x (between-long r l h x is_box between))) [
-            | raised can more ↦ elim (cases_lt v (slice_index x (r.queue j))) [
-              | inl less ↦ absurd (last.5 (slice_index x (r.queue j)) less held.high can)
-              | inr most ↦ omega arith
-            ]
-            | kept can same ↦ omega arith
-          ])
-      | inr all ↦ (let is_u : u ≡ slice_index h (r.queue j) = all.1 in
-          elim (turn_of r is l h x (f x) j is_box between small (routes x (between-long r l h x is_box between))) [
-            | raised can more ↦ elim (cases_lt (slice_index h (r.queue j)) (slice_index x (r.queue j) + r.size)) [
-              | inl past ↦ absurd (all.0 (slice_index x (r.queue j)) held.low held.high past can)
-              | inr most ↦ omega arith
-            ]
-            | kept can same ↦ omega arith
-          ])
+    elim (turn_of r is l h x (f x) j is_box between small (routes x (between-long r l h x is_box between))) [
+      | raised can more ↦ elim end [
+        | inl last ↦ elim (cases_lt last.0 (slice_index x (r.queue j))) [
+          | inl less ↦ absurd (last.5 (slice_index x (r.queue j)) less held.high can)
+          | inr most ↦ omega (arith, last.6)
+        ]
+        | inr all ↦ elim (cases_lt (slice_index h (r.queue j)) (slice_index x (r.queue j) + r.size)) [
+          | inl past ↦ absurd (all.0 (slice_index x (r.queue j)) held.low held.high past can)
+          | inr most ↦ omega (arith, all.1)
+        ]
+      ]
+      | kept can same ↦ elim end [ inl last ↦ omega (arith, last.6, last.3, held.high) | inr all ↦ omega (arith, all.1, held.high) ]
     ]
 
 -- so the two are in order

@@ -1,5 +1,6 @@
 -- The ends of what a route makes of a box of states: which numbers of customers of a target can stay as they are, and which can be raised.
 use Rattle.std.specs.Prelude.{◌≡◌, ◌≢◌, ◌⊎◌, ℕ, ◌+◌, ◌<◌, ◌≤◌, List, length, slice_index}
+use Rattle.psi_event.specs.Setting.{AreSet}
 use Rattle.psi_route.specs.Routing.{Routing, HasRoom, Lacks}
 
 -- the least number after some of those from low to high are raised by the size: the least one that may stay as it is, where each below it must rise,
@@ -14,12 +15,6 @@ abbrev pub IsGreatestAfter : (ℕ → Type 0) → (ℕ → Type 0) → ℕ → �
 IsGreatestAfter may_rise must_stay size low high u =
     ((v : ℕ) × (low ≤ v) × (v ≤ high) × (high < v + size) × may_rise v × ((t : ℕ) → v < t → t ≤ high → must_stay t) × (u ≡ v + size))
     ⊎ (((t : ℕ) → low ≤ t → t ≤ high → high < t + size → must_stay t) × (u ≡ high))
-
--- the queues of the first n places have such a number, and the others have what they had
-pub record AreSet (queue : ℕ → ℕ) (E : ℕ → ℕ → Type 0) (start ends : List ℕ) (n : ℕ) : Type 0 where
-  pub count : length ends ≡ length start
-  pub set : (i : ℕ) → i < n → E i (slice_index ends (queue i))
-  pub rest : (p : ℕ) → ((i : ℕ) → i < n → queue i ≢ p) → slice_index ends p ≡ slice_index start p
 
 -- a route in the box from l to h
 module _ (r : Routing) (l h : List ℕ) where
