@@ -1,7 +1,8 @@
 -- Parts that are accepted one after another.
-use Rattle.std.specs.Prelude.{◌≡◌, ℕ, zero, suc, ◌+◌, ◌<◌, ◌≤◌, false, ◌||◌, cond, nat_eq, nat_lt, nat_le, unsigned_abs, List, [], ◌∷◌, ◌++◌, length, drop, slice_index, Option, Some, None, refl}
+use Rattle.std.specs.Prelude.{◌≡◌, ℕ, zero, suc, ◌+◌, ◌<◌, ◌≤◌, Bool, true, false, cond, nat_eq, List, [], ◌∷◌, ◌++◌, length, drop, Option, Some, None, refl}
 use Rattle.std.proofs.Common.{inl, inr, ap, sym, ◌∙◌, subst, arith, length-append, append_assoc}
-use Rattle.std.proofs.lemmas.Bool.{cases_lt, cases_eq, cases_Bool, eq-eqb, ne_eqb, or_parts, ltb-false, leb-false, both_ways}
+use Rattle.std.proofs.lemmas.Bool.Decides.{nat_tests}
+use Rattle.std.proofs.lemmas.Bool.{cases_lt, both_ways}
 use Rattle.std.proofs.lemmas.List.{append-nil, at_drop_more}
 use Rattle.std.proofs.Math.ListN.{get_or-append}
 use Rattle.std.proofs.Math.Seq.{get_or-append_seam}
@@ -19,34 +20,13 @@ few_places n zero f small apart = omega arith
 few_places zero (suc m) f small apart = absurd (let none : f 0 < 0 = small 0 (omega arith) in omega arith)
 few_places (suc n) (suc m) f small apart =
     let rest : m ≤ n = few_places n m (λ i. cond (nat_eq (f i) n) (f m) (f i))
-    (λ i less. elim (cases_eq (f i) n) [
-      | inl e ↦ (let fits : f m < suc n = small m (omega arith) in
-          let other : f m ≡ n → ⊥ = λ top. (let same : i ≡ m = apart i m (omega arith) (omega arith) (e ∙ sym top) in omega arith) in
-          let below : f m < n = elim (cases_eq (f m) n) [ inl top ↦ absurd (other top) | inr ne ↦ omega arith ] in
-          subst (λ v. v < n) (sym (taken (f i) n (f m) e)) below)
-      | inr ne ↦ (let fits : f i < suc n = small i (omega arith) in
-          let below : f i < n = omega arith in
-          subst (λ v. v < n) (sym (left (f i) n (f m) ne)) below)
-    ])
-    (λ i j first second same. elim (cases_eq (f i) n) [
-      | inl e ↦ elim (cases_eq (f j) n) [
-        | inl d ↦ apart i j (omega arith) (omega arith) (e ∙ sym d)
-        | inr other ↦ absurd (let meet : f m ≡ f j = sym (taken (f i) n (f m) e) ∙ (same ∙ left (f j) n (f m) other) in
-            let same_place : m ≡ j = apart m j (omega arith) (omega arith) meet in omega arith)
-      ]
-      | inr ne ↦ elim (cases_eq (f j) n) [
-        | inl d ↦ absurd (let meet : f i ≡ f m = sym (left (f i) n (f m) ne) ∙ (same ∙ taken (f j) n (f m) d) in
-            let same_place : i ≡ m = apart i m (omega arith) (omega arith) meet in omega arith)
-        | inr other ↦ apart i j (omega arith) (omega arith) (sym (left (f i) n (f m) ne) ∙ (same ∙ left (f j) n (f m) other))
-      ]
-    ]) in
+    (λ i less. (let own : f i < suc n = small i (omega arith) in
+    let top : f m < suc n = small m (omega arith) in
+    let other : f i ≡ f m → i ≡ m = apart i m (omega arith) (omega arith) in grind (arith, nat_tests)))
+    (λ i j first second same. (let both : f i ≡ f j → i ≡ j = apart i j (omega arith) (omega arith) in
+    let one : f i ≡ f m → i ≡ m = apart i m (omega arith) (omega arith) in
+    let two : f j ≡ f m → j ≡ m = apart j m (omega arith) (omega arith) in grind (arith, nat_tests))) in
     omega arith
-  where
-    taken : (v n w : ℕ) → v ≡ n → cond (nat_eq v n) w v ≡ w
-    taken v n w e = ap (λ b. cond b w v) (eq-eqb v n e)
-
-    left : (v n w : ℕ) → (v ≡ n → ⊥) → cond (nat_eq v n) w v ≡ v
-    left v n w ne = ap (λ b. cond b w v) (ne_eqb v n ne)
 
 pub guards-few : (caps : List ℕ) (parts : List Part) → AreGuards caps parts → length parts ≤ length caps
 guards-few caps parts guards =
@@ -69,42 +49,28 @@ pub record IsAccepted (caps : List ℕ) (kept : List Part) (part : Part) : Type 
   pub fits : FitsQueue caps part
   pub other : names kept part.queue ≡ false
 
-abbrev last : Part → Option GuardRefusal
-last part = cond (is_empty part) (Some Empty) None
-
-abbrev after : List Part → Part → Option GuardRefusal
-after kept part = cond (names kept part.queue) (Some Repeated) (last part)
+first_none : (a b c : Bool) (p q r : GuardRefusal) → cond a (Some p) (cond b (Some q) (cond c (Some r) None)) ≡ None → (a ≡ false) × (b ≡ false) × (c ≡ false)
+first_none true b c p q r is = absurd cc
+first_none false true c p q r is = absurd cc
+first_none false false true p q r is = absurd cc
+first_none false false false p q r is = (refl, refl, refl)
 
 pub accepted-at : (caps : List ℕ) (kept : List Part) (part : Part) → refusal_at caps kept part ≡ None → IsAccepted caps kept part
 accepted-at caps kept part none =
-    elim (cases_Bool (is_out caps part)) [
-      | inl out ↦ absurd (let is : refusal_at caps kept part ≡ Some OutOfRange = ap (λ b. cond b (Some OutOfRange) (after kept part)) out in cc)
-      | inr within ↦ (let first : refusal_at caps kept part ≡ after kept part = ap (λ b. cond b (Some OutOfRange) (after kept part)) within in
-          elim (cases_Bool (names kept part.queue)) [
-            | inl named ↦ absurd (let is : after kept part ≡ Some Repeated = ap (λ b. cond b (Some Repeated) (last part)) named in cc)
-            | inr other ↦ (let second : after kept part ≡ last part = ap (λ b. cond b (Some Repeated) (last part)) other in
-                elim (cases_Bool (is_empty part)) [
-                  | inl empty ↦ absurd (let is : last part ≡ Some Empty = ap (λ b. cond b (Some Empty) None) empty in cc)
-                  | inr full ↦ record { fits = fits caps part within full; other = other }
-                ])
-          ])
-    ]
-  where
-    fits : (caps : List ℕ) (part : Part) → is_out caps part ≡ false → is_empty part ≡ false → FitsQueue caps part
-    fits caps part within full =
-        let a = or_parts (nat_le (length caps) part.queue) (nat_lt (slice_index caps part.queue) part.most
-        || (nat_lt (slice_index caps part.queue) part.ceiling || nat_lt 65535 (unsigned_abs part.shift))) within in
-        let b = or_parts (nat_lt (slice_index caps part.queue) part.most) (nat_lt (slice_index caps part.queue) part.ceiling || nat_lt 65535 (unsigned_abs part.shift)) a.1 in
-        let d = or_parts (nat_lt (slice_index caps part.queue) part.ceiling) (nat_lt 65535 (unsigned_abs part.shift)) b.1 in
-        let e = or_parts (nat_lt part.most part.least) (nat_lt part.ceiling part.floor) full in
-        record {
-          queue = leb-false (length caps) part.queue a.0;
-          guard = ltb-false part.most part.least e.0;
-          most = ltb-false (slice_index caps part.queue) part.most b.0;
-          limits = ltb-false part.ceiling part.floor e.1;
-          ceiling = ltb-false (slice_index caps part.queue) part.ceiling d.0;
-          shift = ltb-false 65535 (unsigned_abs part.shift) d.1;
-        }
+    let tests = first_none (is_out caps part) (names kept part.queue) (is_empty part) OutOfRange Repeated Empty none in
+    let within : is_out caps part ≡ false = tests.0 in
+    let full : is_empty part ≡ false = tests.2 in
+    record {
+      fits = record {
+        queue = grind (arith, nat_tests);
+        guard = grind (arith, nat_tests);
+        most = grind (arith, nat_tests);
+        limits = grind (arith, nat_tests);
+        ceiling = grind (arith, nat_tests);
+        shift = grind (arith, nat_tests);
+      };
+      other = tests.1;
+    }
 
 pub guards-push : (caps : List ℕ) (kept : List Part) (part : Part) → AreGuards caps kept → refusal_at caps kept part ≡ None → AreGuards caps (kept ++ part ∷ [])
 guards-push caps kept part guards none =

@@ -135,24 +135,19 @@ monotone_without r caps f is none = record {
       });
 }
 
+-- no state is both within all guards and outside one
+pub allows-apart : (r : Rule) (x : List ℕ) → AllowsAll r x → RefusesSome r x → ⊥
+allows-apart r x allowed refused =
+    let low = allowed.low refused.queue refused.place in
+    let high = allowed.high refused.queue refused.place in
+    elim refused.out [ inl out ↦ omega arith | inr out ↦ omega arith ]
+
 -- a state whose numbers are all within the guards goes where its queues move, and one with a number outside stays
 pub allowed_moves : (r : Rule) (x y : List ℕ) (q : ℕ) → Makes r x y → AllowsAll r x → q < r.queues → slice_index y q ≡ r.moves q (slice_index x q)
-allowed_moves r x y q made allowed place =
-    elim made.turn [
-      | inl a ↦ a.1 q place
-      | inr b ↦ absurd (let low : r.least b.0.queue ≤ slice_index x b.0.queue = allowed.low b.0.queue b.0.place in
-          let high : slice_index x b.0.queue ≤ r.most b.0.queue = allowed.high b.0.queue b.0.place in
-          elim b.0.out [ inl out ↦ omega arith | inr out ↦ omega arith ])
-    ]
+allowed_moves r x y q made allowed place = elim made.turn [ inl a ↦ a.1 q place | inr b ↦ absurd (allows-apart r x allowed b.0) ]
 
 pub refused_stays : (r : Rule) (x y : List ℕ) (q : ℕ) → Makes r x y → RefusesSome r x → q < r.queues → slice_index y q ≡ slice_index x q
-refused_stays r x y q made refused place =
-    elim made.turn [
-      | inl a ↦ absurd (let low : r.least refused.queue ≤ slice_index x refused.queue = a.0.low refused.queue refused.place in
-          let high : slice_index x refused.queue ≤ r.most refused.queue = a.0.high refused.queue refused.place in
-          elim refused.out [ inl out ↦ omega arith | inr out ↦ omega arith ])
-      | inr b ↦ b.1 q place
-    ]
+refused_stays r x y q made refused place = elim made.turn [ inl a ↦ absurd (allows-apart r x a.0 refused) | inr b ↦ b.1 q place ]
 
 -- two states, one allowed and one refused, that come in the wrong order at queue q
 pub upset_up : (r : Rule) (caps : List ℕ) (f : List ℕ → List ℕ) (x y : List ℕ) (q u v : ℕ) → IsRuleOf r caps f → IsBelow y caps → IsBelow x y → q < r.queues

@@ -1,7 +1,7 @@
 -- The pairs of states that the four tests show.
-use Rattle.std.specs.Prelude.{◌≡◌, ℕ, ◌+◌, ◌-◌, ◌<◌, ◌≤◌, Bool, true, ◌&&◌, not, cond, nat_eq, nat_lt, List, length, slice_index, slice_set, Option, Some, None, refl}
-use Rattle.std.proofs.Common.{inl, inr, ap, sym, ◌∙◌, subst, arith, length-set, get_or-set_same, get_or-set_other}
-use Rattle.std.proofs.lemmas.Bool.{cases_eq, cases_Bool, and_parts, and_from, ltb-true, lt-ltb, eqb-false, ne_eqb, not-true, not_from_false}
+use Rattle.std.specs.Prelude.{◌≡◌, ℕ, ◌+◌, ◌-◌, ◌<◌, ◌≤◌, Bool, true, false, ◌&&◌, not, cond, nat_eq, nat_lt, List, length, slice_index, slice_set, Option, Some, None, refl}
+use Rattle.std.proofs.Common.{inl, inr, sym, ◌∙◌, subst, arith, length-set, get_or-set_same, get_or-set_other}
+use Rattle.std.proofs.lemmas.Bool.{cases_eq, and_parts, and_from, ltb-true, lt-ltb, eqb-false, ne_eqb, not-true, not_from_false}
 use Rattle.psi_state.specs.State.{IsBelow}
 use Rattle.psi_event.specs.Choice.{first_or}
 use Rattle.psi_event.proofs.ChoiceLemmas.{first_some-of_none, first_some-of_found}
@@ -64,23 +64,14 @@ pair_of r caps f p u v b x y is all first second less room = record {
   };
 }
 
--- an answer isn't none
-none_some : {A : Type 0} (a : A) (o : Option A) → o ≡ None → o ≡ Some a → ⊥
-none_some a o none some = cc
-
-same_some : {A : Type 0} (a b : A) (o : Option A) → o ≡ Some a → o ≡ Some b → a ≡ b
-same_some a b o first second = cc
-
 -- a test that succeeds, and one that doesn't
 test-some : {A : Type 0} (b : Bool) (a found : A) → cond b (Some a) None ≡ Some found → (b ≡ true) × (a ≡ found)
-test-some b a found is =
-    elim (cases_Bool b) [
-      | inl holds ↦ (holds, same_some a found (cond b (Some a) None) (ap (λ t. cond t (Some a) None) holds) is)
-      | inr other ↦ absurd (none_some found (cond b (Some a) None) (ap (λ t. cond t (Some a) None) other) is)
-    ]
+test-some true a found is = (refl, cc)
+test-some false a found is = absurd cc
 
 test-none : {A : Type 0} (b : Bool) (a : A) → cond b (Some a) None ≡ None → b ≡ true → ⊥
-test-none b a is holds = none_some a (cond b (Some a) None) is (ap (λ t. cond t (Some a) None) holds)
+test-none true a is holds = absurd cc
+test-none false a is holds = absurd cc
 
 abbrev IsShown : List ℕ → List Part → List ℕ × List ℕ → Type 0
 IsShown caps parts pair = IsUpset caps (guarded parts) pair.0 pair.1
@@ -209,28 +200,15 @@ pair-none caps f p q none place other = queue-none caps (f p) q (queue-none caps
 
 passes-none : (caps : List ℕ) (parts : List Part) → FindsNone caps parts → PassesNone (rule caps parts)
 passes-none caps parts none = record {
-  own_above = λ p place room over.
-      (let most = (part_of caps parts p).most in
-      test-none (exceeds caps parts p && nat_lt (most + 1) (moved (part_of caps parts p) most)) (around_most caps parts p)
-      (queue-none caps (own_above caps parts) p none.own_above place)
-      (and_from (exceeds caps parts p) (nat_lt (most + 1) (moved (part_of caps parts p) most)) (lt-ltb most (slice_index caps p) room) (lt-ltb (most + 1) (moved (part_of caps parts p) most) over)));
-  other_above = λ p q place other apart room over.
-      (let least = (part_of caps parts q).least in
-      test-none (exceeds caps parts p && (not (nat_eq p q) && nat_lt least (moved (part_of caps parts q) least))) (around_most caps parts p)
-      (pair-none caps (other_above caps parts) p q none.other_above place other)
-      (and_from (exceeds caps parts p) (not (nat_eq p q) && nat_lt least (moved (part_of caps parts q) least)) (lt-ltb (part_of caps parts p).most (slice_index caps p) room)
-      (and_from (not (nat_eq p q)) (nat_lt least (moved (part_of caps parts q) least)) (not_from_false (nat_eq p q) (ne_eqb p q apart)) (lt-ltb least (moved (part_of caps parts q) least) over))));
-  own_below = λ p place some under.
-      (let least = (part_of caps parts p).least in
-      test-none (falls_short caps parts p && nat_lt (moved (part_of caps parts p) least) (least - 1)) (around_least caps parts p)
-      (queue-none caps (own_below caps parts) p none.own_below place)
-      (and_from (falls_short caps parts p) (nat_lt (moved (part_of caps parts p) least) (least - 1)) (lt-ltb 0 least some) (lt-ltb (moved (part_of caps parts p) least) (least - 1) under)));
-  other_below = λ p q place other apart some under.
-      (let most = (part_of caps parts q).most in
-      test-none (falls_short caps parts p && (not (nat_eq p q) && nat_lt (moved (part_of caps parts q) most) most)) (both_with q most (around_least caps parts p))
+  own_above = λ p place room over. test-none _ (around_most caps parts p) (queue-none caps (own_above caps parts) p none.own_above place)
+      (and_from _ _ (lt-ltb _ _ room) (lt-ltb _ _ over));
+  other_above = λ p q place other apart room over. test-none _ (around_most caps parts p) (pair-none caps (other_above caps parts) p q none.other_above place other)
+      (and_from _ _ (lt-ltb _ _ room) (and_from _ _ (not_from_false _ (ne_eqb p q apart)) (lt-ltb _ _ over)));
+  own_below = λ p place some under. test-none _ (around_least caps parts p) (queue-none caps (own_below caps parts) p none.own_below place)
+      (and_from _ _ (lt-ltb _ _ some) (lt-ltb _ _ under));
+  other_below = λ p q place other apart some under. test-none _ (both_with q (part_of caps parts q).most (around_least caps parts p))
       (pair-none caps (other_below caps parts) p q none.other_below place other)
-      (and_from (falls_short caps parts p) (not (nat_eq p q) && nat_lt (moved (part_of caps parts q) most) most) (lt-ltb 0 (part_of caps parts p).least some)
-      (and_from (not (nat_eq p q)) (nat_lt (moved (part_of caps parts q) most) most) (not_from_false (nat_eq p q) (ne_eqb p q apart)) (lt-ltb (moved (part_of caps parts q) most) most under))));
+      (and_from _ _ (lt-ltb _ _ some) (and_from _ _ (not_from_false _ (ne_eqb p q apart)) (lt-ltb _ _ under)));
 }
 
 -- so the event keeps the order of states
@@ -245,56 +223,36 @@ queue-shows caps parts f pair each is =
     let high : found.0 < 0 + length caps = found.2 in
     each found.0 pair (omega arith) found.3
 
-pub own_above-show : (caps : List ℕ) (parts : List Part) (pair : List ℕ × List ℕ) → AreGuards caps parts → over_queues caps (own_above caps parts) ≡ Some pair → IsShown caps parts pair
+own_above-show : (caps : List ℕ) (parts : List Part) (pair : List ℕ × List ℕ) → AreGuards caps parts → over_queues caps (own_above caps parts) ≡ Some pair → IsShown caps parts pair
 own_above-show caps parts pair guards is = queue-shows caps parts (own_above caps parts) pair (λ p found place at. own_above-shows caps parts p found guards place at) is
 
-pub own_below-show : (caps : List ℕ) (parts : List Part) (pair : List ℕ × List ℕ) → AreGuards caps parts → over_queues caps (own_below caps parts) ≡ Some pair → IsShown caps parts pair
+own_below-show : (caps : List ℕ) (parts : List Part) (pair : List ℕ × List ℕ) → AreGuards caps parts → over_queues caps (own_below caps parts) ≡ Some pair → IsShown caps parts pair
 own_below-show caps parts pair guards is = queue-shows caps parts (own_below caps parts) pair (λ p found place at. own_below-shows caps parts p found guards place at) is
 
-pub other_above-show : (caps : List ℕ) (parts : List Part) (pair : List ℕ × List ℕ) → AreGuards caps parts → over_pairs caps (other_above caps parts) ≡ Some pair → IsShown caps parts pair
+other_above-show : (caps : List ℕ) (parts : List Part) (pair : List ℕ × List ℕ) → AreGuards caps parts → over_pairs caps (other_above caps parts) ≡ Some pair → IsShown caps parts pair
 other_above-show caps parts pair guards is =
     queue-shows caps parts (λ p. over_queues caps (other_above caps parts p)) pair (λ p found place at.
     queue-shows caps parts (other_above caps parts p) found (λ q last other there. other_above-shows caps parts p q last guards place other there) at) is
 
-pub other_below-show : (caps : List ℕ) (parts : List Part) (pair : List ℕ × List ℕ) → AreGuards caps parts → over_pairs caps (other_below caps parts) ≡ Some pair → IsShown caps parts pair
+other_below-show : (caps : List ℕ) (parts : List Part) (pair : List ℕ × List ℕ) → AreGuards caps parts → over_pairs caps (other_below caps parts) ≡ Some pair → IsShown caps parts pair
 other_below-show caps parts pair guards is =
     queue-shows caps parts (λ p. over_queues caps (other_below caps parts p)) pair (λ p found place at.
     queue-shows caps parts (other_below caps parts p) found (λ q last other there. other_below-shows caps parts p q last guards place other there) at) is
 
--- the pair is that of the first test that succeeds
-pub upset_of-own_above : (caps : List ℕ) (parts : List Part) (pair : List ℕ × List ℕ) → over_queues caps (own_above caps parts) ≡ Some pair → upset_of caps parts ≡ Some pair
+-- the pair is that of the first test that succeeds, and without one no test does
+first-shows : (caps : List ℕ) (parts : List Part) (a b c d : Option (List ℕ × List ℕ)) → over_queues caps (own_above caps parts) ≡ a → over_pairs caps (other_above caps parts) ≡ b
+    → over_queues caps (own_below caps parts) ≡ c → over_pairs caps (other_below caps parts) ≡ d → AreGuards caps parts
+    → ShowsUpset caps (guarded parts) (first_or a (first_or b (first_or c d)))
+first-shows caps parts (Some pair) b c d one two three four guards = own_above-show caps parts pair guards one
+first-shows caps parts None (Some pair) c d one two three four guards = other_above-show caps parts pair guards two
+first-shows caps parts None None (Some pair) d one two three four guards = own_below-show caps parts pair guards three
+first-shows caps parts None None None (Some pair) one two three four guards = other_below-show caps parts pair guards four
+first-shows caps parts None None None None one two three four guards =
+    none-monotone caps parts guards (record { own_above = one; other_above = two; own_below = three; other_below = four })
+
+pub upset-shows : (caps : List ℕ) (parts : List Part) (o : Option (List ℕ × List ℕ)) → AreGuards caps parts → o ≡ upset_of caps parts → ShowsUpset caps (guarded parts) o
 unfolding upset_of
-upset_of-own_above caps parts pair is =
-    ap (λ o. first_or o (first_or (over_pairs caps (other_above caps parts)) (first_or (over_queues caps (own_below caps parts)) (over_pairs caps (other_below caps parts))))) is
-
-pub upset_of-later : (caps : List ℕ) (parts : List Part) → over_queues caps (own_above caps parts) ≡ None
-    → upset_of caps parts ≡ first_or (over_pairs caps (other_above caps parts)) (first_or (over_queues caps (own_below caps parts)) (over_pairs caps (other_below caps parts)))
-unfolding upset_of
-upset_of-later caps parts none =
-    ap (λ o. first_or o (first_or (over_pairs caps (other_above caps parts)) (first_or (over_queues caps (own_below caps parts)) (over_pairs caps (other_below caps parts))))) none
-
-pub upset_of-other_above : (caps : List ℕ) (parts : List Part) (pair : List ℕ × List ℕ) → over_queues caps (own_above caps parts) ≡ None
-    → over_pairs caps (other_above caps parts) ≡ Some pair → upset_of caps parts ≡ Some pair
-upset_of-other_above caps parts pair none is =
-    upset_of-later caps parts none ∙ ap (λ o. first_or o (first_or (over_queues caps (own_below caps parts)) (over_pairs caps (other_below caps parts)))) is
-
-pub upset_of-own_below : (caps : List ℕ) (parts : List Part) (pair : List ℕ × List ℕ) → over_queues caps (own_above caps parts) ≡ None
-    → over_pairs caps (other_above caps parts) ≡ None → over_queues caps (own_below caps parts) ≡ Some pair → upset_of caps parts ≡ Some pair
-upset_of-own_below caps parts pair none empty is =
-    upset_of-later caps parts none
-    ∙ (ap (λ o. first_or o (first_or (over_queues caps (own_below caps parts)) (over_pairs caps (other_below caps parts)))) empty
-    ∙ ap (λ o. first_or o (over_pairs caps (other_below caps parts))) is)
-
-pub upset_of-other_below : (caps : List ℕ) (parts : List Part) → over_queues caps (own_above caps parts) ≡ None
-    → over_pairs caps (other_above caps parts) ≡ None → over_queues caps (own_below caps parts) ≡ None → upset_of caps parts ≡ over_pairs caps (other_below caps parts)
-upset_of-other_below caps parts none empty gone =
-    upset_of-later caps parts none
-    ∙ (ap (λ o. first_or o (first_or (over_queues caps (own_below caps parts)) (over_pairs caps (other_below caps parts)))) empty
-    ∙ ap (λ o. first_or o (over_pairs caps (other_below caps parts))) gone)
-
--- the last test decides
-pub other_below-decide : (caps : List ℕ) (parts : List Part) (o : Option (List ℕ × List ℕ)) → AreGuards caps parts → over_queues caps (own_above caps parts) ≡ None
-    → over_pairs caps (other_above caps parts) ≡ None → over_queues caps (own_below caps parts) ≡ None → o ≡ over_pairs caps (other_below caps parts) → ShowsUpset caps (guarded parts) o
-other_below-decide caps parts None guards none empty gone is =
-    none-monotone caps parts guards (record { own_above = none; other_above = empty; own_below = gone; other_below = sym is })
-other_below-decide caps parts (Some pair) guards none empty gone is = other_below-show caps parts pair guards (sym is)
+upset-shows caps parts o guards is =
+    subst (λ (p : Option (List ℕ × List ℕ)). ShowsUpset caps (guarded parts) p) (sym is)
+    (first-shows caps parts (over_queues caps (own_above caps parts)) (over_pairs caps (other_above caps parts)) (over_queues caps (own_below caps parts)) (over_pairs caps (other_below caps parts))
+    refl refl refl refl guards)

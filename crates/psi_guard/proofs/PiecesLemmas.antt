@@ -1,7 +1,8 @@
 -- Lemmas. What the pieces of a guarded event add and take is what it does.
-use Rattle.std.specs.Prelude.{◌≡◌, ◌≢◌, ℕ, zero, suc, ◌+◌, ◌<◌, ◌≤◌, min, max, ℤ, pos, negsuc, ◌⊎◌, List, [], ◌∷◌, length, slice_index, slice_index_or, Bool, true, false, ◌&&◌, ◌||◌, nat_eq, nat_le, nat_lt, if◌then◌else◌, refl}
+use Rattle.std.specs.Prelude.{◌≡◌, ◌≢◌, ℕ, zero, suc, ◌+◌, ◌<◌, ◌≤◌, min, max, ℤ, pos, negsuc, ◌⊎◌, List, [], ◌∷◌, length, slice_index, slice_index_or, Bool, true, false, nat_le, nat_lt, if◌then◌else◌, refl}
 use Rattle.std.proofs.Common.{inl, inr, ap, sym, ◌∙◌, subst, arith}
-use Rattle.std.proofs.lemmas.Bool.{cases_lt, cases_eq, cases_Bool, lt-ltb, le-ltb, le-leb, lt-leb, leb-true, eq-eqb, ne_eqb, eqb-true, and_parts, and_cases, and_from, and_left, and_right, or_cases}
+use Rattle.std.proofs.lemmas.Bool.Decides.{nat_tests}
+use Rattle.std.proofs.lemmas.Bool.{both_ways, true_from_ne_false, false_from_ne_true, cases_lt, cases_eq, cases_Bool, lt-ltb, le-ltb, le-leb, lt-leb, eq-eqb, ne_eqb, and_parts, and_cases}
 use Rattle.psi_state.specs.State.{AreCapacities, IsBelow}
 use Rattle.psi_event.specs.declared.sides.Side.{Side}
 use Rattle.psi_event.specs.declared.sides.Side.TheVariants.{Any, AtLeast, Below}
@@ -17,15 +18,6 @@ use Rattle.psi_guard.specs.Inner.RuleLaws.{fits_guard, makes}
 use Rattle.psi_guard.specs.Pieces.{ups, downs, is_exact, is_clipped, guard_side, guard_bound, clip_side, clip_bound, exact_at, clipped_at, SaysOf, exact, own_pieces, AreTold, Tell}
 
 -- ---- a piece applies where each number is on its side
-
-pub all_on-true : (sides : List Side) (bounds x : List ℕ) → length bounds ≡ length sides → length x ≡ length sides
-    → ((q : ℕ) → q < length x → is_on (slice_index_or sides q Any) (slice_index bounds q) (slice_index x q) ≡ true) → all_on sides bounds x ≡ true
-all_on-true [] bounds x long_bounds long_x each = refl
-all_on-true (s ∷ sides) [] x long_bounds long_x each = absurd (omega arith)
-all_on-true (s ∷ sides) (b ∷ bounds) [] long_bounds long_x each = absurd (omega arith)
-all_on-true (s ∷ sides) (b ∷ bounds) (v ∷ x) long_bounds long_x each =
-    and_from (is_on s b v) (all_on sides bounds x) (each 0 (omega arith))
-    (all_on-true sides bounds x (omega arith) (omega arith) (λ q small. each (suc q) (omega arith)))
 
 pub all_on-each : (sides : List Side) (bounds x : List ℕ) (q : ℕ) → length bounds ≡ length sides → length x ≡ length sides → all_on sides bounds x ≡ true → q < length x
     → is_on (slice_index_or sides q Any) (slice_index bounds q) (slice_index x q) ≡ true
@@ -48,25 +40,19 @@ all_on-some (s ∷ sides) (b ∷ bounds) (v ∷ x) long_bounds long_x off =
           let small : found.0 < length x = found.1 in (suc found.0, omega arith, found.2))
     ]
 
+pub all_on-true : (sides : List Side) (bounds x : List ℕ) → length bounds ≡ length sides → length x ≡ length sides
+    → ((q : ℕ) → q < length x → is_on (slice_index_or sides q Any) (slice_index bounds q) (slice_index x q) ≡ true) → all_on sides bounds x ≡ true
+all_on-true sides bounds x long_bounds long_x each = true_from_ne_false (all_on sides bounds x) (λ off.
+    (let found = all_on-some sides bounds x long_bounds long_x off in both_ways _ found.2 (each found.0 found.1)))
+
 pub all_on-out : (sides : List Side) (bounds x : List ℕ) (q : ℕ) → length bounds ≡ length sides → length x ≡ length sides → q < length x
     → is_on (slice_index_or sides q Any) (slice_index bounds q) (slice_index x q) ≡ false → all_on sides bounds x ≡ false
-all_on-out [] bounds x q long_bounds long_x small off = absurd (omega arith)
-all_on-out (s ∷ sides) [] x q long_bounds long_x small off = absurd (omega arith)
-all_on-out (s ∷ sides) (b ∷ bounds) [] q long_bounds long_x small off = absurd (omega arith)
-all_on-out (s ∷ sides) (b ∷ bounds) (v ∷ x) zero long_bounds long_x small off = and_left (is_on s b v) (all_on sides bounds x) off
-all_on-out (s ∷ sides) (b ∷ bounds) (v ∷ x) (suc q) long_bounds long_x small off =
-    and_right (is_on s b v) (all_on sides bounds x) (all_on-out sides bounds x q (omega arith) (omega arith) (omega arith) off)
-
-is_on-at : (side s : Side) (bound b v : ℕ) (on : Bool) → side ≡ s → bound ≡ b → is_on s b v ≡ on → is_on side bound v ≡ on
-is_on-at side s bound b v on is_side is_bound is =
-    ap (λ t. is_on t bound v) is_side ∙ ap (λ c. is_on s c v) is_bound ∙ is
+all_on-out sides bounds x q long_bounds long_x small off =
+    false_from_ne_true (all_on sides bounds x) (λ on. both_ways _ off (all_on-each sides bounds x q long_bounds long_x on small))
 
 if-zero : (b : Bool) (v : ℕ) → v ≡ 0 → if_on b v ≡ 0
 if-zero true v none = none
 if-zero false v none = refl
-
-true-false : (b : Bool) → b ≡ true → b ≡ false → ⊥
-true-false b is_true is_false = absurd cc
 
 -- ---- what a part makes of a number
 
@@ -111,33 +97,16 @@ module _ (cap : ℕ) (part : Part) where
     pub high : cap ≤ part.ceiling + downs part.shift
 
   exact-facts : is_exact cap part ≡ true → ExactFacts
-  exact-facts is =
-      let both = and_parts (nat_eq part.least 0 || nat_le cap part.most)
-      (nat_le (part.floor + downs part.shift) (part.least + ups part.shift) && nat_le (part.most + ups part.shift) (part.ceiling + downs part.shift)) is in
-      let ends = and_parts (nat_le (part.floor + downs part.shift) (part.least + ups part.shift)) (nat_le (part.most + ups part.shift) (part.ceiling + downs part.shift)) both.1 in
-      record {
-        sided = elim (or_cases (nat_eq part.least 0) (nat_le cap part.most) both.0) [
-          | inl none ↦ inl (eqb-true part.least 0 none)
-          | inr most ↦ inr (leb-true cap part.most most)
-        ];
-        low = leb-true (part.floor + downs part.shift) (part.least + ups part.shift) ends.0;
-        high = leb-true (part.most + ups part.shift) (part.ceiling + downs part.shift) ends.1;
-      }
+  exact-facts is = record { sided = grind (arith, nat_tests); low = grind (arith, nat_tests); high = grind (arith, nat_tests) }
 
   clipped-facts : is_clipped cap part ≡ true → ClippedFacts
-  clipped-facts is =
-      let both = and_parts (nat_eq part.least 0 && nat_le cap part.most)
-      (nat_eq (ups part.shift + downs part.shift) 1 && (nat_le part.floor (ups part.shift) && nat_le cap (part.ceiling + downs part.shift))) is in
-      let whole = and_parts (nat_eq part.least 0) (nat_le cap part.most) both.0 in
-      let rest = and_parts (nat_eq (ups part.shift + downs part.shift) 1) (nat_le part.floor (ups part.shift) && nat_le cap (part.ceiling + downs part.shift)) both.1 in
-      let ends = and_parts (nat_le part.floor (ups part.shift)) (nat_le cap (part.ceiling + downs part.shift)) rest.1 in
-      record {
-        least = eqb-true part.least 0 whole.0;
-        most = leb-true cap part.most whole.1;
-        one = eqb-true (ups part.shift + downs part.shift) 1 rest.0;
-        low = leb-true part.floor (ups part.shift) ends.0;
-        high = leb-true cap (part.ceiling + downs part.shift) ends.1;
-      }
+  clipped-facts is = record {
+    least = grind (arith, nat_tests);
+    most = grind (arith, nat_tests);
+    one = grind (arith, nat_tests);
+    low = grind (arith, nat_tests);
+    high = grind (arith, nat_tests);
+  }
 
   moved-exact : ExactFacts → (v : ℕ) → part.least ≤ v → v ≤ part.most → moved part v + downs part.shift ≡ v + ups part.shift
   moved-exact facts v low high = shift-exact part.shift part.floor part.ceiling part.least part.most v facts.low facts.high low high
@@ -280,8 +249,8 @@ module _ (caps : List ℕ) (parts : List Part) (guards : AreGuards caps parts) (
         let small = below.each q there in
         elim (turn-of q some.place) [
           | inl turn ↦ (let off = guard-refuses (cap_at q) (part_at q) turn.facts (slice_index x q) small some.out in
-              let first_off : first_is_on q ≡ false = is_on-at (slice_index_or p.first.sides q Any) (guard_side (cap_at q) (part_at q)) (slice_index p.bounds q) (guard_bound (cap_at q) (part_at q)) (slice_index x q) false turn.say.first.side turn.say.bound off in
-              let second_off : second_is_on q ≡ false = is_on-at (slice_index_or p.second.sides q Any) (guard_side (cap_at q) (part_at q)) (slice_index p.bounds q) (guard_bound (cap_at q) (part_at q)) (slice_index x q) false turn.say.second.side turn.say.bound off in
+              let first_off : first_is_on q ≡ false = rw (turn.say.first.side, turn.say.bound) off in
+              let second_off : second_is_on q ≡ false = rw (turn.say.second.side, turn.say.bound) off in
               sum-by p x y false false
               (all_on-out p.first.sides p.bounds x q long_bounds_first long_first there first_off)
               (all_on-out p.second.sides p.bounds x q long_bounds_second long_second there second_off)
@@ -298,9 +267,9 @@ module _ (caps : List ℕ) (parts : List Part) (guards : AreGuards caps parts) (
       allowed-first = all_on-true p.first.sides p.bounds x long_bounds_first long_first (λ q there.
           (let small : q < length caps = (let same = below.same_length in omega arith) in
           elim (turn-of q small) [
-            | inl turn ↦ is_on-at (slice_index_or p.first.sides q Any) (guard_side (cap_at q) (part_at q)) (slice_index p.bounds q) (guard_bound (cap_at q) (part_at q)) (slice_index x q) true turn.say.first.side turn.say.bound
+            | inl turn ↦ rw (turn.say.first.side, turn.say.bound)
                 (guard-allows (cap_at q) (part_at q) (slice_index x q) (allows.low q small) (allows.high q small))
-            | inr turn ↦ is_on-at (slice_index_or p.first.sides q Any) Any (slice_index p.bounds q) (clip_bound (cap_at q) (part_at q)) (slice_index x q) true turn.say.first.side turn.say.bound refl
+            | inr turn ↦ rw turn.say.first.side
           ]))
 
       -- an exact part changes its queue in the first piece
@@ -316,16 +285,16 @@ module _ (caps : List ℕ) (parts : List Part) (guards : AreGuards caps parts) (
           omega (arith, made, at, up, down, no_up, no_down)
 
       clip-at : (q : ℕ) (on : Bool) → ClippedTurn caps parts p q → is_on (clip_side (cap_at q) (part_at q)) (clip_bound (cap_at q) (part_at q)) (slice_index x q) ≡ on → second_is_on q ≡ on
-      clip-at q on turn is = is_on-at (slice_index_or p.second.sides q Any) (clip_side (cap_at q) (part_at q)) (slice_index p.bounds q) (clip_bound (cap_at q) (part_at q)) (slice_index x q) on turn.say.second.side turn.say.bound is
+      clip-at q on turn is = rw (turn.say.second.side, turn.say.bound) is
 
       -- where a part is clipped, the second piece applies where its queue is on its side
       clipped-only : (q r : ℕ) → q < length caps → r < length caps → ClippedTurn caps parts p q → second_is_on r ≡ false → second_is_on q ≡ true → ⊥
       clipped-only q r small r_small turn r_off q_on = elim (turn-of r r_small) [
-        | inl other ↦ (let on = is_on-at (slice_index_or p.second.sides r Any) (guard_side (cap_at r) (part_at r)) (slice_index p.bounds r) (guard_bound (cap_at r) (part_at r)) (slice_index x r) true other.say.second.side other.say.bound
+        | inl other ↦ (let on : second_is_on r ≡ true = rw (other.say.second.side, other.say.bound)
             (guard-allows (cap_at r) (part_at r) (slice_index x r) (allows.low r r_small) (allows.high r r_small)) in
-            true-false (second_is_on r) on r_off)
+            both_ways (second_is_on r) r_off on)
         | inr other ↦ (let same = told.alone q r small r_small turn.is other.is in
-            true-false (second_is_on r) (sym (ap (λ t. second_is_on t) same) ∙ q_on) r_off)
+            both_ways (second_is_on r) r_off (sym (ap (λ t. second_is_on t) same) ∙ q_on))
       ]
 
       -- where the second piece applies, the clipped part changes its queue
@@ -342,8 +311,8 @@ module _ (caps : List ℕ) (parts : List Part) (guards : AreGuards caps parts) (
                   let second_up = turn.say.second.up in
                   let second_down = turn.say.second.down in
                   omega (arith, made, at, up, down, second_up, second_down))
-              | inr stays ↦ absurd (true-false (second_is_on q)
-                  (all_on-each p.second.sides p.bounds x q long_bounds_second long_second on there) (clip-at q false turn stays.0))
+              | inr stays ↦ absurd (both_ways (second_is_on q) (clip-at q false turn stays.0)
+                  (all_on-each p.second.sides p.bounds x q long_bounds_second long_second on there))
             ]
           ]))
 

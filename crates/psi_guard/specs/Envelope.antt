@@ -6,6 +6,18 @@ use Rattle.psi_guard.specs.declared.envelope.Leaving.TheVariants.{Nowhere, One, 
 use Rattle.psi_guard.specs.Guarding.{moved}
 use Rattle.psi_guard.specs.Rule.{Rule}
 
+-- in this order, u is the first of what becomes of the numbers from l to h: of those moved, where there are any, and of those kept
+pub record IsEnd (Moves : Type 0) (Keeps : ℕ → Type 0) (before : ℕ → ℕ → Type 0) (l h image u : ℕ) : Type 0 where
+  pub moved : Moves → before u image
+  pub kept : (v : ℕ) → l ≤ v → v ≤ h → Keeps v → before u v
+  pub reached : (Moves × (u ≡ image)) ⊎ (Keeps u × ((l ≤ u) × (u ≤ h)))
+
+abbrev pub IsLeastEnd : Type 0 → (ℕ → Type 0) → ℕ → ℕ → ℕ → ℕ → Type 0
+IsLeastEnd Moves Keeps l h image u = IsEnd Moves Keeps (λ a b. a ≤ b) l h image u
+
+abbrev pub IsGreatestEnd : Type 0 → (ℕ → Type 0) → ℕ → ℕ → ℕ → ℕ → Type 0
+IsGreatestEnd Moves Keeps l h image u = IsEnd Moves Keeps (λ a b. b ≤ a) l h image u
+
 -- an event with this rule, in the box from l to h
 module _ (r : Rule) (l h : List ℕ) where
   -- some number of queue p in the box from l to h isn't within its guard
@@ -35,18 +47,12 @@ module _ (r : Rule) (l h : List ℕ) where
   CanKeep q v = OtherLeaves q ⊎ ((v < r.least q) ⊎ (r.most q < v))
 
   -- u is the least number of queue q among what the event makes of the box
-  pub record IsLow (q u : ℕ) : Type 0 where
-    pub moved : CanMoveAll → u ≤ r.moves q (max (slice_index l q) (r.least q))
-    pub kept : (v : ℕ) → slice_index l q ≤ v → v ≤ slice_index h q → CanKeep q v → u ≤ v
-    pub reached : (CanMoveAll × (u ≡ r.moves q (max (slice_index l q) (r.least q))))
-        ⊎ (CanKeep q u × ((slice_index l q ≤ u) × (u ≤ slice_index h q)))
+  abbrev pub IsLow : ℕ → ℕ → Type 0
+  IsLow q u = IsLeastEnd CanMoveAll (λ v. CanKeep q v) (slice_index l q) (slice_index h q) (r.moves q (max (slice_index l q) (r.least q))) u
 
   -- w is the greatest
-  pub record IsHigh (q w : ℕ) : Type 0 where
-    pub moved : CanMoveAll → r.moves q (min (slice_index h q) (r.most q)) ≤ w
-    pub kept : (v : ℕ) → slice_index l q ≤ v → v ≤ slice_index h q → CanKeep q v → v ≤ w
-    pub reached : (CanMoveAll × (w ≡ r.moves q (min (slice_index h q) (r.most q))))
-        ⊎ (CanKeep q w × ((slice_index l q ≤ w) × (w ≤ slice_index h q)))
+  abbrev pub IsHigh : ℕ → ℕ → Type 0
+  IsHigh q w = IsGreatestEnd CanMoveAll (λ v. CanKeep q v) (slice_index l q) (slice_index h q) (r.moves q (min (slice_index h q) (r.most q))) w
 
   -- which queues leave their guards
   abbrev pub Knows : Leaving → Type 0
@@ -73,16 +79,12 @@ MayKeep part stays v = (stays ≡ true) ⊎ ((v < part.least) ⊎ (part.most < v
 -- a part whose queue holds a number from l to h, where the event may move or may stop for another queue
 module _ (part : Part) (l h : ℕ) (moves stays : Bool) where
   -- the least number of a part's queue: of those moved, where there are any, and of those kept
-  pub record IsLeastOf (u : ℕ) : Type 0 where
-    pub image : moves ≡ true → u ≤ moved part (max l part.least)
-    pub kept : (v : ℕ) → l ≤ v → v ≤ h → MayKeep part stays v → u ≤ v
-    pub reached : ((moves ≡ true) × (u ≡ moved part (max l part.least))) ⊎ (MayKeep part stays u × ((l ≤ u) × (u ≤ h)))
+  abbrev pub IsLeastOf : ℕ → Type 0
+  IsLeastOf u = IsLeastEnd (moves ≡ true) (λ v. MayKeep part stays v) l h (moved part (max l part.least)) u
 
   -- the greatest
-  pub record IsGreatestOf (w : ℕ) : Type 0 where
-    pub image : moves ≡ true → moved part (min h part.most) ≤ w
-    pub kept : (v : ℕ) → l ≤ v → v ≤ h → MayKeep part stays v → v ≤ w
-    pub reached : ((moves ≡ true) × (w ≡ moved part (min h part.most))) ⊎ (MayKeep part stays w × ((l ≤ w) × (w ≤ h)))
+  abbrev pub IsGreatestOf : ℕ → Type 0
+  IsGreatestOf w = IsGreatestEnd (moves ≡ true) (λ v. MayKeep part stays v) l h (moved part (min h part.most)) w
 
   -- some number of the queue is moved or kept
   abbrev pub CanTurn : Type 0

@@ -1,9 +1,9 @@
 -- Laws. The parts of a guarded event by their queues.
 use Rattle.std.specs.Prelude.{◌≡◌, ℕ, zero, suc, ◌+◌, ◌<◌, ◌≤◌, pos, negsuc, ℤ, true, false, cond, ◌⊎◌, nat_le, List, [], ◌∷◌, length, slice_index, refl}
-use Rattle.std.proofs.Common.{inl, inr, ap, sym, ◌∙◌, arith}
+use Rattle.std.proofs.Common.{inl, inr, ap, sym, ◌∙◌, subst, arith}
 use Rattle.std.proofs.lemmas.Bool.{cases_eq, eq-eqb, ne_eqb, and_parts, and_cases, leb-true, leb-false}
 use Rattle.psi_guard.specs.declared.parts.Part.{Part}
-use Rattle.psi_guard.specs.Guarding.{shifted, moved, allows, all_allow, next, map_places, part_of}
+use Rattle.psi_guard.specs.Guarding.{shifted, moved, allows, all_allow, next, map_places, free_part, part_of}
 use Rattle.psi_guard.specs.Refusals.{AreApart, at}
 use Rattle.psi_guard.specs.Places.{IsNamed, IsFree}
 
@@ -42,6 +42,15 @@ named_or_free caps (part ∷ parts) q =
         → (i : ℕ) → i < length (part ∷ parts) → (at (part ∷ parts) i).queue ≡ q → ⊥
     others part parts q here there zero small same = here same
     others part parts q here there (suc i) small same = there i (omega arith) same
+
+-- what is so of each part at its queue, and of the part of a queue that none names, is so of the part of every queue
+pub part_of-each : (caps : List ℕ) (parts : List Part) (P : ℕ → Part → Type 0) (q : ℕ) → ((i : ℕ) → i < length parts → P (at parts i).queue (at parts i))
+    → P q (free_part (slice_index caps q) q) → P q (part_of caps parts q)
+part_of-each caps parts P q each free =
+    elim (named_or_free caps parts q) [
+      | inl is ↦ subst (λ (part : Part). P q part) (sym is.part) (subst (λ p. P p (at parts is.place)) is.queue (each is.place is.small))
+      | inr is ↦ subst (λ (part : Part). P q part) (sym is.part) free
+    ]
 
 -- what becomes of a number is what its queue's part makes of it
 pub next-part_of : (caps : List ℕ) (parts : List Part) (q v : ℕ) → v ≤ slice_index caps q → next parts q v ≡ moved (part_of caps parts q) v

@@ -7,19 +7,14 @@ use Rattle.psi_event.specs.Law.{IsClosed}
 use Rattle.psi_guard.specs.declared.parts.Part.{Part}
 use Rattle.psi_guard.specs.Guarding.{shifted, moved, all_allow, next, map_places, guarded, part_of}
 use Rattle.psi_guard.specs.Refusals.{AreGuards, at}
-use Rattle.psi_guard.specs.Inner.PlacesLaws.{named_or_free, part_of-at, next-part_of, all_allow-true, all_allow-false, length-map_places, slice_index-map_places, shifted-rises, shifted-slow}
+use Rattle.psi_guard.specs.Inner.PlacesLaws.{part_of-each, part_of-at, next-part_of, all_allow-true, all_allow-false, length-map_places, slice_index-map_places, shifted-rises, shifted-slow}
 use Rattle.psi_guard.specs.Rule.{IsRule, rule, RefusesSome, Makes, FitsGuard}
 
 pub fits_guard : (caps : List ℕ) (parts : List Part) (q : ℕ) → AreGuards caps parts → FitsGuard (slice_index caps q) (part_of caps parts q)
 fits_guard caps parts q guards =
-    elim (named_or_free caps parts q) [
-      | inl named ↦ (let fits = guards.each named.place named.small in
-          let cap : slice_index caps (at parts named.place).queue ≡ slice_index caps q = ap (λ p. slice_index caps p) named.queue in
-          subst (λ (part : Part). FitsGuard (slice_index caps q) part) (sym named.part)
-          (record { guard = fits.guard; most = omega (arith, fits.most); ceiling = omega (arith, fits.ceiling) }))
-      | inr free ↦ subst (λ (part : Part). FitsGuard (slice_index caps q) part) (sym free.part)
-          (record { guard = omega arith; most = omega arith; ceiling = omega arith })
-    ]
+    part_of-each caps parts (λ p part. FitsGuard (slice_index caps p) part) q
+    (λ i small. (let fits = guards.each i small in record { guard = fits.guard; most = fits.most; ceiling = fits.ceiling }))
+    (record { guard = omega arith; most = omega arith; ceiling = omega arith })
 
 pub moved-rises : (part : Part) (v d : ℕ) → moved part v ≤ moved part (v + d)
 moved-rises part v d = (let step : shifted part.shift v ≤ shifted part.shift (v + d) = shifted-rises part.shift v d in omega arith)
@@ -39,13 +34,8 @@ is_rule caps parts guards = record {
 pub allowed_place : (caps : List ℕ) (parts : List Part) (x : List ℕ) (p : ℕ) → IsBelow x caps → all_allow parts x ≡ true → p < length caps
     → ((part_of caps parts p).least ≤ slice_index x p) × (slice_index x p ≤ (part_of caps parts p).most)
 allowed_place caps parts x p below is place =
-    elim (named_or_free caps parts p) [
-      | inl named ↦ (let ends = all_allow-true parts x is named.place named.small in
-          subst (λ (part : Part). (part.least ≤ slice_index x p) × (slice_index x p ≤ part.most)) (sym named.part)
-          (subst (λ q. ((at parts named.place).least ≤ slice_index x q) × (slice_index x q ≤ (at parts named.place).most)) named.queue ends))
-      | inr free ↦ subst (λ (part : Part). (part.least ≤ slice_index x p) × (slice_index x p ≤ part.most)) (sym free.part)
-          (omega arith, below.each p (omega (arith, below.same_length)))
-    ]
+    part_of-each caps parts (λ q part. (part.least ≤ slice_index x q) × (slice_index x q ≤ part.most)) p (all_allow-true parts x is)
+    (omega arith, below.each p (omega (arith, below.same_length)))
 
 pub guarded-moves : (parts : List Part) (x : List ℕ) → all_allow parts x ≡ true → guarded parts x ≡ map_places (next parts) 0 x
 unfolding guarded
