@@ -5,7 +5,7 @@ use Rattle.psi_event.proofs.ChoiceLemmas.{first_some-none, first_some-found}
 use Rattle.psi_index.specs.Extremes.{IsFront}
 use Rattle.psi_route.specs.Routing.{Shape, routing, weight, crosses, pair_of, pair_at, pair_from, pair_between}
 use Rattle.psi_route.proofs.ActingLemmas.{then_some-true, then_some-false}
-use Rattle.psi_route.proofs.UpsetLemmas.{crosses-is, is-crosses}
+use Rattle.psi_route.proofs.UpsetLemmas.{crosses-is, is-crosses, not-crosses}
 use Rattle.psi_route.specs.Falls.{NoFall, NoFalls, IsFall, IsLeastFall, IsPast, AreFalls}
 
 -- the least number whose value, and that of one more, lie on both sides of the bound for another place's value
@@ -39,22 +39,19 @@ fall-found s table a b w first below bound own place other few apart room room_b
         falls = subst (λ k. 32 * weight s a k + a < 32 * weight s b w + b) (sym next) sides.0;
         above = sides.1;
       });
-      before = λ u small. elim (cases_Bool (crosses (routing s) a b u w)) [
-        | inr fails ↦ fails
-        | inl passes ↦ absurd (let cross = is-crosses (routing s) a b u w place other passes in
-            let falls : 32 * weight s a (u + 1) + a < 32 * weight s b w + b = cross.falls in
-            let over : 32 * weight s b w + b < 32 * weight s a u + a = cross.above in
-            elim (cases_lt u first) [
-              | inl low ↦ (let under = before u low in elim (cases_lt a b) [
-                | inl small_a ↦ (let is = later small_a in omega arith)
-                | inr small_b ↦ (let is = earlier small_b in omega arith)
-              ])
-              | inr high ↦ (let up = between (u + 1) (omega arith) (omega arith) in elim (cases_lt a b) [
-                | inl small_a ↦ (let is = later small_a in omega arith)
-                | inr small_b ↦ (let is = earlier small_b in omega arith)
-              ])
+      before = λ u small. not-crosses (routing s) a b u w place other (λ cross.
+          (let falls : 32 * weight s a (u + 1) + a < 32 * weight s b w + b = cross.falls in
+          let over : 32 * weight s b w + b < 32 * weight s a u + a = cross.above in
+          elim (cases_lt u first) [
+            | inl low ↦ (let under = before u low in elim (cases_lt a b) [
+              | inl small_a ↦ (let is = later small_a in omega arith)
+              | inr small_b ↦ (let is = earlier small_b in omega arith)
             ])
-      ];
+            | inr high ↦ (let up = between (u + 1) (omega arith) (omega arith) in elim (cases_lt a b) [
+              | inl small_a ↦ (let is = later small_a in omega arith)
+              | inr small_b ↦ (let is = earlier small_b in omega arith)
+            ])
+          ]));
     }
   where
     below_apart : (m n : ℕ) → m ≤ n → (m ≡ n → ⊥) → m < n
@@ -65,7 +62,7 @@ all-none : (s : Shape) (a b w : ℕ) → a < length s.targets → b < length s.t
     → (v : ℕ) → crosses (routing s) a b v w ≡ false
 all-none s a b w first second none v = elim (cases_Bool (crosses (routing s) a b v w)) [
   | inr fails ↦ fails
-  | inl passes ↦ (let cross = is-crosses (routing s) a b v w first second passes in none.each v cross.room)
+  | inl passes ↦ none.each v (is-crosses (routing s) a b v w first second passes).room
 ]
 
 -- one number more, past which no key falls
@@ -92,16 +89,13 @@ falls-none s a b n past (Some p) first second before limit no_more = record {
 pub rising-no_fall : (s : Shape) (table : List ℕ) (a b w front past : ℕ) → table ≡ get_or s.tables a [] → a < length s.targets → b < length s.targets → IsFront table front → past ≤ front
     → NoFall s a b w past
 rising-no_fall s table a b w front past own first second rising few = record {
-  each = λ v small. elim (cases_Bool (crosses (routing s) a b v w)) [
-    | inr fails ↦ fails
-    | inl passes ↦ absurd (let cross = is-crosses (routing s) a b v w first second passes in
-        let falls : 32 * weight s a (v + 1) + a < 32 * weight s b w + b = cross.falls in
-        let above : 32 * weight s b w + b < 32 * weight s a v + a = cross.above in
-        let here : slice_index table v ≡ weight s a v = ap (λ (t : List ℕ). slice_index t v) own in
-        let next : slice_index table (v + 1) ≡ weight s a (v + 1) = ap (λ (t : List ℕ). slice_index t (v + 1)) own in
-        let more : slice_index table v ≤ slice_index table (v + 1) = rising.rises v (omega arith) in
-        omega arith)
-  ];
+  each = λ v small. not-crosses (routing s) a b v w first second (λ cross.
+      (let falls : 32 * weight s a (v + 1) + a < 32 * weight s b w + b = cross.falls in
+      let above : 32 * weight s b w + b < 32 * weight s a v + a = cross.above in
+      let here : slice_index table v ≡ weight s a v = ap (λ (t : List ℕ). slice_index t v) own in
+      let next : slice_index table (v + 1) ≡ weight s a (v + 1) = ap (λ (t : List ℕ). slice_index t (v + 1)) own in
+      let more : slice_index table v ≤ slice_index table (v + 1) = rising.rises v (omega arith) in
+      omega arith));
 }
 
 -- where no key falls before the fall that is found, past whatever number, it is the least of all
@@ -138,11 +132,3 @@ between-some s a b n p first second found all =
     (λ w low less. then_some-false (crosses (routing s) a b p.0 w) (pair_of s a b p.0 w) (found.at w less)))
     (λ v low less. first_some-none (λ w. pair_at s a b v w) 0 (slice_index s.caps (slice_index s.targets b)) (λ w least most.
     then_some-false (crosses (routing s) a b v w) (pair_of s a b v w) (found.before v w (omega arith) less))))
-
--- where nothing is found, no fall is there
-pub found-none : (s : Shape) (a b n : ℕ) (found : Option (ℕ × ℕ)) → AreFalls s a b n found → found ≡ None → NoFalls s a b n
-found-none s a b n None falls is = falls
-found-none s a b n (Some p) falls is = absurd cc
-
-pub found-some : (s : Shape) (a b n : ℕ) (found : Option (ℕ × ℕ)) (p : ℕ × ℕ) → AreFalls s a b n found → found ≡ Some p → IsLeastFall s a b n p
-found-some s a b n found p falls is = subst (λ (o : Option (ℕ × ℕ)). AreFalls s a b n o) is falls

@@ -138,13 +138,6 @@ without-ordered r l h a b q m n below at small low high =
     let first : length (without r a l) ≡ length l = length-set {A = ℕ} l r.source (slice_index l r.source - (if a then 1 else 0)) in
     let last : length (without r b h) ≡ length h = length-set {A = ℕ} h r.source (slice_index h r.source - (if b then 1 else 0)) in
     let same = below.same_length in
-    let order : slice_index (without r a l) r.source ≤ slice_index (without r b h) r.source = below.each r.source (omega arith) in
-    let low_is : slice_index (without r a l) r.source ≡ slice_index l r.source - (if a then 1 else 0) =
-    get_or-set_same {A = ℕ} l r.source (slice_index l r.source - (if a then 1 else 0)) 0 (omega arith) in
-    let high_is : slice_index (without r b h) r.source ≡ slice_index h r.source - (if b then 1 else 0) =
-    get_or-set_same {A = ℕ} h r.source (slice_index h r.source - (if b then 1 else 0)) 0 (omega arith) in
-    let l_at : m ≡ slice_index l r.source = low ∙ ap (λ k. slice_index l k) (sym at) in
-    let h_at : n ≡ slice_index h r.source = high ∙ ap (λ k. slice_index h k) (sym at) in
-    subst (λ k. k - (if a then 1 else 0) ≤ n - (if b then 1 else 0)) (sym l_at)
-    (subst (λ k. slice_index l r.source - (if a then 1 else 0) ≤ k - (if b then 1 else 0)) (sym h_at)
-    (subst (λ k. k ≤ slice_index h r.source - (if b then 1 else 0)) low_is (subst (λ k. slice_index (without r a l) r.source ≤ k) high_is order)))
+    let low_is = get_or-set_same {A = ℕ} l r.source (slice_index l r.source - (if a then 1 else 0)) 0 (omega arith) in
+    let high_is = get_or-set_same {A = ℕ} h r.source (slice_index h r.source - (if b then 1 else 0)) 0 (omega arith) in
+    rw (low, high, ← at) (rw (low_is, high_is) at (below.each r.source (omega arith)))

@@ -1,5 +1,5 @@
 -- One pass over the targets of a route without tables: the ends of each, and how far the customers come.
-use Rattle.std.proofs.Common.{◌≡◌, ◌≢◌, ℕ, ◌+◌, ◌<◌, ◌≤◌, min, List, length, slice_index, slice_set, Bool, true, false, inl, inr, refl, ap, sym, ◌∙◌, subst, arith}
+use Rattle.std.proofs.Common.{◌≡◌, ◌≢◌, ℕ, ◌+◌, ◌<◌, ◌≤◌, min, List, length, slice_index, slice_set, Bool, true, false, inl, inr, refl, ap, sym, ◌∙◌, subst, arith, below_more}
 use Rattle.std.specs.Bool.{MatchBool}
 use Rattle.std.proofs.lemmas.Bool.{cases_lt}
 use Rattle.psi_state.specs.State.{IsBelow}
@@ -180,13 +180,7 @@ low-put r l h j room u false plain is at misses low kept roomy narrow =
 -- ---- how far the customers come
 
 pub comes-more : (r : Routing) (x : List ℕ) (n : ℕ) → Comes r x n → Lacks r n (slice_index x (r.queue n)) → Comes r x (n + 1)
-comes-more r x n comes lacks = record {
-  serve = comes.serve;
-  before = λ i small. elim (cases_lt i n) [
-    | inl less ↦ comes.before i less
-    | inr more ↦ (let e : n ≡ i = omega arith in subst (λ k. Lacks r k (slice_index x (r.queue k))) e lacks)
-  ];
-}
+comes-more r x n comes lacks = record { serve = comes.serve; before = below_more _ _ comes.before lacks }
 
 pub misses-more : (r : Routing) (x : List ℕ) (n m : ℕ) → n ≤ m → Misses r x n → Misses r x m
 misses-more r x n m more misses =

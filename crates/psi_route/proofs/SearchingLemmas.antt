@@ -1,13 +1,12 @@
 -- Searching for keys that cross.
-use Rattle.std.proofs.Common.{◌≡◌, ℕ, ◌+◌, ◌*◌, ◌<◌, ◌≤◌, List, [], length, get_or, slice_index, Option, Some, None, is_some, is_none, Bool, true, false, not, if◌then◌else◌, inl, inr, refl, ap, sym, ◌∙◌, subst, arith}
-use Rattle.std.proofs.lemmas.Bool.{cases_lt, cases_Bool, lt-leb}
+use Rattle.std.proofs.Common.{◌≡◌, ℕ, ◌+◌, ◌*◌, ◌<◌, ◌≤◌, [], length, get_or, slice_index, Option, Some, None, is_some, is_none, Bool, true, false, not, refl, sym, arith}
 use Rattle.psi_event.specs.Choice.{first_some}
 use Rattle.psi_event.proofs.ChoiceLemmas.{first_some-none, first_some-found}
 use Rattle.psi_index.specs.Extremes.{IsRising}
-use Rattle.psi_route.specs.Routing.{Shape, routing, weight, crosses, pair_of, pair_at, pair_from, pair_between, pair_behind, first_pair, batch_pair, upset_of}
+use Rattle.psi_route.specs.Routing.{Shape, routing, weight, crosses, pair_of, pair_at, pair_from, pair_between, pair_behind, first_pair}
 use Rattle.psi_route.proofs.ActingLemmas.{then_some-false}
 use Rattle.psi_route.specs.Accepted.{IsRouteShape}
-use Rattle.psi_route.proofs.UpsetLemmas.{is-crosses}
+use Rattle.psi_route.proofs.UpsetLemmas.{not-crosses}
 use Rattle.psi_route.proofs.PlainLemmas.{weight-none}
 
 -- the first answer, as a loop finds it
@@ -24,11 +23,6 @@ pub none-there : {A : Type 0} (o p : Option A) (b : Bool) → o ≡ p → b ≡ 
 none-there None p b is tells absent = sym is
 none-there (Some a) p b is tells absent = absurd cc
 
--- what holds below a number and there holds below the next one
-pub none-more : {A : Type 0} (f : ℕ → Option A) (n : ℕ) → ((k : ℕ) → k < n → f k ≡ None) → f n ≡ None → (k : ℕ) → k < n + 1 → f k ≡ None
-none-more f n before here k small =
-    elim (cases_lt k n) [ inl less ↦ before k less | inr more ↦ (let e : n ≡ k = omega arith in subst (λ j. f j ≡ None) e here) ]
-
 -- no keys cross where the value doesn't fall
 pub level-none : (s : Shape) (a b v : ℕ) → a < length s.targets → b < length s.targets
     → ((v + 1 < slice_index s.caps (slice_index s.targets a)) × (weight s a (v + 1) < weight s a v) → ⊥) → pair_from s a b v ≡ None
@@ -36,13 +30,10 @@ unfolding pair_from
 level-none s a b v first second level =
     first_some-none (λ w. pair_at s a b v w) 0 (slice_index s.caps (slice_index s.targets b)) (λ w low high.
     then_some-false (crosses (routing s) a b v w) (pair_of s a b v w)
-    (elim (cases_Bool (crosses (routing s) a b v w)) [
-      | inr fails ↦ fails
-      | inl passes ↦ absurd (let cross = is-crosses (routing s) a b v w first second passes in
-          let falls : 32 * weight s a (v + 1) + a < 32 * weight s b w + b = cross.falls in
-          let above : 32 * weight s b w + b < 32 * weight s a v + a = cross.above in
-          level (cross.room, omega arith))
-    ]))
+    (not-crosses (routing s) a b v w first second (λ cross.
+    (let falls : 32 * weight s a (v + 1) + a < 32 * weight s b w + b = cross.falls in
+    let above : 32 * weight s b w + b < 32 * weight s a v + a = cross.above in
+    level (cross.room, omega arith)))))
 
 -- nor where it rises throughout
 pub rising-none : (s : Shape) (a : ℕ) → IsRouteShape s → a < length s.targets → 0 < length s.tables → IsRising (get_or s.tables a []) → pair_behind s a ≡ None
@@ -70,11 +61,6 @@ plain-none s plain =
     let own : weight s a v ≡ 0 = weight-none s a v plain in
     let less : weight s a (v + 1) < weight s a v = fall.1 in
     absurd (omega arith))))))
-
--- the pair of a route of one customer
-pub single-is : (s : Shape) (o : Option (List ℕ × List ℕ)) → s.size < 2 → o ≡ first_pair s → o ≡ upset_of s
-unfolding upset_of
-single-is s o single is = is ∙ sym (ap (λ t. if t then Some (batch_pair s) else first_pair s) (lt-leb 2 s.size single))
 
 -- an answer isn't there where it is none
 pub absent-is : {A : Type 0} (o : Option A) (b : Bool) → is_some o ≡ not b → b ≡ is_none o

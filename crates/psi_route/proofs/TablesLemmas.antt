@@ -1,26 +1,8 @@
 -- Lemmas. Which tables fit a list of queues: as many, each as long as the capacity of its queue.
 use Rattle.std.specs.Prelude.{◌≡◌, ◌≢◌, ℕ, zero, suc, ◌<◌, List, [], ◌∷◌, length, get_or, slice_index, true, false, nat_eq, refl}
 use Rattle.std.proofs.Common.{ap, arith}
-use Rattle.std.proofs.lemmas.Bool.{eq-eqb, ne_eqb, eqb-true, and_left, and_right, and_from, and_parts}
+use Rattle.std.proofs.lemmas.Bool.{eq-eqb, eqb-true, and_from, and_parts, false_from_ne_true}
 use Rattle.psi_route.specs.Refusals.{are_tables}
-
--- tables that are too few or too many
-pub are_tables-count : (caps qs : List ℕ) (ts : List (List ℕ)) → length ts ≢ length qs → are_tables caps qs ts ≡ false
-are_tables-count caps [] [] other = absurd (other refl)
-are_tables-count caps [] (t ∷ ts) other = refl
-are_tables-count caps (q ∷ qs) [] other = refl
-are_tables-count caps (q ∷ qs) (t ∷ ts) other =
-    and_right (nat_eq (length t) (slice_index caps q)) (are_tables caps qs ts) (are_tables-count caps qs ts (λ e. other (ap suc e)))
-
--- one that is too long or too short
-pub are_tables-at : (caps qs : List ℕ) (ts : List (List ℕ)) (i : ℕ) → i < length qs → length (get_or ts i []) ≢ slice_index caps (slice_index qs i)
-    → length ts ≡ length qs → are_tables caps qs ts ≡ false
-are_tables-at caps [] ts i small other count = absurd (omega arith)
-are_tables-at caps (q ∷ qs) [] i small other count = refl
-are_tables-at caps (q ∷ qs) (t ∷ ts) zero small other count =
-    and_left (nat_eq (length t) (slice_index caps q)) (are_tables caps qs ts) (ne_eqb (length t) (slice_index caps q) other)
-are_tables-at caps (q ∷ qs) (t ∷ ts) (suc i) small other count =
-    and_right (nat_eq (length t) (slice_index caps q)) (are_tables caps qs ts) (are_tables-at caps qs ts i (omega arith) other (omega arith))
 
 -- as many, and each as long as its queue's capacity
 pub are_tables-each : (caps qs : List ℕ) (ts : List (List ℕ)) → length ts ≡ length qs
@@ -48,3 +30,13 @@ are_tables-true caps (q ∷ qs) (t ∷ ts) is =
         → (i : ℕ) → i < length (t ∷ ts) → length (get_or (t ∷ ts) i []) ≡ slice_index caps (slice_index (q ∷ qs) i)
     placed caps q qs t ts here there zero small = here
     placed caps q qs t ts here there (suc i) small = there i (omega arith)
+
+-- so not tables that are too few or too many
+pub are_tables-count : (caps qs : List ℕ) (ts : List (List ℕ)) → length ts ≢ length qs → are_tables caps qs ts ≡ false
+are_tables-count caps qs ts other = false_from_ne_true (are_tables caps qs ts) (λ is. other (are_tables-true caps qs ts is).0)
+
+-- nor one that is too long or too short
+pub are_tables-at : (caps qs : List ℕ) (ts : List (List ℕ)) (i : ℕ) → i < length qs → length (get_or ts i []) ≢ slice_index caps (slice_index qs i)
+    → length ts ≡ length qs → are_tables caps qs ts ≡ false
+are_tables-at caps qs ts i small other count =
+    false_from_ne_true (are_tables caps qs ts) (λ is. other ((are_tables-true caps qs ts is).1 i (omega (arith, count))))

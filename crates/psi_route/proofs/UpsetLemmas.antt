@@ -1,7 +1,8 @@
 -- The pair of states that a route answers shows that it doesn't keep their order; where there is none, it keeps the order of all.
-use Rattle.std.specs.Prelude.{◌≡◌, ◌≢◌, ◌↔◌, ℕ, ◌+◌, ◌-◌, ◌<◌, ◌≤◌, List, length, slice_index, slice_set, Option, Some, None, true, false, not, nat_eq, is_none, IsTrue, if◌then◌else◌, refl}
+use Rattle.std.specs.Prelude.{◌≡◌, ◌≢◌, ℕ, ◌+◌, ◌-◌, ◌<◌, ◌≤◌, List, length, slice_index, slice_set, Option, Some, None, true, false, if◌then◌else◌, refl}
 use Rattle.std.proofs.Common.{inl, inr, ap, sym, ◌∙◌, subst, arith, length-set, get_or-set_same, get_or-set_other}
-use Rattle.std.proofs.lemmas.Bool.{cases_lt, cases_eq, not-true, eqb-false, ne_eqb, ltb-true, lt-ltb, le-leb, lt-leb}
+use Rattle.std.proofs.lemmas.Bool.{cases_lt, cases_eq, le-leb, lt-leb, false_from_ne_true}
+use Rattle.std.proofs.lemmas.Bool.Decides.{nat_tests}
 use Rattle.psi_state.specs.State.{IsBelow}
 use Rattle.psi_state.proofs.BoxesLemmas.{below-itself, set-below}
 use Rattle.psi_event.specs.Law.{IsMonotone, IsUpset, ShowsUpset}
@@ -15,31 +16,23 @@ use Rattle.psi_route.proofs.MonotoneLemmas.{ordered-without}
 
 -- ---- the test for crossing keys
 
-not_same : (a b : ℕ) → a ≢ b → not (nat_eq a b) ≡ true
-not_same a b other = ap not (ne_eqb a b other)
-
-same_not : (a b : ℕ) → not (nat_eq a b) ≡ true → a ≢ b
-same_not a b is = eqb-false a b (not-true (nat_eq a b) is)
-
 pub crosses-is : (r : Routing) (a b v w : ℕ) → Crosses r a b v w → crosses r a b v w ≡ true
-crosses-is r a b v w cross =
-    let two = not_same a b cross.two in
-    let room = lt-ltb (v + 1) (r.cap (r.queue a)) cross.room in
-    let room_b = lt-ltb w (r.cap (r.queue b)) cross.room_b in
-    let falls = lt-ltb (r.key a (v + 1)) (r.key b w) cross.falls in
-    let above = lt-ltb (r.key b w) (r.key a v) cross.above in
-    grind (arith, two, room, room_b, falls, above)
+crosses-is r a b v w cross = grind (arith, nat_tests, cross.two, cross.room, cross.room_b, cross.falls, cross.above)
 
 pub is-crosses : (r : Routing) (a b v w : ℕ) → a < r.places → b < r.places → crosses r a b v w ≡ true → Crosses r a b v w
 is-crosses r a b v w first second is = record {
   first = first;
   second = second;
-  two = same_not a b (grind (arith, is));
-  room = ltb-true (v + 1) (r.cap (r.queue a)) (grind (arith, is));
-  room_b = ltb-true w (r.cap (r.queue b)) (grind (arith, is));
-  falls = ltb-true (r.key a (v + 1)) (r.key b w) (grind (arith, is));
-  above = ltb-true (r.key b w) (r.key a v) (grind (arith, is));
+  two = grind (arith, nat_tests, is);
+  room = grind (arith, nat_tests, is);
+  room_b = grind (arith, nat_tests, is);
+  falls = grind (arith, nat_tests, is);
+  above = grind (arith, nat_tests, is);
 }
+
+-- keys that don't cross fail the test
+pub not-crosses : (r : Routing) (a b v w : ℕ) → a < r.places → b < r.places → (Crosses r a b v w → ⊥) → crosses r a b v w ≡ false
+not-crosses r a b v w first second apart = false_from_ne_true (crosses r a b v w) (λ passes. apart (is-crosses r a b v w first second passes))
 
 -- ---- states in which all but a few queues are full
 
@@ -102,12 +95,26 @@ full-serves s a b v w is first second =
     let most : (routing s).least ≤ slice_index s.caps ((routing s).source) = source-most s is in
     omega arith
 
+-- customers join a target in the lesser state and pass it in the greater one, which holds less there than the lesser one does with them
+gained-upset : (s : Shape) (x y : List ℕ) (b : ℕ) → IsRouteShape s → IsBelow y s.caps → IsBelow x y → (routing s).least ≤ slice_index x ((routing s).source)
+    → IsBest (routing s) x b → IsPassed (routing s) y b → slice_index y (slice_index s.targets b) < slice_index x (slice_index s.targets b) + s.size → IsUpset s.caps (routed s) x y
+unfolding routed
+gained-upset s x y b is within ordered serves best passed less = record {
+  within = within;
+  ordered = ordered;
+  upset = λ below. (let first = act-routed (routing s) (routing-is s is) x (ordered.same_length ∙ within.same_length) in
+      let second = act-routed (routing s) (routing-is s is) y within.same_length in
+      let gained : slice_index (act (routing s) x) (slice_index s.targets b) ≡ slice_index x (slice_index s.targets b) + s.size = first.gains b serves best in
+      let stayed : slice_index (act (routing s) y) (slice_index s.targets b) ≡ slice_index y (slice_index s.targets b) = second.stays b best.place passed in
+      let kept : slice_index (act (routing s) x) (slice_index s.targets b) ≤ slice_index (act (routing s) y) (slice_index s.targets b) =
+      below.each (slice_index s.targets b) (omega (arith, first.long, is.named b best.place)) in
+      omega arith);
+}
+
 -- where keys cross, the pair that is made of them isn't kept in order
 pub crossing-upset : (s : Shape) (a b v w : ℕ) → IsRouteShape s → s.size ≡ 1 → Crosses (routing s) a b v w
     → IsUpset s.caps (routed s) (full_but s a b v w) (full_but s a b (v + 1) w)
-unfolding routed
 crossing-upset s a b v w is one cross =
-    let r = routing-is s is in
     let apart = queues-apart s a b v w is cross in
     let room : v + 1 < slice_index s.caps (slice_index s.targets a) = cross.room in
     let room_b : w < slice_index s.caps (slice_index s.targets b) = cross.room_b in
@@ -115,99 +122,51 @@ crossing-upset s a b v w is one cross =
     let y_first : slice_index (full_but s a b (v + 1) w) (slice_index s.targets a) ≡ v + 1 = full-first s a b (v + 1) w is cross.first in
     let x_second : slice_index (full_but s a b v w) (slice_index s.targets b) ≡ w = full-second s a b v w is cross.second apart in
     let y_second : slice_index (full_but s a b (v + 1) w) (slice_index s.targets b) ≡ w = full-second s a b (v + 1) w is cross.second apart in
-    let x_made = act-routed (routing s) r (full_but s a b v w) (length-full s a b v w) in
-    let y_made = act-routed (routing s) r (full_but s a b (v + 1) w) (length-full s a b (v + 1) w) in
-    let chosen : IsBest (routing s) (full_but s a b v w) b = record {
+    gained-upset s (full_but s a b v w) (full_but s a b (v + 1) w) b is
+    (set-below (slice_set s.caps (slice_index s.targets b) w) s.caps (slice_index s.targets a) (v + 1)
+    (set-below s.caps s.caps (slice_index s.targets b) w (below-itself s.caps) (omega arith)) (omega arith))
+    (sets-below (slice_set s.caps (slice_index s.targets b) w) (slice_index s.targets a) v (v + 1) (omega arith))
+    (full-serves s a b v w is cross.first cross.second)
+    (record {
       place = cross.second;
       room = omega arith;
       others = λ i small other. elim (cases_eq i a) [
-        | inl e ↦ inr (subst (λ k. (routing s).key b (slice_index (full_but s a b v w) (slice_index s.targets b)) < (routing s).key k (slice_index (full_but s a b v w) (slice_index s.targets k))) (sym e)
-            (subst (λ n. (routing s).key b n < (routing s).key a (slice_index (full_but s a b v w) (slice_index s.targets a))) (sym x_second)
-            (subst (λ n. (routing s).key b w < (routing s).key a n) (sym x_first) cross.above)))
+        | inl e ↦ inr (rw (e, x_first, x_second) cross.above)
         | inr ne ↦ inl (full-lacks s a b v w i is cross.first cross.second small ne other)
       ];
-    } in
-    let passed : IsPassed (routing s) (full_but s a b (v + 1) w) b =
-    inr (
-      a,
-      cross.first,
-      cross.two,
-      omega arith,
-      subst (λ n. (routing s).key a (slice_index (full_but s a b (v + 1) w) (slice_index s.targets a)) < (routing s).key b n) (sym y_second)
-          (subst (λ n. (routing s).key a n < (routing s).key b w) (sym y_first) cross.falls),
-    ) in
-    let gained : slice_index (act (routing s) (full_but s a b v w)) (slice_index s.targets b) ≡ slice_index (full_but s a b v w) (slice_index s.targets b) + s.size =
-    x_made.gains b (full-serves s a b v w is cross.first cross.second) chosen in
-    let stayed : slice_index (act (routing s) (full_but s a b (v + 1) w)) (slice_index s.targets b) ≡ slice_index (full_but s a b (v + 1) w) (slice_index s.targets b) =
-    y_made.stays b cross.second passed in
-    record {
-      within = set-below (slice_set s.caps (slice_index s.targets b) w) s.caps (slice_index s.targets a) (v + 1)
-          (set-below s.caps s.caps (slice_index s.targets b) w (below-itself s.caps) (omega arith)) (omega arith);
-      ordered = sets-below (slice_set s.caps (slice_index s.targets b) w) (slice_index s.targets a) v (v + 1) (omega arith);
-      upset = λ below. (let long : length (act (routing s) (full_but s a b v w)) ≡ length s.caps = x_made.long in
-          let small : slice_index s.targets b < length s.caps = is.named b cross.second in
-          let kept : slice_index (act (routing s) (full_but s a b v w)) (slice_index s.targets b) ≤ slice_index (act (routing s) (full_but s a b (v + 1) w)) (slice_index s.targets b) =
-          below.each (slice_index s.targets b) (omega arith) in
-          absurd (omega arith));
-    }
+    })
+    (inr (a, cross.first, cross.two, omega arith, rw (y_first, y_second) cross.falls)) (omega arith)
 
 -- ---- routes of several customers
 
 -- what the first target holds, and every other queue is full
 batch-serves : (s : Shape) (v : ℕ) → IsRouteShape s → 0 < length s.targets → (routing s).least ≤ slice_index (slice_set s.caps (slice_index s.targets 0) v) ((routing s).source)
 batch-serves s v is some =
-    let r = routing-is s is in
     let all : slice_index (slice_set s.caps (slice_index s.targets 0) v) ((routing s).source) ≡ slice_index s.caps ((routing s).source) =
-    get_or-set_other {A = ℕ} s.caps (slice_index s.targets 0) ((routing s).source) v 0 (λ e. r.no_source 0 some (sym e)) in
+    get_or-set_other {A = ℕ} s.caps (slice_index s.targets 0) ((routing s).source) v 0 (λ e. (routing-is s is).no_source 0 some (sym e)) in
     let most : (routing s).least ≤ slice_index s.caps ((routing s).source) = source-most s is in
     omega arith
 
 pub batch-upset : (s : Shape) → IsRouteShape s → 2 ≤ s.size → IsUpset s.caps (routed s) ((batch_pair s).0) ((batch_pair s).1)
-unfolding routed
 batch-upset s is several =
-    let r = routing-is s is in
+    let q = slice_index s.targets 0 in
+    let v = slice_index s.caps q - s.size in
     let some : 1 ≤ length s.targets = is.some several in
-    let small : slice_index s.targets 0 < length s.caps = is.named 0 (omega arith) in
-    let fits : s.size ≤ slice_index s.caps (slice_index s.targets 0) = is.fits 0 (omega arith) in
-    let x_first : slice_index (slice_set s.caps (slice_index s.targets 0) (slice_index s.caps (slice_index s.targets 0) - s.size)) (slice_index s.targets 0)
-    ≡ slice_index s.caps (slice_index s.targets 0) - s.size =
-    get_or-set_same {A = ℕ} s.caps (slice_index s.targets 0) (slice_index s.caps (slice_index s.targets 0) - s.size) 0 small in
-    let y_first : slice_index (slice_set s.caps (slice_index s.targets 0) (slice_index s.caps (slice_index s.targets 0) - s.size + 1)) (slice_index s.targets 0)
-    ≡ slice_index s.caps (slice_index s.targets 0) - s.size + 1 =
-    get_or-set_same {A = ℕ} s.caps (slice_index s.targets 0) (slice_index s.caps (slice_index s.targets 0) - s.size + 1) 0 small in
-    let x_long : length (slice_set s.caps (slice_index s.targets 0) (slice_index s.caps (slice_index s.targets 0) - s.size)) ≡ length s.caps =
-    length-set {A = ℕ} s.caps (slice_index s.targets 0) (slice_index s.caps (slice_index s.targets 0) - s.size) in
-    let y_long : length (slice_set s.caps (slice_index s.targets 0) (slice_index s.caps (slice_index s.targets 0) - s.size + 1)) ≡ length s.caps =
-    length-set {A = ℕ} s.caps (slice_index s.targets 0) (slice_index s.caps (slice_index s.targets 0) - s.size + 1) in
-    let x_made = act-routed (routing s) r (slice_set s.caps (slice_index s.targets 0) (slice_index s.caps (slice_index s.targets 0) - s.size)) x_long in
-    let y_made = act-routed (routing s) r (slice_set s.caps (slice_index s.targets 0) (slice_index s.caps (slice_index s.targets 0) - s.size + 1)) y_long in
-    let chosen : IsBest (routing s) (slice_set s.caps (slice_index s.targets 0) (slice_index s.caps (slice_index s.targets 0) - s.size)) 0 = record {
+    let small : q < length s.caps = is.named 0 (omega arith) in
+    let fits : s.size ≤ slice_index s.caps q = is.fits 0 (omega arith) in
+    let x_first : slice_index (slice_set s.caps q v) q ≡ v = get_or-set_same {A = ℕ} s.caps q v 0 small in
+    let y_first : slice_index (slice_set s.caps q (v + 1)) q ≡ v + 1 = get_or-set_same {A = ℕ} s.caps q (v + 1) 0 small in
+    gained-upset s (slice_set s.caps q v) (slice_set s.caps q (v + 1)) 0 is
+    (set-below s.caps s.caps q (v + 1) (below-itself s.caps) (omega arith)) (sets-below s.caps q v (v + 1) (omega arith)) (batch-serves s v is (omega arith))
+    (record {
       place = omega arith;
       room = omega arith;
       others = λ i place other.
-          (let all : slice_index (slice_set s.caps (slice_index s.targets 0) (slice_index s.caps (slice_index s.targets 0) - s.size)) (slice_index s.targets i)
-          ≡ slice_index s.caps (slice_index s.targets i) =
-          get_or-set_other {A = ℕ} s.caps (slice_index s.targets 0) (slice_index s.targets i) (slice_index s.caps (slice_index s.targets 0) - s.size) 0
-          (λ e. other (is.apart i 0 place (omega arith) e)) in
+          (let all : slice_index (slice_set s.caps q v) (slice_index s.targets i) ≡ slice_index s.caps (slice_index s.targets i) =
+          get_or-set_other {A = ℕ} s.caps q (slice_index s.targets i) v 0 (λ e. other (is.apart i 0 place (omega arith) e)) in
           inl (omega arith));
-    } in
-    let gained : slice_index (act (routing s) (slice_set s.caps (slice_index s.targets 0) (slice_index s.caps (slice_index s.targets 0) - s.size))) (slice_index s.targets 0)
-    ≡ slice_index (slice_set s.caps (slice_index s.targets 0) (slice_index s.caps (slice_index s.targets 0) - s.size)) (slice_index s.targets 0) + s.size =
-    x_made.gains 0 (batch-serves s (slice_index s.caps (slice_index s.targets 0) - s.size) is (omega arith)) chosen in
-    let stayed : slice_index (act (routing s) (slice_set s.caps (slice_index s.targets 0) (slice_index s.caps (slice_index s.targets 0) - s.size + 1))) (slice_index s.targets 0)
-    ≡ slice_index (slice_set s.caps (slice_index s.targets 0) (slice_index s.caps (slice_index s.targets 0) - s.size + 1)) (slice_index s.targets 0) =
-    y_made.stays 0 (omega arith) (inl (omega arith)) in
-    record {
-      within = set-below s.caps s.caps (slice_index s.targets 0) (slice_index s.caps (slice_index s.targets 0) - s.size + 1) (below-itself s.caps) (omega arith);
-      ordered = sets-below s.caps (slice_index s.targets 0) (slice_index s.caps (slice_index s.targets 0) - s.size)
-          (slice_index s.caps (slice_index s.targets 0) - s.size + 1) (omega arith);
-      upset = λ below.
-          (let long : length (act (routing s) (slice_set s.caps (slice_index s.targets 0) (slice_index s.caps (slice_index s.targets 0) - s.size))) ≡ length s.caps = x_made.long in
-          let kept : slice_index (act (routing s) (slice_set s.caps (slice_index s.targets 0) (slice_index s.caps (slice_index s.targets 0) - s.size))) (slice_index s.targets 0)
-          ≤ slice_index (act (routing s) (slice_set s.caps (slice_index s.targets 0) (slice_index s.caps (slice_index s.targets 0) - s.size + 1))) (slice_index s.targets 0) =
-          below.each (slice_index s.targets 0) (omega arith) in
-          absurd (omega arith));
-    }
+    })
+    (inl (omega arith)) (omega arith)
 
 -- ---- the fixed pair
 
@@ -245,7 +204,7 @@ pub upset-several : (s : Shape) → 2 ≤ s.size → upset_of s ≡ Some (batch_
 unfolding upset_of
 upset-several s several = ap (λ t. if t then Some (batch_pair s) else first_pair s) (le-leb 2 s.size several)
 
-upset-single : (s : Shape) → s.size < 2 → upset_of s ≡ first_pair s
+pub upset-single : (s : Shape) → s.size < 2 → upset_of s ≡ first_pair s
 unfolding upset_of
 upset-single s single = ap (λ t. if t then Some (batch_pair s) else first_pair s) (lt-leb 2 s.size single)
 
@@ -283,12 +242,3 @@ upset-shows s is = shown s is (upset_of s) refl
     shown : (s : Shape) → IsRouteShape s → (o : Option (List ℕ × List ℕ)) → upset_of s ≡ o → ShowsUpset s.caps (routed s) o
     shown s is None found = upset-none s is found
     shown s is (Some p) found = upset-some s p is found
-
--- and there is none exactly where it keeps the order
-pub monotone-is : (s : Shape) → IsRouteShape s → IsTrue (is_none (upset_of s)) ↔ IsMonotone s.caps (routed s)
-monotone-is s is = decided s is (upset_of s) refl
-  where
-    decided : (s : Shape) → IsRouteShape s → (o : Option (List ℕ × List ℕ)) → upset_of s ≡ o → IsTrue (is_none o) ↔ IsMonotone s.caps (routed s)
-    decided s is None found = (λ t. upset-none s is found, λ mono. refl)
-    decided s is (Some p) found =
-        (let pair = upset-some s p is found in (λ t. absurd cc, λ mono. absurd (pair.upset (mono.each p.0 p.1 pair.within pair.ordered))))

@@ -36,7 +36,7 @@ impl EventLaw for Route {
     }
 
     fn monotone(&self) -> bool {
-        self.broken().is_none()
+        self.upset().is_none()
     }
 
     fn upset(&self) -> Option<(State, State)> {

@@ -112,7 +112,7 @@ impl Route {
         if most < least {
             return None;
         }
-        let weight = self.least_weight(i, least, most.min(b.greatest(queue)));
+        let weight = self.tables[i as usize].least(least, most.min(b.greatest(queue)));
         Some(Key { weight, place: i })
     }
 
@@ -127,31 +127,7 @@ impl Route {
         if self.most_with_room(i) < most {
             return None;
         }
-        let weight = self.greatest_weight(i, b.least(self.target(i)), most);
+        let weight = self.tables[i as usize].greatest(b.least(self.target(i)), most);
         Some(Key { weight, place: i })
-    }
-
-    // The least value of a target's table from one number of customers to another.
-    fn least_weight(&self, i: u8, first: u16, last: u16) -> u32
-        requires tables { 0 < length self.now.tables.items }
-        requires place { i < length self.now.targets }
-        requires ordered { first ≤ last }
-        requires room { last < slice_index self.now.caps (slice_index self.now.targets i) }
-        ensures below { (v : ℕ) → first ≤ v → v ≤ last → result ≤ weight (shape_of self.now) i v }
-        ensures met { (v : ℕ) × (first ≤ v) × (v ≤ last) × (weight (shape_of self.now) i v ≡ result) }
-    {
-        self.tables[i as usize].least(first, last)
-    }
-
-    // The greatest value of a target's table from one number of customers to another.
-    fn greatest_weight(&self, i: u8, first: u16, last: u16) -> u32
-        requires tables { 0 < length self.now.tables.items }
-        requires place { i < length self.now.targets }
-        requires ordered { first ≤ last }
-        requires room { last < slice_index self.now.caps (slice_index self.now.targets i) }
-        ensures above { (v : ℕ) → first ≤ v → v ≤ last → weight (shape_of self.now) i v ≤ result }
-        ensures met { (v : ℕ) × (first ≤ v) × (v ≤ last) × (weight (shape_of self.now) i v ≡ result) }
-    {
-        self.tables[i as usize].greatest(first, last)
     }
 }

@@ -1,8 +1,8 @@
 -- Answers in the proof of `Route::broken`.
-use Rattle.std.proofs.Common.{ℕ, List, Some, None, sym, ◌∙◌, ap}
-use Rattle.psi_route.proofs.UpsetLemmas.{upset-several}
+use Rattle.std.proofs.Common.{ℕ, List, Some, sym, ◌∙◌, ap}
 use Rattle.psi_route.specs.Route.{shape_of}
-use Rattle.psi_route.proofs.SearchingLemmas.{single-is, plain-none}
+use Rattle.psi_route.proofs.UpsetLemmas.{upset-several, upset-single}
+use Rattle.psi_route.proofs.SearchingLemmas.{plain-none}
 use Rattle.psi_route.proofs.route.Route.broken.Goals as goal
 
 pub returns-then-self-ge2 : goal.returns-then-self-ge2
@@ -11,7 +11,7 @@ returns-then-self-ge2 c =
 
 pub returns-then-is_plain : goal.returns-then-is_plain
 returns-then-is_plain c =
-    single-is (shape_of c.args.self.now) None c.if-self-ge2.false (sym (plain-none (shape_of c.args.self.now) (c.is_plain.ensures.0 c.if-is_plain.true)))
+    sym (upset-single (shape_of c.args.self.now) c.if-self-ge2.false ∙ plain-none (shape_of c.args.self.now) (c.is_plain.ensures.0 c.if-is_plain.true))
 
 pub returns : goal.returns
-returns c = single-is (shape_of c.args.self.now) c.first_pair.result c.if-self-ge2.false c.first_pair.ensures
+returns c = c.first_pair.ensures ∙ sym (upset-single (shape_of c.args.self.now) c.if-self-ge2.false)

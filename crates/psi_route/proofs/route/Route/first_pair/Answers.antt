@@ -1,10 +1,10 @@
 -- Answers in the proof of `Route::first_pair`.
-use Rattle.std.proofs.Common.{◌≡◌, ℕ, List, [], length, subst, refl, arith}
+use Rattle.std.proofs.Common.{◌≡◌, ℕ, List, [], length, subst, refl, arith, below_more}
 use Rattle.std.proofs.lemmas.List.{get_or_read_under}
 use Rattle.psi_index.specs.Extremes.{IsRising}
 use Rattle.psi_route.specs.Routing.{pair_behind, first_pair}
 use Rattle.psi_route.specs.Route.{shape_of}
-use Rattle.psi_route.proofs.SearchingLemmas.{search-found, search-none, none-there, none-more, rising-none}
+use Rattle.psi_route.proofs.SearchingLemmas.{search-found, search-none, none-there, rising-none}
 use Rattle.psi_route.proofs.route.Route.first_pair.Goals as goal
 use Rattle.psi_route.proofs.route.Route.first_pair.Goals.{then-not-rises+else-is_some, else-not-rises}
 
@@ -16,7 +16,7 @@ returns-then-is_some c =
 
 pub loop-a-preserved : goal.loop-a-preserved
 loop-a-preserved c =
-    none-more (λ a. pair_behind (shape_of c.args.self.now) a) c.loop-a.a c.loop-a.invariant
+    below_more _ _ c.loop-a.invariant
     (elim c.if-not-rises.branch [
       | then-not-rises+else-is_some w ↦ none-there w.pair_behind-pair.result (pair_behind (shape_of c.args.self.now) c.loop-a.a) w.is_some.result
           w.pair_behind-pair.ensures w.is_some.ensures w.if-is_some.false

@@ -3,7 +3,7 @@ use Rattle.std.proofs.Common.{◌≡◌, ◌≤◌, ℕ, List, [], Some, length,
 use Rattle.std.proofs.lemmas.List.{get_or_read_under}
 use Rattle.psi_route.specs.Falls.{AreFalls}
 use Rattle.psi_route.specs.Route.{shape_of}
-use Rattle.psi_route.proofs.FallingLemmas.{between-none, between-some, found-none, found-some, rising-no_fall, falls-rest}
+use Rattle.psi_route.proofs.FallingLemmas.{between-none, between-some, rising-no_fall, falls-rest}
 use Rattle.psi_route.proofs.route.Route.pair_between.Goals as goal
 use Rattle.psi_route.proofs.route.Route.pair_between.Goals.{else-loop-w-test, then-loop-w-test+then-past-rising}
 
@@ -24,7 +24,7 @@ returns-in-None c =
           w.if-past-rising.true)
     ] in
     between-none s c.args.a c.args.b (slice_index s.caps (slice_index s.targets c.args.b))
-    (found-none s c.args.a c.args.b (slice_index s.caps (slice_index s.targets c.args.b)) c.loop-w.found all c.in-None.is) (omega arith)
+    (rw c.in-None.is at all) (omega arith)
 
 pub returns-in-Some : goal.returns-in-Some
 returns-in-Some c =
@@ -44,5 +44,4 @@ returns-in-Some c =
     ] in
     ap (λ (p : List ℕ × List ℕ). Some p) c.pair_of.ensures
     ∙ between-some s c.args.a c.args.b (slice_index s.caps (slice_index s.targets c.args.b)) (c.in-Some.v, c.in-Some.w) c.requires.first c.requires.second
-    (found-some s c.args.a c.args.b (slice_index s.caps (slice_index s.targets c.args.b)) c.loop-w.found (c.in-Some.v, c.in-Some.w) all c.in-Some.is)
-    refl
+    (rw c.in-Some.is at all) refl
