@@ -1,5 +1,5 @@
 -- What isn't refused of a kind isn't refused of its form.
-use Rattle.std.specs.Prelude.{◌≡◌, ℕ, suc, ◌<◌, ◌≤◌, List, [], ◌∷◌, length, Bool, true, false, cond, not, ◌&&◌, ◌||◌, nat_eq, nat_le, nat_lt, get_or, is_some, Option, Some, None, slice_index, refl}
+use Rattle.std.specs.Prelude.{◌≡◌, ℕ, suc, ◌<◌, ◌≤◌, List, [], ◌∷◌, length, true, false, not, ◌&&◌, ◌||◌, nat_eq, nat_le, nat_lt, get_or, is_some, Option, Some, None, slice_index, refl}
 use Rattle.std.specs.List.{list_any}
 use Rattle.std.specs.Option.{option_map}
 use Rattle.std.proofs.Common.{ap, sym, arith}
@@ -12,7 +12,6 @@ use Rattle.psi_guard.specs.Refusals as guard
 use Rattle.psi_guard.proofs.AcceptedLemmas.{first_or-none, guards-accepted, guards-few}
 use Rattle.psi_route.specs.declared.Source.{Source}
 use Rattle.psi_route.specs.declared.Full.{Full}
-use Rattle.psi_route.specs.declared.RouteRefusal.TheVariants as route
 use Rattle.psi_route.specs.Accepted.{shape}
 use Rattle.psi_route.proofs.TablesLemmas.{are_tables-true}
 use Rattle.psi_route.specs.Refusals as shapes
@@ -28,16 +27,7 @@ pub shape-accepted : (caps : List ℕ) (source : Option Source) (size : ℕ) (to
     → is_self_target source to ≡ false → repeats to ≡ false → fit_tables caps to tables ≡ true → is_size_off caps source size to ≡ false
     → shapes.refusal_of (shape caps source size to tables full) ≡ None
 unfolding shapes.refusal_of
-shape-accepted caps source size to tables full away once fit sized =
-    all_pass (is_self_target source to) (repeats to) (fit_tables caps to tables) (is_size_off caps source size to) away once fit sized
-  where
-    all_pass : (a b c d : Bool) → a ≡ false → b ≡ false → c ≡ true → d ≡ false
-        → cond a (Some route.SelfTarget) (cond b (Some route.Repeated) (cond (not c) (Some route.TableLength) (cond d (Some route.SizeRange) None))) ≡ None
-    all_pass true b c d first second third fourth = absurd cc
-    all_pass false true c d first second third fourth = absurd cc
-    all_pass false false false d first second third fourth = absurd cc
-    all_pass false false true true first second third fourth = absurd cc
-    all_pass false false true false first second third fourth = refl
+shape-accepted caps source size to tables full away once fit sized = rw (away, once, fit, sized)
 
 one-fits : (caps to : List ℕ) → AreCapacities caps → AreQueues caps to → list_any (λ q. nat_lt (slice_index caps q) 1) to ≡ false
 one-fits caps [] valid places = refl
@@ -54,30 +44,20 @@ listed-accepted caps source to full valid places away once =
     (or_from (nat_eq 1 0 || list_any (λ q. nat_lt (slice_index caps q) 1) to) (nat_le 2 1 && (is_some source || nat_eq (length to) 0))
     (one-fits caps to valid places) refl)
 
-pub tables-true : (caps to : List ℕ) (tables : List (List ℕ)) → not (are_tables caps to tables) ≡ false → are_tables caps to tables ≡ true
-tables-true caps to tables is = not-false (are_tables caps to tables) is
-
 -- tables that fit
 pub tables-fit : (caps to : List ℕ) (tables : List (List ℕ)) → not (are_tables caps to tables) ≡ false → fit_tables caps to tables ≡ true
 tables-fit caps to [] is = refl
-tables-fit caps to (table ∷ tables) is = tables-true caps to (table ∷ tables) is
+tables-fit caps to (table ∷ tables) is = not-false (are_tables caps to (table ∷ tables)) is
 
 -- each has from 1 to 65,535 values
-pub table-some : (caps to : List ℕ) (tables : List (List ℕ)) (i : ℕ) → AreCapacities caps → AreQueues caps to
-    → not (are_tables caps to tables) ≡ false → i < length tables → 1 ≤ length (get_or tables i [])
-table-some caps to tables i valid places is small =
-    let found = are_tables-true caps to tables (tables-true caps to tables is) in
+pub tables-within : (caps to : List ℕ) (tables : List (List ℕ)) (i : ℕ) → AreCapacities caps → AreQueues caps to
+    → not (are_tables caps to tables) ≡ false → i < length tables → (1 ≤ length (get_or tables i [])) × (length (get_or tables i []) ≤ 65535)
+tables-within caps to tables i valid places is small =
+    let found = are_tables-true caps to tables (not-false (are_tables caps to tables) is) in
     let count : length tables ≡ length to = found.0 in
     let long : length (get_or tables i []) ≡ slice_index caps (slice_index to i) = found.1 i small in
-    omega (arith, valid.least (slice_index to i) (places i (omega arith)))
-
-pub table-few : (caps to : List ℕ) (tables : List (List ℕ)) (i : ℕ) → AreCapacities caps → AreQueues caps to
-    → not (are_tables caps to tables) ≡ false → i < length tables → length (get_or tables i []) ≤ 65535
-table-few caps to tables i valid places is small =
-    let found = are_tables-true caps to tables (tables-true caps to tables is) in
-    let count : length tables ≡ length to = found.0 in
-    let long : length (get_or tables i []) ≡ slice_index caps (slice_index to i) = found.1 i small in
-    omega (arith, valid.most (slice_index to i) (places i (omega arith)))
+    let place = places i (omega arith) in
+    (omega (arith, valid.least (slice_index to i) place), omega (arith, valid.most (slice_index to i) place))
 
 -- ---- refusals
 

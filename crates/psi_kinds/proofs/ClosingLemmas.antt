@@ -1,12 +1,14 @@
 -- What an accepted kind of event does makes states of states.
-use Rattle.std.specs.Prelude.{◌≡◌, ℕ, ◌-◌, ◌≤◌, List, [], length, Bool, true, false, if◌then◌else◌, Option, Some, None, slice_index}
-use Rattle.std.proofs.Common.{◌∙◌, subst, arith, length-set}
+use Rattle.std.specs.Prelude.{◌≡◌, ℕ, ◌-◌, List, [], Bool, true, false, if◌then◌else◌, Option, Some, None, slice_index}
+use Rattle.std.proofs.Common.{subst, arith}
 use Rattle.psi_state.specs.State.{IsBelow, AreCapacities}
 use Rattle.psi_event.specs.Law.{IsClosed}
 use Rattle.psi_guard.specs.Inner.RuleLaws.{guarded-closed}
 use Rattle.psi_guard.proofs.AcceptedLemmas.{guards-accepted}
 use Rattle.psi_route.specs.declared.Source.{Source}
 use Rattle.psi_route.specs.declared.Full.TheVariants.{Lost}
+use Rattle.psi_route.proofs.PiecesLemmas.{set-within}
+use Rattle.psi_route.specs.Accepted.{shape}
 use Rattle.psi_route.specs.Closed.{routed-closed}
 use Rattle.psi_kinds.specs.declared.kinds.Kind.{Kind}
 use Rattle.psi_kinds.specs.declared.kinds.Kind.TheVariants.{Arrival, Service, Index, Batch, Negative, Fork, Join, Guarded}
@@ -16,15 +18,10 @@ use Rattle.psi_kinds.specs.Forms.{fork_parts, join_parts, form_of, function_of}
 use Rattle.psi_kinds.proofs.AcceptingLemmas.{accepted-parts, guards-unrefused, other-away}
 use Rattle.psi_kinds.proofs.DoesLemmas.{unrefused, form-does}
 use Rattle.psi_kinds.proofs.FittingLemmas.{fork-fits, join-fits}
-use Rattle.psi_kinds.proofs.GuardsLemmas.{lose-less}
 
 lose-closed : (caps : List ℕ) (q b : ℕ) (x : List ℕ) → IsBelow x caps → IsBelow (lose q b x) caps
-lose-closed caps q b x below = record {
-  same_length = length-set {A = ℕ} x q (slice_index x q - b) ∙ below.same_length;
-  each = λ i small. (let count : length (lose q b x) ≡ length x = length-set {A = ℕ} x q (slice_index x q - b) in
-      let less : slice_index (lose q b x) i ≤ slice_index x i = lose-less q b x i in
-      let old : slice_index x i ≤ slice_index caps i = below.each i (omega arith) in omega arith);
-}
+lose-closed caps q b x below =
+    set-within caps x q (slice_index x q - b) below (λ small. (let cap = below.each q (omega (arith, below.same_length)) in omega arith))
 
 leave-closed : (caps : List ℕ) (from : Option Source) (x : List ℕ) → IsBelow x caps → IsBelow (leave from x) caps
 leave-closed caps None x below = below
@@ -45,13 +42,13 @@ closed-cases : (caps : List ℕ) (kind : Kind) → AreCapacities caps → IsKind
     → Does caps (function_of (form_of caps kind)) kind → IsClosed caps (do_kind caps kind)
 unfolding do_kind
 closed-cases caps (Arrival to) valid named free parts does =
-    by-form caps (Arrival to) does (routed-closed (record { caps = caps; source = None; size = 1; targets = to; tables = []; full = Lost }))
+    by-form caps (Arrival to) does (routed-closed (shape caps None 1 to [] Lost))
 closed-cases caps (Service from to full) valid named free parts does =
-    by-form caps (Service from to full) does (routed-closed (record { caps = caps; source = Some from; size = 1; targets = to; tables = []; full = full }))
+    by-form caps (Service from to full) does (routed-closed (shape caps (Some from) 1 to [] full))
 closed-cases caps (Index from to table full size) valid named free parts does =
-    by-form caps (Index from to table full size) does (routed-closed (record { caps = caps; source = from; size = size; targets = to; tables = table; full = full }))
+    by-form caps (Index from to table full size) does (routed-closed (shape caps from size to table full))
 closed-cases caps (Batch to size) valid named free parts does =
-    by-form caps (Batch to size) does (routed-closed (record { caps = caps; source = None; size = size; targets = to; tables = []; full = Lost }))
+    by-form caps (Batch to size) does (routed-closed (shape caps None size to [] Lost))
 closed-cases caps (Negative from on amount) valid named free parts does =
     record { each = λ x below. negative-closed caps from on amount x (may_serve from x) below }
 closed-cases caps (Fork from to) valid named free parts does =

@@ -1,12 +1,12 @@
 -- The parts that kinds are lowered to are those of a guarded event.
-use Rattle.std.specs.Prelude.{◌≡◌, ℕ, zero, suc, ◌<◌, ◌≤◌, List, [], ◌∷◌, ◌++◌, length, map, Bool, true, false, cond, ◌||◌, nat_eq, nat_le, nat_lt, pos, neg_ℤ, unsigned_abs, Option, Some, None, slice_index, IfSome, refl}
+use Rattle.std.specs.Prelude.{◌≡◌, ℕ, zero, suc, ◌<◌, ◌≤◌, List, [], ◌∷◌, ◌++◌, length, map, false, nat_eq, pos, neg_ℤ, unsigned_abs, Option, Some, None, slice_index, IfSome, refl}
+use Rattle.std.proofs.lemmas.Bool.Decides.{nat_tests}
 use Rattle.std.proofs.Common.{ap, sym, ◌∙◌, arith}
-use Rattle.std.proofs.lemmas.Bool.{lt-leb, le-ltb, ne_eqb, eqb-false, or_parts, or_from}
+use Rattle.std.proofs.lemmas.Bool.{ne_eqb, eqb-false, or_parts, or_from}
 use Rattle.psi_state.specs.State.{AreCapacities}
 use Rattle.psi_state.specs.Repeats.{repeats}
 use Rattle.psi_event.specs.Choice.{first_or}
 use Rattle.psi_guard.specs.declared.Part.{Part}
-use Rattle.psi_guard.specs.declared.GuardRefusal.TheVariants.{Empty, Repeated, OutOfRange}
 use Rattle.psi_guard.specs.Refusals as guard
 use Rattle.psi_guard.specs.Refusals.{is_out, names, is_empty, refusal_at, refusal_after, FitsQueue}
 use Rattle.psi_route.specs.declared.Source.{Source}
@@ -14,7 +14,7 @@ use Rattle.psi_route.specs.Refusals.{is_self_target}
 use Rattle.psi_route.specs.Accepted.{IsSource}
 use Rattle.psi_kinds.specs.Kinds.{AreQueues}
 use Rattle.psi_kinds.specs.Refusals.{has_given}
-use Rattle.psi_kinds.specs.Forms.{losing_part, gaining_part, source_parts, fork_parts, join_parts}
+use Rattle.psi_kinds.specs.Forms.{losing_part, gaining_part, source_parts, joined_parts, negative_parts, fork_parts, join_parts}
 use Rattle.psi_kinds.proofs.GuardsLemmas.{AreSingle, AreApart, names-map, names-append, single-map, single-append, apart-map}
 
 -- each part fits its queue
@@ -29,23 +29,9 @@ AreNew earlier (part ∷ parts) = (names earlier part.queue ≡ false) × AreNew
 
 fits-at : (caps : List ℕ) (earlier : List Part) (part : Part) → FitsQueue caps part → names earlier part.queue ≡ false → refusal_at caps earlier part ≡ None
 fits-at caps earlier part fits new =
-    let within : is_out caps part ≡ false =
-    or_from (nat_le (length caps) part.queue) (nat_lt (slice_index caps part.queue) part.most || (nat_lt (slice_index caps part.queue) part.ceiling || nat_lt 65535 (unsigned_abs part.shift)))
-    (lt-leb (length caps) part.queue fits.queue)
-    (or_from (nat_lt (slice_index caps part.queue) part.most) (nat_lt (slice_index caps part.queue) part.ceiling || nat_lt 65535 (unsigned_abs part.shift))
-    (le-ltb (slice_index caps part.queue) part.most fits.most)
-    (or_from (nat_lt (slice_index caps part.queue) part.ceiling) (nat_lt 65535 (unsigned_abs part.shift))
-    (le-ltb (slice_index caps part.queue) part.ceiling fits.ceiling) (le-ltb 65535 (unsigned_abs part.shift) fits.shift))) in
-    let some : is_empty part ≡ false =
-    or_from (nat_lt part.most part.least) (nat_lt part.ceiling part.floor) (le-ltb part.most part.least fits.guard) (le-ltb part.ceiling part.floor fits.limits) in
-    all_pass (is_out caps part) (names earlier part.queue) (is_empty part) within new some
-  where
-    all_pass : (a b c : Bool) → a ≡ false → b ≡ false → c ≡ false
-        → cond a (Some OutOfRange) (cond b (Some Repeated) (cond c (Some Empty) None)) ≡ None
-    all_pass true b c first second third = absurd cc
-    all_pass false true c first second third = absurd cc
-    all_pass false false true first second third = absurd cc
-    all_pass false false false first second third = refl
+    let within : is_out caps part ≡ false = grind (arith, nat_tests, fits.queue, fits.most, fits.ceiling, fits.shift) in
+    let some : is_empty part ≡ false = grind (arith, nat_tests, fits.guard, fits.limits) in
+    rw (within, new, some)
 
 new-more : (earlier : List Part) (part : Part) (parts : List Part) → AreNew earlier parts → names parts part.queue ≡ false → AreNew (earlier ++ part ∷ []) parts
 new-more earlier part [] new alone = tt
@@ -93,48 +79,61 @@ fit-source : (caps : List ℕ) (from : Option Source) → IfSome from (λ s. IsS
 fit-source caps None is = tt
 fit-source caps (Some s) is = (losing-fits caps s.k s.queue 1 is.queue is.most (omega arith), tt)
 
-single-source : (n : ℕ) (caps : List ℕ) (from : Option Source) (parts : List Part) → n ≡ length caps → IfSome from (λ s. IsSource caps s)
-    → IfSome from (λ s. names parts s.queue ≡ false) → AreSingle n parts → AreSingle n (source_parts caps from ++ parts)
-single-source n caps None parts long is away single = single
-single-source n caps (Some s) parts long is away single = (let small : s.queue < length caps = is.queue in (omega arith, away, single))
+fit-joined : (caps : List ℕ) (to : Option ℕ) → IfSome to (λ q. q < length caps) → AreFit caps (joined_parts caps to)
+fit-joined caps None target = tt
+fit-joined caps (Some q) target = (gaining-fits caps q target, tt)
 
-away-fork : (caps : List ℕ) (from : Option Source) (to : List ℕ) → is_self_target from to ≡ false
-    → IfSome from (λ s. names (map (gaining_part caps) to) s.queue ≡ false)
-away-fork caps None to away = tt
-away-fork caps (Some s) to away = names-map (gaining_part caps) (λ q. refl) to s.queue ∙ away
+-- the source, which no other part names
+single-source : (caps : List ℕ) (from : Option Source) (parts : List Part) → IfSome from (λ s. IsSource caps s)
+    → IfSome from (λ s. names parts s.queue ≡ false) → AreSingle (length caps) parts → AreSingle (length caps) (source_parts caps from ++ parts)
+single-source caps None parts is away single = single
+single-source caps (Some s) parts is away single = (is.queue, away, single)
+
+pub negative-single : (caps : List ℕ) (from : Option Source) (on amount : ℕ) → IfSome from (λ s. IsSource caps s) → on < length caps
+    → is_self_target from (on ∷ []) ≡ false → AreSingle (length caps) (negative_parts caps from on amount)
+negative-single caps None on amount source place away = (place, refl, tt)
+negative-single caps (Some s) on amount source place away = (source.queue, away, (place, refl, tt))
+
+pub fork-single : (caps : List ℕ) (from : Option Source) (to : List ℕ) → IfSome from (λ s. IsSource caps s) → AreQueues caps to
+    → repeats to ≡ false → is_self_target from to ≡ false → AreSingle (length caps) (fork_parts caps from to)
+fork-single caps from to source places once away =
+    single-source caps from (map (gaining_part caps) to) source (apart from away) (single-map (gaining_part caps) (λ q. refl) (length caps) to places once)
+  where
+    apart : (from : Option Source) → is_self_target from to ≡ false → IfSome from (λ s. names (map (gaining_part caps) to) s.queue ≡ false)
+    apart None away = tt
+    apart (Some s) away = names-map (gaining_part caps) (λ q. refl) to s.queue ∙ away
+
+pub join-single : (caps from : List ℕ) (to : Option ℕ) → AreQueues caps from → IfSome to (λ q. q < length caps)
+    → repeats from ≡ false → has_given from to ≡ false → AreSingle (length caps) (join_parts caps from to)
+join-single caps from to places target once away =
+    single-append (length caps) (map (λ q. losing_part caps 1 q 1) from) (joined_parts caps to)
+    (single-map (λ q. losing_part caps 1 q 1) (λ q. refl) (length caps) from places once) (single to target) (apart to away)
+  where
+    single : (to : Option ℕ) → IfSome to (λ q. q < length caps) → AreSingle (length caps) (joined_parts caps to)
+    single None target = tt
+    single (Some q) target = (target, refl, tt)
+
+    apart-none : (parts : List Part) → AreApart parts []
+    apart-none [] = tt
+    apart-none (part ∷ parts) = (refl, apart-none parts)
+
+    apart : (to : Option ℕ) → has_given from to ≡ false → AreApart (map (λ q. losing_part caps 1 q 1) from) (joined_parts caps to)
+    apart None away = apart-none (map (λ q. losing_part caps 1 q 1) from)
+    apart (Some q) away = apart-map (λ p. losing_part caps 1 p 1) (λ p. refl) from (gaining_part caps q) away
 
 -- the parts of a fork aren't refused
 pub fork-fits : (caps : List ℕ) (from : Option Source) (to : List ℕ) → IfSome from (λ s. IsSource caps s) → AreQueues caps to
     → repeats to ≡ false → is_self_target from to ≡ false → guard.refusal_of caps (fork_parts caps from to) ≡ None
 fork-fits caps from to source places once away =
     refusal_after-none caps (length caps) [] (fork_parts caps from to)
-    (fit-append caps (source_parts caps from) (map (gaining_part caps) to) (fit-source caps from source)
-    (fit-map caps (gaining_part caps) (gaining-fits caps) to places))
-    (single-source (length caps) caps from (map (gaining_part caps) to) refl source (away-fork caps from to away)
-    (single-map (gaining_part caps) (λ q. refl) (length caps) to places once))
-    (new-none (fork_parts caps from to))
-
-abbrev losing_one : List ℕ → ℕ → Part
-losing_one caps q = losing_part caps 1 q 1
-
-apart-none : (parts : List Part) → AreApart parts []
-apart-none [] = tt
-apart-none (part ∷ parts) = (refl, apart-none parts)
+    (fit-append caps (source_parts caps from) (map (gaining_part caps) to) (fit-source caps from source) (fit-map caps (gaining_part caps) (gaining-fits caps) to places))
+    (fork-single caps from to source places once away) (new-none (fork_parts caps from to))
 
 -- nor those of a join
 pub join-fits : (caps from : List ℕ) (to : Option ℕ) → AreCapacities caps → AreQueues caps from → IfSome to (λ q. q < length caps)
     → repeats from ≡ false → has_given from to ≡ false → guard.refusal_of caps (join_parts caps from to) ≡ None
-join-fits caps from None valid places target once away =
-    refusal_after-none caps (length caps) [] (join_parts caps from None)
-    (fit-append caps (map (losing_one caps) from) [] (fit-map caps (losing_one caps) (λ q small. losing-fits caps 1 q 1 small (valid.least q small) (omega arith)) from places) tt)
-    (single-append (length caps) (map (losing_one caps) from) [] (single-map (losing_one caps) (λ q. refl) (length caps) from places once) tt
-    (apart-none (map (losing_one caps) from)))
-    (new-none (join_parts caps from None))
-join-fits caps from (Some to) valid places target once away =
-    refusal_after-none caps (length caps) [] (join_parts caps from (Some to))
-    (fit-append caps (map (losing_one caps) from) (gaining_part caps to ∷ [])
-    (fit-map caps (losing_one caps) (λ q small. losing-fits caps 1 q 1 small (valid.least q small) (omega arith)) from places)
-    (gaining-fits caps to target, tt))
-    (single-append (length caps) (map (losing_one caps) from) (gaining_part caps to ∷ []) (single-map (losing_one caps) (λ q. refl) (length caps) from places once)
-    (target, refl, tt) (apart-map (losing_one caps) (λ q. refl) from (gaining_part caps to) away))
-    (new-none (join_parts caps from (Some to)))
+join-fits caps from to valid places target once away =
+    refusal_after-none caps (length caps) [] (join_parts caps from to)
+    (fit-append caps (map (λ q. losing_part caps 1 q 1) from) (joined_parts caps to)
+    (fit-map caps (λ q. losing_part caps 1 q 1) (λ q small. losing-fits caps 1 q 1 small (valid.least q small) (omega arith)) from places) (fit-joined caps to target))
+    (join-single caps from to places target once away) (new-none (join_parts caps from to))

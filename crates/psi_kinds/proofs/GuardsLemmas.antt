@@ -1,18 +1,19 @@
 -- What guarded events do to a state, in the words of the kinds that they are the form of.
-use Rattle.std.specs.Prelude.{◌≡◌, ℕ, zero, suc, ◌+◌, ◌-◌, ◌<◌, ◌≤◌, List, [], ◌∷◌, ◌++◌, length, map, Bool, true, false, cond, ◌&&◌, ◌||◌, nat_eq, nat_le, slice_index, slice_set, refl}
+use Rattle.std.specs.Prelude.{◌≡◌, ℕ, zero, suc, ◌+◌, ◌-◌, ◌<◌, ◌≤◌, List, [], ◌∷◌, ◌++◌, length, map, Bool, true, false, cond, ◌&&◌, ◌||◌, nat_eq, nat_le, slice_index, slice_set, Option, Some, None, IfSome, refl}
 use Rattle.std.specs.List.{list_any, list_all}
 use Rattle.std.proofs.Common.{inl, inr, ap, sym, ◌∙◌, subst, arith, length-set, get_or-set_same, get_or-set_other}
-use Rattle.std.proofs.lemmas.List.{set_past}
-use Rattle.std.proofs.lemmas.Bool.{cases_lt, cases_eq, le-leb, lt-leb, leb-true, eq-eqb, ne_eqb, eqb-false, or_parts, or_from, and_parts}
-use Rattle.psi_state.proofs.BoxesLemmas.{same-from_below}
+use Rattle.std.proofs.lemmas.List.{set_past, ext_get_or}
+use Rattle.std.proofs.lemmas.Bool.Decides.{nat_tests}
+use Rattle.std.proofs.lemmas.Bool.{cases_lt, cases_eq, leb-true, eq-eqb, ne_eqb, eqb-false, or_parts, or_from, and_parts}
 use Rattle.psi_state.specs.Repeats.{repeats}
 use Rattle.psi_guard.specs.declared.Part.{Part}
 use Rattle.psi_guard.specs.Guarding.{moved, allows, all_allow, next, map_places, guarded}
 use Rattle.psi_guard.specs.Refusals.{names}
 use Rattle.psi_guard.specs.Inner.PlacesLaws.{length-map_places, slice_index-map_places}
 use Rattle.psi_guard.specs.Inner.RuleLaws.{guarded-moves, guarded-keeps}
-use Rattle.psi_kinds.specs.Kinds.{has_room, is_held, gain, lose, gain_each, lose_each}
-use Rattle.psi_kinds.specs.Forms.{losing_part, gaining_part}
+use Rattle.psi_route.specs.declared.Source.{Source}
+use Rattle.psi_kinds.specs.Kinds.{has_room, is_held, gain, gain_chosen, lose, leave, may_serve, may_join, gain_each, lose_each}
+use Rattle.psi_kinds.specs.Forms.{losing_part, gaining_part, source_parts, joined_parts}
 use Rattle.psi_kinds.proofs.RoutesLemmas.{absent}
 
 -- ---- parts one after another
@@ -26,11 +27,6 @@ move_each (part ∷ parts) x = move_each parts (slice_set x part.queue (moved pa
 abbrev pub AreSingle : ℕ → List Part → Type 0
 AreSingle n [] = Unit {0}
 AreSingle n (part ∷ parts) = (part.queue < n) × (names parts part.queue ≡ false) × AreSingle n parts
-
-same-each : (x y : List ℕ) → length x ≡ length y → ((i : ℕ) → i < length x → slice_index x i ≡ slice_index y i) → x ≡ y
-same-each x y long each = same-from_below x y
-    (record { same_length = long; each = λ i small. (let e : slice_index x i ≡ slice_index y i = each i small in omega arith) })
-    (record { same_length = sym long; each = λ i small. (let e : slice_index x i ≡ slice_index y i = each i (omega arith) in omega arith) })
 
 next-unnamed : (parts : List Part) (q v : ℕ) → names parts q ≡ false → next parts q v ≡ v
 next-unnamed [] q v is = refl
@@ -48,7 +44,7 @@ map_places-step : (part : Part) (parts : List Part) (x : List ℕ) → part.queu
 map_places-step part parts x small alone =
     let y = slice_set x part.queue (moved part (slice_index x part.queue)) in
     let long : length (slice_set x part.queue (moved part (slice_index x part.queue))) ≡ length x = length-set {A = ℕ} x part.queue (moved part (slice_index x part.queue)) in
-    same-each (map_places (next (part ∷ parts)) 0 x) (map_places (next parts) 0 y)
+    ext_get_or 0 (map_places (next (part ∷ parts)) 0 x) (map_places (next parts) 0 y)
     (length-map_places (next (part ∷ parts)) 0 x ∙ sym (length-map_places (next parts) 0 y ∙ long))
     (λ i within. (let count : length (map_places (next (part ∷ parts)) 0 x) ≡ length x = length-map_places (next (part ∷ parts)) 0 x in
     let there : i < length x = omega arith in
@@ -78,31 +74,17 @@ map_places-each n (part ∷ parts) x long single =
     ∙ map_places-each n parts (slice_set x part.queue (moved part (slice_index x part.queue)))
     (length-set {A = ℕ} x part.queue (moved part (slice_index x part.queue)) ∙ long) single.2
 
--- a guarded event in other words: where a test holds, y comes of x
-pub guarded-by : (parts : List Part) (x y : List ℕ) (test : Bool) → AreSingle (length x) parts → all_allow parts x ≡ test
-    → (test ≡ true → move_each parts x ≡ y) → guarded parts x ≡ cond test y x
-guarded-by parts x y true single is made =
-    guarded-moves parts x is ∙ (map_places-each (length x) parts x refl single ∙ made refl)
-guarded-by parts x y false single is made = guarded-keeps parts x is
-
 -- ---- one part
 
-and-true : (t : Bool) → (t && true) ≡ t
+pub and-true : (t : Bool) → (t && true) ≡ t
 and-true true = refl
 and-true false = refl
 
 pub allows-losing : (caps : List ℕ) (least q b v : ℕ) → v ≤ slice_index caps q → allows (losing_part caps least q b) v ≡ nat_le least v
-allows-losing caps least q b v small =
-    ap (λ t. nat_le least v && t) (le-leb v (slice_index caps q) small) ∙ and-true (nat_le least v)
+allows-losing caps least q b v small = grind (arith, nat_tests)
 
 pub allows-gaining : (caps : List ℕ) (q v : ℕ) → 1 ≤ slice_index caps q → allows (gaining_part caps q) v ≡ nat_le (v + 1) (slice_index caps q)
-allows-gaining caps q v some =
-    elim (cases_lt v (slice_index caps q)) [
-      | inl less ↦ ap (λ t. nat_le 0 v && t) (le-leb v (slice_index caps q - 1) (omega arith))
-          ∙ (and-true (nat_le 0 v) ∙ (le-leb 0 v (omega arith) ∙ sym (le-leb (v + 1) (slice_index caps q) (omega arith))))
-      | inr more ↦ ap (λ t. nat_le 0 v && t) (lt-leb v (slice_index caps q - 1) (omega arith))
-          ∙ (ap (λ t. t && false) (le-leb 0 v (omega arith)) ∙ sym (lt-leb (v + 1) (slice_index caps q) (omega arith)))
-    ]
+allows-gaining caps q v some = grind (arith, nat_tests)
 
 pub moved-losing : (caps : List ℕ) (least q b v : ℕ) → v ≤ slice_index caps q → moved (losing_part caps least q b) v ≡ v - b
 moved-losing caps least q zero v small = omega arith
@@ -126,6 +108,15 @@ all_allow-append (part ∷ xs) ys x =
 pub move_each-append : (xs ys : List Part) (x : List ℕ) → move_each (xs ++ ys) x ≡ move_each ys (move_each xs x)
 move_each-append [] ys x = refl
 move_each-append (part ∷ xs) ys x = move_each-append xs ys (slice_set x part.queue (moved part (slice_index x part.queue)))
+
+-- a guarded event of two lists of parts in other words: where both tests hold, y comes of x by the first list, and z of y by the second
+pub guarded-two : (n : ℕ) (xs ys : List Part) (x y z : List ℕ) (s t : Bool) → length x ≡ n → AreSingle n (xs ++ ys) → all_allow xs x ≡ s → all_allow ys x ≡ t
+    → move_each xs x ≡ y → (t ≡ true → move_each ys y ≡ z) → guarded (xs ++ ys) x ≡ cond (s && t) z x
+guarded-two n xs ys x y z true true long single first second moves made =
+    guarded-moves (xs ++ ys) x (all_allow-append xs ys x ∙ rw (first, second))
+    ∙ (map_places-each n (xs ++ ys) x long single ∙ (move_each-append xs ys x ∙ rw moves (made refl)))
+guarded-two n xs ys x y z true false long single first second moves made = guarded-keeps (xs ++ ys) x (all_allow-append xs ys x ∙ rw (first, second))
+guarded-two n xs ys x y z false t long single first second moves made = guarded-keeps (xs ++ ys) x (all_allow-append xs ys x ∙ rw first)
 
 -- each queue of the list has a capacity of at least 1
 abbrev pub HaveCaps : List ℕ → List ℕ → Type 0
@@ -166,6 +157,33 @@ lose_each-less (q ∷ queues) x p =
     let first : slice_index (lose q 1 x) p ≤ slice_index x p = lose-less q 1 x p in
     let rest : slice_index (lose_each queues (lose q 1 x)) p ≤ slice_index (lose q 1 x) p = lose_each-less queues (lose q 1 x) p in
     omega arith
+
+-- the source holds at most its capacity
+abbrev pub HoldsAtMost : List ℕ → Option Source → List ℕ → Type 0
+HoldsAtMost caps from x = IfSome from (λ s. slice_index x s.queue ≤ slice_index caps s.queue)
+
+pub all_allow-source : (caps : List ℕ) (from : Option Source) (x : List ℕ) → HoldsAtMost caps from x → all_allow (source_parts caps from) x ≡ may_serve from x
+all_allow-source caps None x most = refl
+all_allow-source caps (Some s) x most = and-true _ ∙ allows-losing caps s.k s.queue 1 (slice_index x s.queue) most
+
+pub move_each-source : (caps : List ℕ) (from : Option Source) (x : List ℕ) → HoldsAtMost caps from x → move_each (source_parts caps from) x ≡ leave from x
+move_each-source caps None x most = refl
+move_each-source caps (Some s) x most = ap (λ v. slice_set x s.queue v) (moved-losing caps s.k s.queue 1 (slice_index x s.queue) most)
+
+pub leave-less : (from : Option Source) (x : List ℕ) (p : ℕ) → slice_index (leave from x) p ≤ slice_index x p
+leave-less None x p = omega arith
+leave-less (Some s) x p = lose-less s.queue 1 x p
+
+pub all_allow-joined : (caps : List ℕ) (to : Option ℕ) (x : List ℕ) → IfSome to (λ q. 1 ≤ slice_index caps q) → all_allow (joined_parts caps to) x ≡ may_join caps to x
+all_allow-joined caps None x some = refl
+all_allow-joined caps (Some q) x some = and-true _ ∙ allows-gaining caps q (slice_index x q) some
+
+pub move_each-joined : (caps : List ℕ) (to : Option ℕ) (x y : List ℕ) → ((q : ℕ) → slice_index y q ≤ slice_index x q) → may_join caps to x ≡ true
+    → move_each (joined_parts caps to) y ≡ gain_chosen to 1 y
+move_each-joined caps None x y less room = refl
+move_each-joined caps (Some q) x y less room =
+    let fits = leb-true (slice_index x q + 1) (slice_index caps q) room in
+    let low = less q in ap (λ v. slice_set y q v) (moved-gaining caps q (slice_index y q) (omega arith))
 
 pub move_each-losing : (caps queues x : List ℕ) → HoldAtMost caps queues x → move_each (map (λ q. losing_part caps 1 q 1) queues) x ≡ lose_each queues x
 move_each-losing caps [] x most = refl

@@ -9,6 +9,7 @@ use Rattle.psi_route.specs.declared.Source.{Source}
 use Rattle.psi_route.specs.declared.Full.{Full}
 use Rattle.psi_route.specs.declared.Full.TheVariants.{Lost, Stay}
 use Rattle.psi_route.specs.Routing.{Shape, routing, routed, IsBest}
+use Rattle.psi_route.specs.Accepted.{shape}
 use Rattle.psi_route.specs.Acting.{NoRoom}
 use Rattle.psi_route.specs.Inner.ActingLaws.{act-idle}
 use Rattle.psi_route.proofs.ActingLemmas.{act-some, act-lost, act-stay, taken-past}
@@ -23,12 +24,8 @@ Choice s x o =
     ((q : ℕ) × (j : ℕ) × (o ≡ Some q) × IsBest (routing s) x j × (slice_index s.targets j ≡ q))
     ⊎ ((o ≡ None) × NoRoom (routing s) x (length s.targets))
 
--- a route without tables
-abbrev pub listed : List ℕ → Option Source → ℕ → List ℕ → Full → Shape
-listed caps source size targets full = record { caps = caps; source = source; size = size; targets = targets; tables = []; full = full }
-
 first-best : (caps : List ℕ) (source : Option Source) (size : ℕ) (targets : List ℕ) (full : Full) (x : List ℕ) (q : ℕ)
-    → (first : IsFirst caps targets x size q) → IsBest (routing (listed caps source size targets full)) x first.place
+    → (first : IsFirst caps targets x size q) → IsBest (routing (shape caps source size targets [] full)) x first.place
 first-best caps source size targets full x q first = record {
   place = first.small;
   room = subst (λ p. slice_index x p + size ≤ slice_index caps p) (sym first.queue) first.room;
@@ -39,7 +36,7 @@ first-best caps source size targets full x q first = record {
 }
 
 pub first-choice : (caps : List ℕ) (source : Option Source) (size : ℕ) (targets : List ℕ) (full : Full) (x : List ℕ)
-    → Choice (listed caps source size targets full) x (first_with_room caps targets size x)
+    → Choice (shape caps source size targets [] full) x (first_with_room caps targets size x)
 first-choice caps source size targets full x =
     elim (first_cases caps targets x size) [
       | inl found ↦ inl (found.0, found.2.place, found.1, first-best caps source size targets full x found.0 found.2, found.2.queue)
@@ -73,30 +70,26 @@ best-choice s x few =
 
 -- ---- what becomes of the state
 
--- with no source
-abbrev pub without : List ℕ → ℕ → List ℕ → List (List ℕ) → Full → Shape
-without caps size targets tables full = record { caps = caps; source = None; size = size; targets = targets; tables = tables; full = full }
-
 full-without : (caps : List ℕ) (size : ℕ) (targets : List ℕ) (tables : List (List ℕ)) (full : Full) (x : List ℕ) → length x ≡ length caps
-    → NoRoom (routing (without caps size targets tables full)) x (length targets) → routed (without caps size targets tables full) x ≡ x
+    → NoRoom (routing (shape caps None size targets tables full)) x (length targets) → routed (shape caps None size targets tables full) x ≡ x
 unfolding routed
 full-without caps size targets tables Lost x long none_has =
-    act-lost (routing (without caps size targets tables Lost)) x (omega arith) none_has (inl refl)
-    ∙ taken-past (routing (without caps size targets tables Lost)) x (omega arith)
+    act-lost (routing (shape caps None size targets tables Lost)) x (omega arith) none_has (inl refl)
+    ∙ taken-past (routing (shape caps None size targets tables Lost)) x (omega arith)
 full-without caps size targets tables Stay x long none_has =
     elim (cases_eq (length targets) 0) [
-      | inl empty ↦ act-lost (routing (without caps size targets tables Stay)) x (omega arith) none_has (inr empty)
-          ∙ taken-past (routing (without caps size targets tables Stay)) x (omega arith)
+      | inl empty ↦ act-lost (routing (shape caps None size targets tables Stay)) x (omega arith) none_has (inr empty)
+          ∙ taken-past (routing (shape caps None size targets tables Stay)) x (omega arith)
       | inr some ↦ (let apart : length targets ≢ 0 = some in
-          act-stay (routing (without caps size targets tables Stay)) x (omega arith) none_has refl (omega arith))
+          act-stay (routing (shape caps None size targets tables Stay)) x (omega arith) none_has refl (omega arith))
     ]
 
 pub routed-without : (caps : List ℕ) (size : ℕ) (targets : List ℕ) (tables : List (List ℕ)) (full : Full) (x : List ℕ) (o : Option ℕ)
-    → length x ≡ length caps → Choice (without caps size targets tables full) x o
-    → routed (without caps size targets tables full) x ≡ gain_chosen o size x
+    → length x ≡ length caps → Choice (shape caps None size targets tables full) x o
+    → routed (shape caps None size targets tables full) x ≡ gain_chosen o size x
 unfolding routed
 routed-without caps size targets tables full x o long choice =
-    let r = routing (without caps size targets tables full) in
+    let r = routing (shape caps None size targets tables full) in
     elim choice [
       | inl found ↦ act-some r x found.1 (omega arith) found.3
           ∙ (ap (λ (y : List ℕ). slice_set y (slice_index targets found.1) (slice_index x (slice_index targets found.1) + size)) (taken-past r x (omega arith))
@@ -104,27 +97,23 @@ routed-without caps size targets tables full x o long choice =
       | inr none ↦ full-without caps size targets tables full x long none.1 ∙ ap (λ c. gain_chosen c size x) (sym none.0)
     ]
 
--- with a source
-abbrev pub with : List ℕ → Source → ℕ → List ℕ → List (List ℕ) → Full → Shape
-with caps source size targets tables full = record { caps = caps; source = Some source; size = size; targets = targets; tables = tables; full = full }
-
 full-with : (caps : List ℕ) (source : Source) (size : ℕ) (targets : List ℕ) (tables : List (List ℕ)) (full : Full) (x : List ℕ)
-    → source.k ≤ slice_index x source.queue → NoRoom (routing (with caps source size targets tables full)) x (length targets)
-    → routed (with caps source size targets tables full) x ≡ go_on source targets full size None x
+    → source.k ≤ slice_index x source.queue → NoRoom (routing (shape caps (Some source) size targets tables full)) x (length targets)
+    → routed (shape caps (Some source) size targets tables full) x ≡ go_on source targets full size None x
 unfolding routed
 full-with caps source size [] tables full x serve none_has =
-    act-lost (routing (with caps source size [] tables full)) x serve none_has (inr refl)
+    act-lost (routing (shape caps (Some source) size [] tables full)) x serve none_has (inr refl)
 full-with caps source size (q ∷ targets) tables Lost x serve none_has =
-    act-lost (routing (with caps source size (q ∷ targets) tables Lost)) x serve none_has (inl refl)
+    act-lost (routing (shape caps (Some source) size (q ∷ targets) tables Lost)) x serve none_has (inl refl)
 full-with caps source size (q ∷ targets) tables Stay x serve none_has =
-    act-stay (routing (with caps source size (q ∷ targets) tables Stay)) x serve none_has refl (omega arith)
+    act-stay (routing (shape caps (Some source) size (q ∷ targets) tables Stay)) x serve none_has refl (omega arith)
 
 pub routed-with : (caps : List ℕ) (source : Source) (size : ℕ) (targets : List ℕ) (tables : List (List ℕ)) (full : Full) (x : List ℕ) (o : Option ℕ)
-    → ((i : ℕ) → i < length targets → slice_index targets i ≢ source.queue) → Choice (with caps source size targets tables full) x o
-    → routed (with caps source size targets tables full) x ≡ cond (serves source x) (go_on source targets full size o x) x
+    → ((i : ℕ) → i < length targets → slice_index targets i ≢ source.queue) → Choice (shape caps (Some source) size targets tables full) x o
+    → routed (shape caps (Some source) size targets tables full) x ≡ cond (serves source x) (go_on source targets full size o x) x
 unfolding routed
 routed-with caps source size targets tables full x o apart choice =
-    let r = routing (with caps source size targets tables full) in
+    let r = routing (shape caps (Some source) size targets tables full) in
     elim (cases_lt (slice_index x source.queue) source.k) [
       | inl idle ↦ act-idle r x idle ∙ ap (λ t. cond t (go_on source targets full size o x) x) (sym (lt-leb source.k (slice_index x source.queue) idle))
       | inr serve ↦ (let step = ap (λ t. cond t (go_on source targets full size o x) x) (sym (le-leb source.k (slice_index x source.queue) serve)) in

@@ -129,8 +129,7 @@ fn listed_route(
 
 // The tables of an index event, each with its least and greatest values at hand.
 fn index_tables(alloc: Global, tables: &Tables) -> Result<Vec<IndexTable>, OutOfMemory>
-    requires some { (i : ℕ) → i < length tables.now → 1 ≤ length (slice_index_or tables.now i []) }
-    requires few { (i : ℕ) → i < length tables.now → length (slice_index_or tables.now i []) ≤ 65535 }
+    requires { (i : ℕ) → i < length tables.now → (1 ≤ length (slice_index_or tables.now i [])) × (length (slice_index_or tables.now i []) ≤ 65535) }
     ensures { IfOk result (λ list. list.items ≡ tables.now) }
 {
     let mut list = Vec::with_capacity(alloc, tables.len())?;

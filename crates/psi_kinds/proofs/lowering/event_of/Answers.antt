@@ -8,7 +8,7 @@ use Rattle.psi_kinds.specs.declared.kinds.Kind.{Kind}
 use Rattle.psi_kinds.specs.Kinds.{IsKindOf}
 use Rattle.psi_kinds.specs.Refusals.{IsUnrefused}
 use Rattle.psi_kinds.specs.Forms.{fork_parts, join_parts}
-use Rattle.psi_kinds.proofs.AcceptingLemmas.{shape-accepted, listed-accepted, tables-fit, table-some, table-few, other-away, parts-few}
+use Rattle.psi_kinds.proofs.AcceptingLemmas.{shape-accepted, listed-accepted, tables-fit, tables-within, other-away, parts-few}
 use Rattle.psi_kinds.proofs.FittingLemmas.{fork-fits, join-fits}
 use Rattle.psi_kinds.proofs.lowering.event_of.Goals as goal
 
@@ -25,17 +25,11 @@ listed_route-requires-in-Service-clause-accepted c =
     let free = subst (λ (k : Kind). IsUnrefused c.args.caps k) c.in-Service.is c.requires.unrefused in
     listed-accepted c.args.caps (Some c.in-Service.from) c.in-Service.to c.in-Service.full c.requires.caps named.1 free.away free.once
 
-pub index_tables-requires-clause-some : goal.index_tables-requires-clause-some
-index_tables-requires-clause-some c =
+pub index_tables-requires : goal.index_tables-requires
+index_tables-requires c =
     let named = subst (λ (k : Kind). IsKindOf c.args.caps k) c.in-Index.is c.requires.named in
     let free = subst (λ (k : Kind). IsUnrefused c.args.caps k) c.in-Index.is c.requires.unrefused in
-    λ i small. table-some c.args.caps c.in-Index.to c.in-Index.table i c.requires.caps named.1 free.tables small
-
-pub index_tables-requires-clause-few : goal.index_tables-requires-clause-few
-index_tables-requires-clause-few c =
-    let named = subst (λ (k : Kind). IsKindOf c.args.caps k) c.in-Index.is c.requires.named in
-    let free = subst (λ (k : Kind). IsUnrefused c.args.caps k) c.in-Index.is c.requires.unrefused in
-    λ i small. table-few c.args.caps c.in-Index.to c.in-Index.table i c.requires.caps named.1 free.tables small
+    λ i small. tables-within c.args.caps c.in-Index.to c.in-Index.table i c.requires.caps named.1 free.tables small
 
 pub accepted-route-requires-clause-accepted : goal.accepted-route-requires-clause-accepted
 accepted-route-requires-clause-accepted c =
