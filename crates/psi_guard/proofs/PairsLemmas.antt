@@ -223,30 +223,23 @@ queue-shows caps parts f pair each is =
     let high : found.0 < 0 + length caps = found.2 in
     each found.0 pair (omega arith) found.3
 
-own_above-show : (caps : List ℕ) (parts : List Part) (pair : List ℕ × List ℕ) → AreGuards caps parts → over_queues caps (own_above caps parts) ≡ Some pair → IsShown caps parts pair
-own_above-show caps parts pair guards is = queue-shows caps parts (own_above caps parts) pair (λ p found place at. own_above-shows caps parts p found guards place at) is
-
-own_below-show : (caps : List ℕ) (parts : List Part) (pair : List ℕ × List ℕ) → AreGuards caps parts → over_queues caps (own_below caps parts) ≡ Some pair → IsShown caps parts pair
-own_below-show caps parts pair guards is = queue-shows caps parts (own_below caps parts) pair (λ p found place at. own_below-shows caps parts p found guards place at) is
-
-other_above-show : (caps : List ℕ) (parts : List Part) (pair : List ℕ × List ℕ) → AreGuards caps parts → over_pairs caps (other_above caps parts) ≡ Some pair → IsShown caps parts pair
-other_above-show caps parts pair guards is =
-    queue-shows caps parts (λ p. over_queues caps (other_above caps parts p)) pair (λ p found place at.
-    queue-shows caps parts (other_above caps parts p) found (λ q last other there. other_above-shows caps parts p q last guards place other there) at) is
-
-other_below-show : (caps : List ℕ) (parts : List Part) (pair : List ℕ × List ℕ) → AreGuards caps parts → over_pairs caps (other_below caps parts) ≡ Some pair → IsShown caps parts pair
-other_below-show caps parts pair guards is =
-    queue-shows caps parts (λ p. over_queues caps (other_below caps parts p)) pair (λ p found place at.
-    queue-shows caps parts (other_below caps parts p) found (λ q last other there. other_below-shows caps parts p q last guards place other there) at) is
+pairs-show : (caps : List ℕ) (parts : List Part) (f : ℕ → ℕ → Option (List ℕ × List ℕ)) (pair : List ℕ × List ℕ)
+    → ((p q : ℕ) (found : List ℕ × List ℕ) → p < length caps → q < length caps → f p q ≡ Some found → IsShown caps parts found) → over_pairs caps f ≡ Some pair → IsShown caps parts pair
+pairs-show caps parts f pair each is = queue-shows caps parts (λ p. over_queues caps (f p)) pair (λ p found place at.
+    queue-shows caps parts (f p) found (λ q last other there. each p q last place other there) at) is
 
 -- the pair is that of the first test that succeeds, and without one no test does
 first-shows : (caps : List ℕ) (parts : List Part) (a b c d : Option (List ℕ × List ℕ)) → over_queues caps (own_above caps parts) ≡ a → over_pairs caps (other_above caps parts) ≡ b
     → over_queues caps (own_below caps parts) ≡ c → over_pairs caps (other_below caps parts) ≡ d → AreGuards caps parts
     → ShowsUpset caps (guarded parts) (first_or a (first_or b (first_or c d)))
-first-shows caps parts (Some pair) b c d one two three four guards = own_above-show caps parts pair guards one
-first-shows caps parts None (Some pair) c d one two three four guards = other_above-show caps parts pair guards two
-first-shows caps parts None None (Some pair) d one two three four guards = own_below-show caps parts pair guards three
-first-shows caps parts None None None (Some pair) one two three four guards = other_below-show caps parts pair guards four
+first-shows caps parts (Some pair) b c d one two three four guards =
+    queue-shows caps parts (own_above caps parts) pair (λ p found place at. own_above-shows caps parts p found guards place at) one
+first-shows caps parts None (Some pair) c d one two three four guards =
+    pairs-show caps parts (other_above caps parts) pair (λ p q found place other at. other_above-shows caps parts p q found guards place other at) two
+first-shows caps parts None None (Some pair) d one two three four guards =
+    queue-shows caps parts (own_below caps parts) pair (λ p found place at. own_below-shows caps parts p found guards place at) three
+first-shows caps parts None None None (Some pair) one two three four guards =
+    pairs-show caps parts (other_below caps parts) pair (λ p q found place other at. other_below-shows caps parts p q found guards place other at) four
 first-shows caps parts None None None None one two three four guards =
     none-monotone caps parts guards (record { own_above = one; other_above = two; own_below = three; other_below = four })
 

@@ -1,14 +1,14 @@
 -- What the loops over parts and queues know.
-use Rattle.std.specs.Prelude.{◌≡◌, ℕ, zero, suc, ◌+◌, ◌<◌, ◌≤◌, true, false, not, ◌&&◌, if◌then◌else◌, ◌⊎◌, nat_eq, nat_lt, List, [], ◌∷◌, length, map, slice_index, slice_set, Option, Some, None, refl}
+use Rattle.std.specs.Prelude.{◌≡◌, ℕ, zero, suc, ◌+◌, ◌<◌, ◌≤◌, true, false, ◌⊎◌, nat_eq, List, [], ◌∷◌, length, map, slice_index, slice_set, Option, Some, None, refl}
 use Rattle.std.proofs.Common.{inl, inr, ap, sym, ◌∙◌, subst, arith}
-use Rattle.std.proofs.lemmas.Bool.{eq-eqb, or_left, or_right, true_from_ne_false, false_from_ne_true}
+use Rattle.std.proofs.lemmas.Bool.{eq-eqb, or_left, or_right, true_from_ne_false, false_from_ne_true, cond-false, and_left}
 use Rattle.std.proofs.lemmas.List.{ext_get_or}
 use Rattle.psi_state.specs.State.{IsBelow, numbers_from}
 use Rattle.psi_event.proofs.ChoiceLemmas.{first_some-found, first_some-none}
 use Rattle.psi_event.specs.Setting.{AreSet}
 use Rattle.psi_event.proofs.SettingLemmas.{set-next, set-more}
 use Rattle.psi_guard.specs.declared.parts.Part.{Part}
-use Rattle.psi_guard.specs.Guarding.{moved, all_allow, guarded, part_of, leasts, around_most, around_least, both_with, exceeds, falls_short, other_above, other_below, over_queues}
+use Rattle.psi_guard.specs.Guarding.{moved, all_allow, guarded, part_of, leasts, exceeds, falls_short, other_above, other_below, over_queues}
 use Rattle.psi_guard.specs.Refusals.{AreGuards, at, names}
 use Rattle.psi_guard.specs.Inner.PlacesLaws.{named_or_free, all_allow-true, all_allow-false}
 use Rattle.psi_guard.specs.Rule.{AllowsAll, rule}
@@ -102,14 +102,8 @@ queues-none caps f i over before = first_some-none f 0 (length caps) (λ j low h
 
 -- no queue is shown to rise beside one that can't hold more than its most
 pub other_above-none : (caps : List ℕ) (parts : List Part) (p : ℕ) → exceeds caps parts p ≡ false → over_queues caps (other_above caps parts p) ≡ None
-other_above-none caps parts p out =
-    queues-none caps (other_above caps parts p) (length caps) (omega arith) (λ q small.
-    ap (λ b. if b && (not (nat_eq p q) && nat_lt (part_of caps parts q).least (moved (part_of caps parts q) (part_of caps parts q).least))
-    then Some (around_most caps parts p) else None) out)
+other_above-none caps parts p out = queues-none caps (other_above caps parts p) (length caps) (omega arith) (λ q small. cond-false _ _ None (and_left _ _ out))
 
 -- and none to fall beside one that can't hold less than its least
 pub other_below-none : (caps : List ℕ) (parts : List Part) (p : ℕ) → falls_short caps parts p ≡ false → over_queues caps (other_below caps parts p) ≡ None
-other_below-none caps parts p out =
-    queues-none caps (other_below caps parts p) (length caps) (omega arith) (λ q small.
-    ap (λ b. if b && (not (nat_eq p q) && nat_lt (moved (part_of caps parts q) (part_of caps parts q).most) (part_of caps parts q).most)
-    then Some (both_with q (part_of caps parts q).most (around_least caps parts p)) else None) out)
+other_below-none caps parts p out = queues-none caps (other_below caps parts p) (length caps) (omega arith) (λ q small. cond-false _ _ None (and_left _ _ out))

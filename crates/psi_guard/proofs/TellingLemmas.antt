@@ -1,7 +1,7 @@
 -- Lemmas. What the loops over the queues know that ask for pieces and make them.
 use Rattle.std.specs.Prelude.{◌≡◌, ◌≢◌, ℕ, ◌+◌, ◌<◌, List, length, replicate, slice_index, slice_set, Bool, true, false, refl}
 use Rattle.std.proofs.Common.{inl, inr, ap, sym, ◌∙◌, subst, arith, below_more, length-set, get_or-set_same, get_or-set_other}
-use Rattle.std.proofs.lemmas.Bool.{cases_eq}
+use Rattle.std.proofs.lemmas.Bool.{cases_eq, both_ways}
 use Rattle.std.proofs.lemmas.List.{length-replicate}
 use Rattle.psi_event.specs.declared.sides.Side.{Side}
 use Rattle.psi_event.specs.declared.sides.Side.TheVariants.{Any}
@@ -36,17 +36,14 @@ module _ (caps : List ℕ) (parts : List Part) where
   pub clipped-by : (n cap : ℕ) (part : Part) (b : Bool) → cap ≡ slice_index caps n → part ≡ part_of caps parts n → is_clipped cap part ≡ b → clipped caps parts n ≡ b
   clipped-by n cap part b is_cap is_part is = sym (ap (λ c. is_clipped c part) is_cap ∙ ap (λ p. is_clipped (slice_index caps n) p) is_part) ∙ is
 
-  no-both : (b : Bool) → b ≡ true → b ≡ false → ⊥
-  no-both b is_true is_false = absurd cc
-
   pub telling-exact : (n : ℕ) (b : Bool) → IsTelling n b → exact caps parts n ≡ true → IsTelling (n + 1) b
   telling-exact n b before is = record {
     told = record {
       each = below_more _ _ before.told.each (inl is);
       alone = λ q r small_q small_r not_q not_r. elim (cases_eq q n) [
-        | inl same ↦ absurd (no-both (exact caps parts n) is (sym (ap (λ k. exact caps parts k) same) ∙ not_q))
+        | inl same ↦ absurd (both_ways _ (sym (ap (λ k. exact caps parts k) same) ∙ not_q) is)
         | inr other_q ↦ elim (cases_eq r n) [
-          | inl same ↦ absurd (no-both (exact caps parts n) is (sym (ap (λ k. exact caps parts k) same) ∙ not_r))
+          | inl same ↦ absurd (both_ways _ (sym (ap (λ k. exact caps parts k) same) ∙ not_r) is)
           | inr other_r ↦ before.told.alone q r (omega arith) (omega arith) not_q not_r
         ]
       ];
@@ -68,7 +65,7 @@ module _ (caps : List ℕ) (parts : List Part) where
       here : (q : ℕ) → q < n + 1 → exact caps parts q ≡ false → q ≡ n
       here q small out = elim (cases_eq q n) [
         | inl same ↦ same
-        | inr other ↦ absurd (no-both (exact caps parts q) (before.none refl q (omega arith)) out)
+        | inr other ↦ absurd (both_ways _ out (before.none refl q (omega arith)))
       ]
 
 -- ---- the pieces
@@ -134,7 +131,5 @@ pub tell-next : (caps : List ℕ) (parts : List Part) (n : ℕ) (p : Piecewise) 
     → bounds ≡ slice_set p.bounds n own.bound → first ≡ piece_with p.first n own.first → second ≡ piece_with p.second n own.second
     → Tell caps parts (n + 1) (record { bounds = bounds; first = first; second = second })
 tell-next caps parts n p cap part own bounds first second before small is_cap is_part is is_bounds is_first is_second =
-    subst (λ (b : List ℕ). Tell caps parts (n + 1) (record { bounds = b; first = first; second = second })) (sym is_bounds)
-    (subst (λ (f : Piece). Tell caps parts (n + 1) (record { bounds = slice_set p.bounds n own.bound; first = f; second = second })) (sym is_first)
-    (subst (λ (s : Piece). Tell caps parts (n + 1) (record { bounds = slice_set p.bounds n own.bound; first = piece_with p.first n own.first; second = s })) (sym is_second)
-    (tell-step caps parts n p own before small (is ∙ ap (λ c. pieces_at c part) is_cap ∙ ap (λ t. pieces_at (slice_index caps n) t) is_part))))
+    rw (is_bounds, is_first, is_second)
+    (tell-step caps parts n p own before small (is ∙ ap (λ c. pieces_at c part) is_cap ∙ ap (λ t. pieces_at (slice_index caps n) t) is_part))

@@ -51,7 +51,9 @@ impl Guarded {
     {
         for i in 0..self.count() {
             let part = self.part(i);
-            if misses(part, b.least(part.queue), b.greatest(part.queue)) {
+            let l = b.least(part.queue);
+            let h = b.greatest(part.queue);
+            if h < part.least || part.most < l {
                 return false;
             }
         }
@@ -67,26 +69,14 @@ impl Guarded {
         let mut leaving = Leaving::Nowhere;
         for i in 0..self.count() {
             let part = self.part(i);
-            if leaves(part, b.least(part.queue), b.greatest(part.queue)) {
+            let l = b.least(part.queue);
+            let h = b.greatest(part.queue);
+            if l < part.least || part.most < h {
                 leaving = one_more(leaving, part.queue);
             }
         }
         leaving
     }
-}
-
-// Whether no number from `l` to `h` is one from the part's least to its most.
-fn misses(part: Part, l: u16, h: u16) -> bool
-    ensures { MatchBool result ((h < part.least) ⊎ (part.most < l)) ((l ≤ part.most) × (part.least ≤ h)) }
-{
-    h < part.least || part.most < l
-}
-
-// Whether some number from `l` to `h` isn't one from the part's least to its most.
-fn leaves(part: Part, l: u16, h: u16) -> bool
-    ensures { MatchBool result ((l < part.least) ⊎ (part.most < h)) ((part.least ≤ l) × (h ≤ part.most)) }
-{
-    l < part.least || part.most < h
 }
 
 // The queues that leave their guards, with one more.
