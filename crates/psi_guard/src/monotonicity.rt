@@ -177,8 +177,12 @@ impl Guarded {
         ensures fits { FitsGuard (slice_index self.now.caps queue) result }
         ensures shift { unsigned_abs result.shift ≤ 65535 }
     {
-        if let Some(part) = self.part_there(queue, self.places[queue as usize]) {
-            return part;
+        let place = self.places[queue as usize];
+        if place < self.count() {
+            let part = self.part(place);
+            if part.queue == queue {
+                return part;
+            }
         }
         for i in 0..self.count() {
             let part = self.part(i);
@@ -194,24 +198,6 @@ impl Guarded {
             shift: 0,
             floor: 0,
             ceiling: cap,
-        }
-    }
-
-    // The part at a place, if there is one there and it names the queue.
-    fn part_there(&self, queue: u8, place: u8) -> Option<Part>
-        requires { queue < length self.now.caps }
-        ensures value { IfSome result (λ part. part ≡ part_of self.now.caps self.now.parts queue) }
-        ensures fits { IfSome result (λ part. FitsGuard (slice_index self.now.caps queue) part) }
-        ensures shift { IfSome result (λ part. unsigned_abs part.shift ≤ 65535) }
-    {
-        if place >= self.count() {
-            return None;
-        }
-        let part = self.part(place);
-        if part.queue == queue {
-            Some(part)
-        } else {
-            None
         }
     }
 }

@@ -26,6 +26,10 @@ part_of-at caps (part ∷ parts) (suc i) apart small =
     part_of-there caps part parts (at parts i).queue (λ same. (let e : 0 ≡ suc i = apart.each 0 (suc i) (omega arith) small same in omega arith))
     ∙ part_of-at caps parts i (apart-tail part parts apart) (omega arith)
 
+pub part_of-named : (caps : List ℕ) (parts : List Part) (i : ℕ) (part : Part) (q : ℕ) → AreApart parts → i < length parts → part ≡ at parts i → part.queue ≡ q → part ≡ part_of caps parts q
+part_of-named caps parts i part q apart small is names =
+    is ∙ (sym (part_of-at caps parts i apart small) ∙ ap (λ p. part_of caps parts p) (sym (ap (λ (p : Part). p.queue) is) ∙ names))
+
 pub named_or_free : (caps : List ℕ) (parts : List Part) (q : ℕ) → IsNamed caps parts q ⊎ IsFree caps parts q
 named_or_free caps [] q = inr (record { other = λ i small same. omega arith; part = refl })
 named_or_free caps (part ∷ parts) q =

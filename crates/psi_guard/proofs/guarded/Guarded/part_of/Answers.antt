@@ -1,8 +1,7 @@
 -- Answers in the proof of `Guarded::part_of`.
-use Rattle.std.proofs.Common.{◌≡◌, ◌<◌, length, inl, inr, ap, sym, ◌∙◌, arith, below_more}
-use Rattle.psi_guard.specs.Guarding.{part_of, free_part}
-use Rattle.psi_guard.specs.Refusals.{at}
-use Rattle.psi_guard.specs.Inner.PlacesLaws.{part_of-at, named_or_free}
+use Rattle.std.proofs.Common.{inl, inr, ap, sym, ◌∙◌, arith, below_more}
+use Rattle.psi_guard.specs.Guarding.{free_part}
+use Rattle.psi_guard.specs.Inner.PlacesLaws.{part_of-named, named_or_free}
 use Rattle.psi_guard.proofs.guarded.Guarded.part_of.Goals as goal
 
 pub loop-i-init : goal.loop-i-init
@@ -10,14 +9,15 @@ loop-i-init c = λ k small. absurd (omega arith)
 
 pub returns-then-part-queue-clause-value : goal.returns-then-part-queue-clause-value
 returns-then-part-queue-clause-value c =
-    let event = c.args.self.now in
-    let small : c.loop-i.i < length event.parts = omega arith in
-    let queue : (at event.parts c.loop-i.i).queue ≡ c.args.queue = sym (ap (λ p. p.queue) c.part-part.ensures.value) ∙ c.if-part-queue.true in
-    c.part-part.ensures.value ∙ (sym (part_of-at event.caps event.parts c.loop-i.i event.guards.apart small) ∙ ap (λ q. part_of event.caps event.parts q) queue)
+    part_of-named c.args.self.now.caps c.args.self.now.parts _ _ c.args.queue c.args.self.now.guards.apart (grind arith) c.part-part.ensures.value c.if-part-queue.true
+
+pub returns-then-part-queue-2-clause-value : goal.returns-then-part-queue-2-clause-value
+returns-then-part-queue-2-clause-value c =
+    part_of-named c.args.self.now.caps c.args.self.now.parts c.loop-i.i _ c.args.queue c.args.self.now.guards.apart (omega arith) c.part-part-in-loop-i.ensures.value c.if-part-queue-2.true
 
 pub loop-i-preserved : goal.loop-i-preserved
 loop-i-preserved c =
-    below_more _ _ c.loop-i.invariant (λ same. c.if-part-queue.false (ap (λ p. p.queue) c.part-part.ensures.value ∙ same))
+    below_more _ _ c.loop-i.invariant (λ same. c.if-part-queue-2.false (ap (λ p. p.queue) c.part-part-in-loop-i.ensures.value ∙ same))
 
 pub returns-clause-value : goal.returns-clause-value
 returns-clause-value c =
