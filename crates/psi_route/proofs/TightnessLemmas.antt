@@ -340,25 +340,15 @@ corner-met r f routes E l h x u p long between ends targets small =
       | is_other ne apart ↦ (x, between, (routes x long).others p ne apart ∙ sym (ends.others p ne apart))
     ]
 
-low_met : (r : Routing) → IsRouting r → (f : List ℕ → List ℕ) → Routes r f → (l h u w : List ℕ) (p : ℕ) → IsBoxOf r l h → AreEnds r f l h u w → p < r.queues
-    → Meets f l h p (slice_index u p)
-low_met r is f routes l h u w p is_box ends small =
-    corner-met r f routes (λ j v. IsLowEnd r l h j v) l h l u p is_box.count (between-low l h is_box.below) ends.low
-    (λ i within. low_reached r is f routes l h i (slice_index u (r.queue i)) is_box within (ends.low.targets i within)) small
-
-high_met : (r : Routing) → IsRouting r → (f : List ℕ → List ℕ) → Routes r f → (l h u w : List ℕ) (p : ℕ) → IsBoxOf r l h → AreEnds r f l h u w → p < r.queues
-    → Meets f l h p (slice_index w p)
-high_met r is f routes l h u w p is_box ends small =
-    corner-met r f routes (λ j v. IsHighEnd r l h j v) l h h w p (between-long r l h h is_box (between-high l h is_box.below)) (between-high l h is_box.below) ends.high
-    (λ i within. high_reached r is f routes l h i (slice_index w (r.queue i)) is_box within (ends.high.targets i within)) small
-
 -- so the box between the ends is tight around the image of the box
 pub ends-tight : (r : Routing) → IsRouting r → (f : List ℕ → List ℕ) → Routes r f → (l h u w : List ℕ) → IsBoxOf r l h → AreEnds r f l h u w
     → IsTight (image f (box l h)) u w
 ends-tight r is f routes l h u w is_box ends =
     tight-by f l h u w (λ x between. ends_inside r is f routes l h u w x is_box ends between)
-    (λ p small. low_met r is f routes l h u w p is_box ends (omega (arith, ends.low.count)))
-    (λ p small. high_met r is f routes l h u w p is_box ends (omega (arith, ends.high.count)))
+    (λ p small. corner-met r f routes (λ j v. IsLowEnd r l h j v) l h l u p is_box.count (between-low l h is_box.below) ends.low
+    (λ i within. low_reached r is f routes l h i (slice_index u (r.queue i)) is_box within (ends.low.targets i within)) (omega (arith, ends.low.count)))
+    (λ p small. corner-met r f routes (λ j v. IsHighEnd r l h j v) l h h w p (between-long r l h h is_box (between-high l h is_box.below)) (between-high l h is_box.below) ends.high
+    (λ i within. high_reached r is f routes l h i (slice_index w (r.queue i)) is_box within (ends.high.targets i within)) (omega (arith, ends.high.count)))
 
 -- and its ends are in order
 pub ends-below : (r : Routing) → IsRouting r → (f : List ℕ → List ℕ) → Routes r f → (l h u w : List ℕ) → IsBoxOf r l h → AreEnds r f l h u w → IsBelow u w
