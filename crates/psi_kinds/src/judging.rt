@@ -100,13 +100,13 @@ fn listed_refusal(caps: &State, kind: &Kind) -> Option<KindRefusal>
     ensures { result ≡ listed_refusal caps.now kind.now }
 {
     let queues = queues_of(kind);
-    if lacks_queues(&queues) {
+    if !queues.may_be_empty && queues.list.len() == 0 {
         return Some(KindRefusal::Empty);
     }
     if queues.list.repeats() {
         return Some(KindRefusal::Repeated);
     }
-    if targets_itself(&queues) {
+    if has_given(&queues.list, queues.other) || is_self_target(queues.source, &queues.list) {
         return Some(KindRefusal::SelfTarget);
     }
     if lacks_tables(caps, kind) {
@@ -116,20 +116,6 @@ fn listed_refusal(caps: &State, kind: &Kind) -> Option<KindRefusal>
         return Some(KindRefusal::SizeRange);
     }
     None
-}
-
-// Whether a list that may not be empty is.
-fn lacks_queues(queues: &KindQueues) -> bool
-    ensures { result ≡ (not queues.now.may_be_empty && is_empty queues.now.list) }
-{
-    !queues.may_be_empty && queues.list.len() == 0
-}
-
-// Whether customers would leave and join one queue.
-fn targets_itself(queues: &KindQueues) -> bool
-    ensures { result ≡ (has_given queues.now.list queues.now.other || is_self_target queues.now.source queues.now.list) }
-{
-    has_given(&queues.list, queues.other) || is_self_target(queues.source, &queues.list)
 }
 
 // Whether the list has this queue, if there is one.

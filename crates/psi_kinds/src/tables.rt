@@ -49,15 +49,7 @@ impl Tables {
         ensures pushed { OnOk result (self.new ≡ self.old ++ row.items ∷ []) }
         ensures refused { OnErr result (self.new ≡ self.old) }
     {
-        self.push_row(Row::Plain(row))
-    }
-
-    // As above, for a row.
-    fn push_row(&mut self, row: Row) -> Result<(), OutOfMemory>
-        ensures pushed { OnOk result (self.new ≡ self.old ++ row_of row ∷ []) }
-        ensures refused { OnErr result (self.new ≡ self.old) }
-    {
-        self.rows.push(row)?;
+        self.rows.push(Row::Plain(row))?;
         Ok(())
     }
 
@@ -101,14 +93,11 @@ impl Tables {
     pub fn share(&self, alloc: Global) -> Result<Tables, OutOfMemory>
         ensures { IfOk result (λ tables. tables ≡ self.now) }
     {
-        let mut copy = Tables {
-            rows: Vec::with_capacity(alloc, self.rows.len())?,
-        };
+        let mut rows = Vec::with_capacity(alloc, self.rows.len())?;
         for i in 0..self.len() {
-            let row = self.at(i).share(alloc)?;
-            copy.push_row(row)?;
+            rows.push(self.at(i).share(alloc)?)?;
         }
-        Ok(copy)
+        Ok(Tables { rows })
     }
 
     // The values of table `i` as an index table; tables are counted from 0.
