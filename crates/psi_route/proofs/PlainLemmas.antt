@@ -22,10 +22,8 @@ first_best s x j plain place room before = record {
     | inl e ↦ absurd (other e)
     | inr rest ↦ elim rest [
       | inl less ↦ inl (before.each i less)
-      | inr more ↦ inr (let own = weight-none s j (slice_index x (slice_index s.targets j)) plain in
-          let theirs = weight-none s i (slice_index x (slice_index s.targets i)) plain in
-          let first : weight s j (slice_index x (slice_index s.targets j)) ≡ 0 = own in
-          let second : weight s i (slice_index x (slice_index s.targets i)) ≡ 0 = theirs in
+      | inr more ↦ inr (let first = weight-none s j (slice_index x (slice_index s.targets j)) plain in
+          let second = weight-none s i (slice_index x (slice_index s.targets i)) plain in
           omega (arith, first, second))
     ]
   ];

@@ -31,16 +31,10 @@ pub spread-below : (s : Shape) → IsRouteShape s → (l h u w : List ℕ) → I
 spread-below s is l h u w ordered within ends =
     ends-below (routing s) (routing-is s is) (routed s) (shape-routes s is) l h u w (shape-box s l h ordered within) ends
 
--- and the box between them is tight
-spread-tight : (s : Shape) → IsRouteShape s → (l h u w : List ℕ) → IsBelow l h → IsBelow h s.caps → AreEnds (routing s) (routed s) l h u w
-    → IsTight (image (routed s) (box l h)) u w
-spread-tight s is l h u w ordered within ends =
-    ends-tight (routing s) (routing-is s is) (routed s) (shape-routes s is) l h u w (shape-box s l h ordered within) ends
-
--- so a box with these ends is the hull
+-- and a box with these ends is the hull, and tight
 pub spread-is : (s : Shape) → IsRouteShape s → (l h u w : List ℕ) (made : Corners) → IsBelow l h → IsBelow h s.caps
     → AreEnds (routing s) (routed s) l h u w → made ≡ record { lo = u; hi = w }
     → (made ≡ corners (image (routed s) (box l h))) × IsTight (image (routed s) (box l h)) made.lo made.hi
 spread-is s is l h u w made ordered within ends e =
-    let tight = spread-tight s is l h u w ordered within ends in
+    let tight = ends-tight (routing s) (routing-is s is) (routed s) (shape-routes s is) l h u w (shape-box s l h ordered within) ends in
     (e ∙ sym (tight-corners (routed s) l h u w ordered tight), subst (λ (m : Corners). IsTight (image (routed s) (box l h)) m.lo m.hi) (sym e) tight)

@@ -143,10 +143,6 @@ passed_can r is l h x j is_box between passed =
           inr (inr (rival.0, rival.1, rival.2, (slice_index x (r.queue rival.0), held.low, held.high, rival.3, rival.4))))
     ]
 
-idle_can : (r : Routing) → IsRouting r → (l h x : List ℕ) (j : ℕ) → IsBoxOf r l h → IsBetween l h x → slice_index x r.source < r.least
-    → CanPass r l h j (slice_index x (r.queue j))
-idle_can r is l h x j is_box between idle = inr (inl (serves_low r is l h x is_box between idle))
-
 -- a state of the box raises the number at a place, or leaves it as it is
 data Turn (r : Routing) (l h x y : List ℕ) (j : ℕ) : Type 0 where
   raised : CanChoose r l h j (slice_index x (r.queue j)) → slice_index y (r.queue j) ≡ slice_index x (r.queue j) + r.size → Turn r l h x y j
@@ -155,7 +151,7 @@ data Turn (r : Routing) (l h x y : List ℕ) (j : ℕ) : Type 0 where
 turn_of : (r : Routing) → IsRouting r → (l h x y : List ℕ) (j : ℕ) → IsBoxOf r l h → IsBetween l h x → j < r.places → Routed r x y → Turn r l h x y j
 turn_of r is l h x y j is_box between small routed =
     elim (cases_lt (slice_index x r.source) r.least) [
-      | inl idle ↦ kept (idle_can r is l h x j is_box between idle) (ap (λ (z : List ℕ). slice_index z (r.queue j)) (routed.idle idle))
+      | inl idle ↦ kept (inr (inl (serves_low r is l h x is_box between idle))) (ap (λ (z : List ℕ). slice_index z (r.queue j)) (routed.idle idle))
       | inr serve ↦ elim (best_or_passed r x j is small) [
         | inl best ↦ raised (chosen_can r is l h x j is_box between best serve) (routed.gains j serve best)
         | inr passed ↦ kept (passed_can r is l h x j is_box between passed) (routed.stays j small passed)

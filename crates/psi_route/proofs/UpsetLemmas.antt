@@ -3,6 +3,7 @@ use Rattle.std.specs.Prelude.{◌≡◌, ◌≢◌, ℕ, ◌+◌, ◌-◌, ◌<�
 use Rattle.std.proofs.Common.{inl, inr, ap, sym, ◌∙◌, subst, arith, length-set, get_or-set_same, get_or-set_other}
 use Rattle.std.proofs.lemmas.Bool.{cases_lt, cases_eq, le-leb, lt-leb, false_from_ne_true}
 use Rattle.std.proofs.lemmas.Bool.Decides.{nat_tests}
+use Rattle.std.proofs.lemmas.Option.{same_Some}
 use Rattle.psi_state.specs.State.{IsBelow}
 use Rattle.psi_state.proofs.BoxesLemmas.{below-itself, set-below}
 use Rattle.psi_event.specs.Law.{IsMonotone, IsUpset, ShowsUpset}
@@ -71,10 +72,6 @@ full-other : (s : Shape) (a b v w p : ℕ) → p ≢ slice_index s.targets a →
 full-other s a b v w p first second =
     get_or-set_other {A = ℕ} (slice_set s.caps (slice_index s.targets b) w) (slice_index s.targets a) p v 0 first
     ∙ get_or-set_other {A = ℕ} s.caps (slice_index s.targets b) p w 0 second
-
-length-full : (s : Shape) (a b v w : ℕ) → length (full_but s a b v w) ≡ length s.caps
-length-full s a b v w =
-    length-set {A = ℕ} (slice_set s.caps (slice_index s.targets b) w) (slice_index s.targets a) v ∙ length-set {A = ℕ} s.caps (slice_index s.targets b) w
 
 -- the other targets lack room
 full-lacks : (s : Shape) (a b v w i : ℕ) → IsRouteShape s → a < length s.targets → b < length s.targets → i < length s.targets → i ≢ a → i ≢ b
@@ -225,15 +222,12 @@ upset-none s is none_found =
 pub upset-some : (s : Shape) (p : List ℕ × List ℕ) → IsRouteShape s → upset_of s ≡ Some p → IsUpset s.caps (routed s) p.0 p.1
 upset-some s p is found =
     elim (cases_lt s.size 2) [
-      | inr several ↦ (let same : batch_pair s ≡ p = some-same (batch_pair s) p (sym (upset-several s several) ∙ found) in
+      | inr several ↦ (let same : batch_pair s ≡ p = same_Some (batch_pair s) p (sym (upset-several s several) ∙ found) in
           subst (λ (t : List ℕ × List ℕ). IsUpset s.caps (routed s) t.0 t.1) same (batch-upset s is several))
       | inl single ↦ (let one : s.size ≡ 1 = (let some : 1 ≤ s.size = is.sized in omega arith) in
           let made = pair-some s p (sym (upset-single s single) ∙ found) in
           subst (λ (t : List ℕ × List ℕ). IsUpset s.caps (routed s) t.0 t.1) made.5 (crossing-upset s made.0 made.1 made.2 made.3 is one made.4))
     ]
-  where
-    some-same : {A : Type 0} (a c : A) → Some a ≡ Some c → a ≡ c
-    some-same a c is = cc
 
 -- so the pair shows whether it does
 pub upset-shows : (s : Shape) → IsRouteShape s → ShowsUpset s.caps (routed s) (upset_of s)
