@@ -54,12 +54,9 @@ low_inside r caps f l h x q u is fit between place low =
     let start : slice_index l q ≤ slice_index x q = between.low.each q (omega (arith, fit.long)) in
     let stop : slice_index x q ≤ slice_index h q = between.high.each q (omega (arith, fit.longer, between.high.same_length)) in
     elim (is.makes x (below-through x h caps between.high fit.within)).turn [
-      | inl a ↦ (let to : slice_index (f x) q ≡ r.moves q (slice_index x q) = a.1 q place in
-          let least : r.least q ≤ slice_index x q = a.0.low q place in
-          let up : r.moves q (max (slice_index l q) (r.least q)) ≤ r.moves q (slice_index x q) = rises_to r q (max (slice_index l q) (r.least q)) (slice_index x q) is.lawful place (omega arith) in
-          let end : u ≤ r.moves q (max (slice_index l q) (r.least q)) = low.moved (moving r caps l h x fit between a.0) in omega arith)
-      | inr b ↦ (let to : slice_index (f x) q ≡ slice_index x q = b.1 q place in
-          let end : u ≤ slice_index x q = low.kept (slice_index x q) start stop (keeping r caps l h x q fit between b.0) in omega arith)
+      | inl a ↦ (let least : r.least q ≤ slice_index x q = a.0.low q place in
+          omega (arith, a.1 q place, low.moved (moving r caps l h x fit between a.0), rises_to r q (max (slice_index l q) (r.least q)) (slice_index x q) is.lawful place (omega arith)))
+      | inr b ↦ omega (arith, b.1 q place, low.kept (slice_index x q) start stop (keeping r caps l h x q fit between b.0))
     ]
 
 high_inside : (r : Rule) (caps : List ℕ) (f : List ℕ → List ℕ) (l h x : List ℕ) (q w : ℕ) → IsRuleOf r caps f → IsBoxOf r caps l h → IsBetween l h x → q < r.queues
@@ -68,12 +65,9 @@ high_inside r caps f l h x q w is fit between place high =
     let start : slice_index l q ≤ slice_index x q = between.low.each q (omega (arith, fit.long)) in
     let stop : slice_index x q ≤ slice_index h q = between.high.each q (omega (arith, fit.longer, between.high.same_length)) in
     elim (is.makes x (below-through x h caps between.high fit.within)).turn [
-      | inl a ↦ (let to : slice_index (f x) q ≡ r.moves q (slice_index x q) = a.1 q place in
-          let most : slice_index x q ≤ r.most q = a.0.high q place in
-          let up : r.moves q (slice_index x q) ≤ r.moves q (min (slice_index h q) (r.most q)) = rises_to r q (slice_index x q) (min (slice_index h q) (r.most q)) is.lawful place (omega arith) in
-          let end : r.moves q (min (slice_index h q) (r.most q)) ≤ w = high.moved (moving r caps l h x fit between a.0) in omega arith)
-      | inr b ↦ (let to : slice_index (f x) q ≡ slice_index x q = b.1 q place in
-          let end : slice_index x q ≤ w = high.kept (slice_index x q) start stop (keeping r caps l h x q fit between b.0) in omega arith)
+      | inl a ↦ (let most : slice_index x q ≤ r.most q = a.0.high q place in
+          omega (arith, a.1 q place, high.moved (moving r caps l h x fit between a.0), rises_to r q (slice_index x q) (min (slice_index h q) (r.most q)) is.lawful place (omega arith)))
+      | inr b ↦ omega (arith, b.1 q place, high.kept (slice_index x q) start stop (keeping r caps l h x q fit between b.0))
     ]
 
 -- a state of the box that is moved, with a number within the guard in each queue

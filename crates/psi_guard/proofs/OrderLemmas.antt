@@ -118,19 +118,14 @@ monotone_without r caps f is none = record {
             let there : q < length x = omega (arith, place, is.queues, small.same_length) in
             let step : slice_index x q ≤ slice_index y q = below.each q there in
             elim first.turn [
-              | inl a ↦ (let u : slice_index (f x) q ≡ r.moves q (slice_index x q) = a.1 q place in
-                  elim second.turn [
-                    | inl b ↦ (let w : slice_index (f y) q ≡ r.moves q (slice_index y q) = b.1 q place in
-                        let up : r.moves q (slice_index x q) ≤ r.moves q (slice_index y q) = rises_to r q (slice_index x q) (slice_index y q) is.lawful place step in omega arith)
-                    | inr b ↦ (let w : slice_index (f y) q ≡ slice_index y q = b.1 q place in
-                        let up : r.moves q (slice_index x q) ≤ slice_index y q = only_lower r caps x y q is.lawful none is.queues is.cap within below a.0 b.0 place in omega arith)
-                  ])
-              | inr a ↦ (let u : slice_index (f x) q ≡ slice_index x q = a.1 q place in
-                  elim second.turn [
-                    | inl b ↦ (let w : slice_index (f y) q ≡ r.moves q (slice_index y q) = b.1 q place in
-                        let up : slice_index x q ≤ r.moves q (slice_index y q) = only_upper r caps x y q is.lawful none is.queues within below a.0 b.0 place in omega arith)
-                    | inr b ↦ (let w : slice_index (f y) q ≡ slice_index y q = b.1 q place in omega arith)
-                  ])
+              | inl a ↦ elim second.turn [
+                | inl b ↦ omega (arith, a.1 q place, b.1 q place, rises_to r q (slice_index x q) (slice_index y q) is.lawful place step)
+                | inr b ↦ omega (arith, a.1 q place, b.1 q place, only_lower r caps x y q is.lawful none is.queues is.cap within below a.0 b.0 place)
+              ]
+              | inr a ↦ elim second.turn [
+                | inl b ↦ omega (arith, a.1 q place, b.1 q place, only_upper r caps x y q is.lawful none is.queues within below a.0 b.0 place)
+                | inr b ↦ omega (arith, a.1 q place, b.1 q place)
+              ]
             ]);
       });
 }
