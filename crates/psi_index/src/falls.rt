@@ -29,7 +29,7 @@ impl IndexTable {
             let low = others_troughs[place] as u64 + more;
             let high = others_peaks[place + 1] as u64 + more;
             near = past_lower(peaks, near, low);
-            if near < troughs.len() && (troughs[near] as u64) < high {
+            if !stays_above(troughs, near, high) {
                 let passed = self.passed_between(
                     other,
                     place as u16,
@@ -98,4 +98,11 @@ fn past_lower(peaks: &[u32], near: usize, bound: u64) -> usize
         place += 1;
     }
     place
+}
+
+// Whether the trough at the place, if there is one, isn't below the bound.
+fn stays_above(troughs: &[u32], near: usize, bound: u64) -> bool
+    ensures { IsTrue result → near < length troughs.now → bound ≤ slice_index troughs.now near }
+{
+    near >= troughs.len() || troughs[near] as u64 >= bound
 }
