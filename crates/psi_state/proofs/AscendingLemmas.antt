@@ -5,12 +5,14 @@ use Rattle.std.specs.declared.cmp.Ordering.{Ordering}
 use Rattle.std.specs.declared.cmp.Ordering.TheVariants.{Less, Equal, Greater}
 use Rattle.std.proofs.Common.{inl, inr, ap, sym, ◌∙◌, subst, arith, map-id}
 use Rattle.std.proofs.lemmas.Bool.{lt-ltb}
+use Rattle.std.proofs.lemmas.Simd.{map-map}
 use Rattle.std.proofs.lemmas.Cmp.{tied_itself, nat_list_cmp_total, nat_cmp_total}
 use Rattle.psi_state.specs.State.{numbers_from, box}
 use Rattle.psi_state.specs.Members.{In, AreAmong}
-use Rattle.psi_state.proofs.MembersLemmas.{In-append, In-of_map, In-of_flat_map, In-of_numbers_from, In-map}
+use Rattle.psi_state.proofs.MembersLemmas.{In-append, In-of_map, In-of_flat_map, In-of_numbers_from}
+use Rattle.psi_state.proofs.SameLemmas.{same-back, same-through, same-map}
 use Rattle.psi_state.specs.Sets.{state_cmp, insert_state, ascending, image}
-use Rattle.psi_state.proofs.SetsLemmas.{same-from_cmp, In-of_insert_state, In-ascending, In-of_ascending, In-image, In-of_image}
+use Rattle.psi_state.proofs.SetsLemmas.{same-from_cmp, In-of_insert_state, In-ascending, In-of_ascending}
 use Rattle.psi_state.specs.Volume.{layers}
 use Rattle.psi_state.specs.Ascending.{IsRising, IsDistinct, HaveSame}
 
@@ -79,44 +81,27 @@ rising-same (x ∷ xs) (y ∷ ys) first second same =
     let rest : xs ≡ ys = rising-same xs ys first.1 second.1 tails in
     cc
 
+-- a set has the members of the list that it is made of
+pub same-ascending : (xs : List (List ℕ)) → HaveSame (ascending xs) xs
+same-ascending xs = record { there = λ z member. In-of_ascending z xs member; back = λ z member. In-ascending z xs member }
+
 -- an ascending list is that of its own set
 pub ascending-own : (xs : List (List ℕ)) → IsRising xs → ascending xs ≡ xs
-ascending-own xs rising =
-    rising-same (ascending xs) xs (ascending-rising xs) rising
-    (record { there = λ z member. In-of_ascending z xs member; back = λ z member. In-ascending z xs member })
+ascending-own xs rising = rising-same (ascending xs) xs (ascending-rising xs) rising (same-ascending xs)
 
 -- a set is determined by its members
 pub ascending-members : (xs ys : List (List ℕ)) → HaveSame xs ys → ascending xs ≡ ascending ys
 ascending-members xs ys same =
     rising-same (ascending xs) (ascending ys) (ascending-rising xs) (ascending-rising ys)
-    (record {
-      there = λ z member. In-ascending z ys (same.there z (In-of_ascending z xs member));
-      back = λ z member. In-ascending z xs (same.back z (In-of_ascending z ys member));
-    })
+    (same-through (same-ascending xs) (same-through same (same-back (same-ascending ys))))
 
 -- the image of a set is that of a list of it
 pub image-ascending : (f : List ℕ → List ℕ) (xs : List (List ℕ)) → image f (ascending xs) ≡ image f xs
-image-ascending f xs =
-    ascending-members (map f (ascending xs)) (map f xs)
-    (record {
-      there = λ z member. (let found = In-of_map f z (ascending xs) member in
-          subst (λ (w : List ℕ). In w (map f xs)) (sym found.2) (In-map f found.0 xs (In-of_ascending found.0 xs found.1)));
-      back = λ z member. (let found = In-of_map f z xs member in
-          subst (λ (w : List ℕ). In w (map f (ascending xs))) (sym found.2) (In-map f found.0 (ascending xs) (In-ascending found.0 xs found.1)));
-    })
+image-ascending f xs = ascending-members (map f (ascending xs)) (map f xs) (same-map f (same-ascending xs))
 
 -- one function after another
 pub image-image : (f g : List ℕ → List ℕ) (xs : List (List ℕ)) → image f (image g xs) ≡ image (λ x. f (g x)) xs
-image-image f g xs =
-    ascending-members (map f (image g xs)) (map (λ x. f (g x)) xs)
-    (record {
-      there = λ z member. (let outer = In-of_map f z (image g xs) member in
-          let inner = In-of_image g outer.0 xs outer.1 in
-          let e : z ≡ f (g inner.0) = outer.2 ∙ ap f inner.2 in
-          subst (λ (w : List ℕ). In w (map (λ x. f (g x)) xs)) (sym e) (In-map (λ x. f (g x)) inner.0 xs inner.1));
-      back = λ z member. (let found = In-of_map (λ x. f (g x)) z xs member in
-          subst (λ (w : List ℕ). In w (map f (image g xs))) (sym found.2) (In-map f (g found.0) (image g xs) (In-image g found.0 xs found.1)));
-    })
+image-image f g xs = image-ascending f (map g xs) ∙ ap (λ (ys : List (List ℕ)). ascending ys) (map-map f g xs)
 
 -- functions that agree on a list have one image of it
 pub image-agree : (f g : List ℕ → List ℕ) (xs : List (List ℕ)) → ((x : List ℕ) → In x xs → f x ≡ g x) → image f xs ≡ image g xs

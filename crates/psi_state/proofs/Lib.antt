@@ -6,6 +6,7 @@ pub mod HullLemmas
 pub mod ListingLemmas
 pub mod MembersLemmas
 pub mod RepeatsLemmas
+pub mod SameLemmas
 pub mod SetsLemmas
 pub mod StatesLemmas
 pub mod VolumeLemmas
@@ -16,4 +17,3 @@ mod CountingLemmas
 mod OdometerLemmas
 mod OrderLemmas
 mod RowsLemmas
-mod DecidingLemmas
