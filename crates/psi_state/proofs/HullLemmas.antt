@@ -1,10 +1,9 @@
 -- Lemmas. The hull of a list of states: the box from its componentwise least to its componentwise greatest values.
-use Rattle.std.specs.Prelude.{◌≡◌, ℕ, zero, suc, ◌<◌, ◌≤◌, List, [], ◌∷◌, length, slice_index, refl, min, max}
+use Rattle.std.specs.Prelude.{◌≡◌, ℕ, zero, suc, ◌<◌, ◌≤◌, List, [], ◌∷◌, ◌⊎◌, length, slice_index, refl, min, max}
 use Rattle.std.proofs.Common.{inl, inr, ap, sym, ◌∙◌, subst, arith}
 use Rattle.std.proofs.lemmas.Bool.{cases_lt}
-use Rattle.psi_state.specs.State.{Corners, IsBelow}
+use Rattle.std.proofs.lemmas.List.{ext_get_or}
 use Rattle.psi_state.specs.Members.{In}
-use Rattle.psi_state.proofs.BoxesLemmas.{below-itself, same-from_below}
 use Rattle.psi_state.specs.Hull.{join_by, lows, highs, corners, HaveLength, IsTight}
 
 length-join_by : (f : ℕ → ℕ → ℕ) (x y : List ℕ) → length x ≡ length y → length (join_by f x y) ≡ length x
@@ -22,105 +21,85 @@ slice_index-join_by f (v ∷ x) (w ∷ y) zero same small = refl
 slice_index-join_by f (v ∷ x) (w ∷ y) (suc i) same small =
     slice_index-join_by f x y i (omega arith) (omega arith)
 
-have_length-rest : (n : ℕ) (x : List ℕ) (xs : List (List ℕ)) → HaveLength n (x ∷ xs) → HaveLength n xs
-have_length-rest n x xs h = record { each = λ y member. h.each y (inr member) }
+-- an end of states with so many places: at each place it is on one side of all their values, and is one of them
+record IsEnd (R : ℕ → ℕ → Type 0) (n : ℕ) (xs : List (List ℕ)) (l : List ℕ) : Type 0 where
+  same_length : length l ≡ n
+  beside : (x : List ℕ) → In x xs → (i : ℕ) → i < n → R (slice_index l i) (slice_index x i)
+  reached : (i : ℕ) → i < n → (x : List ℕ) × In x xs × (slice_index x i ≡ slice_index l i)
 
-pub length-lows : (n : ℕ) (x : List ℕ) (xs : List (List ℕ)) → HaveLength n (x ∷ xs) → length (lows (x ∷ xs)) ≡ n
-length-lows n x [] h = h.each x (inl refl)
-length-lows n x (y ∷ ys) h =
-    let first : length x ≡ n = h.each x (inl refl) in
-    let rest : length (lows (y ∷ ys)) ≡ n = length-lows n y ys (have_length-rest n x (y ∷ ys) h) in
-    length-join_by min x (lows (y ∷ ys)) (first ∙ sym rest) ∙ first
+-- states have one end on each side
+ends-same : (R : ℕ → ℕ → Type 0) → ((a b : ℕ) → R a b → R b a → a ≡ b) → (n : ℕ) (xs : List (List ℕ)) (l m : List ℕ) → IsEnd R n xs l → IsEnd R n xs m → l ≡ m
+ends-same R both n xs l m first second =
+    ext_get_or 0 l m (first.same_length ∙ sym second.same_length)
+    (λ i small. (let within : i < n = omega (arith, first.same_length) in
+    let own = first.reached i within in
+    let other = second.reached i within in
+    both (slice_index l i) (slice_index m i) (subst (λ v. R (slice_index l i) v) other.2 (first.beside other.0 other.1 i within))
+    (subst (λ v. R (slice_index m i) v) own.2 (second.beside own.0 own.1 i within))))
 
-pub length-highs : (n : ℕ) (x : List ℕ) (xs : List (List ℕ)) → HaveLength n (x ∷ xs) → length (highs (x ∷ xs)) ≡ n
-length-highs n x [] h = h.each x (inl refl)
-length-highs n x (y ∷ ys) h =
-    let first : length x ≡ n = h.each x (inl refl) in
-    let rest : length (highs (y ∷ ys)) ≡ n = length-highs n y ys (have_length-rest n x (y ∷ ys) h) in
-    length-join_by max x (highs (y ∷ ys)) (first ∙ sym rest) ∙ first
+-- the list that takes from states, place by place, the one that a choice between two values leaves on one side
+module _ (f : ℕ → ℕ → ℕ) (ends : List (List ℕ) → List ℕ) (one : (x : List ℕ) → ends (x ∷ []) ≡ x)
+    (more : (x y : List ℕ) (ys : List (List ℕ)) → ends (x ∷ y ∷ ys) ≡ join_by f x (ends (y ∷ ys)))
+    (R : ℕ → ℕ → Type 0) (itself : (a : ℕ) → R a a) (left : (a b : ℕ) → R (f a b) a) (right : (a b c : ℕ) → R b c → R (f a b) c)
+    (either : (a b : ℕ) → (f a b ≡ a) ⊎ (f a b ≡ b)) where
+  end-of_ends : (n : ℕ) (x : List ℕ) (xs : List (List ℕ)) → HaveLength n (x ∷ xs) → IsEnd R n (x ∷ xs) (ends (x ∷ xs))
+  end-of_ends n x [] h =
+      subst (λ (l : List ℕ). IsEnd R n (x ∷ []) l) (sym (one x))
+      (record {
+        same_length = h.each x (inl refl);
+        beside = λ z member i small. elim member [
+          | inl e ↦ subst (λ (y : List ℕ). R (slice_index x i) (slice_index y i)) (sym e) (itself (slice_index x i))
+          | inr none ↦ absurd none
+        ];
+        reached = λ i small. (x, inl refl, refl);
+      })
+  end-of_ends n x (y ∷ ys) h =
+      let rest = end-of_ends n y ys (record { each = λ z member. h.each z (inr member) }) in
+      let own : length x ≡ n = h.each x (inl refl) in
+      let same : length x ≡ length (ends (y ∷ ys)) = own ∙ sym rest.same_length in
+      let at : (i : ℕ) → i < n → slice_index (join_by f x (ends (y ∷ ys))) i ≡ f (slice_index x i) (slice_index (ends (y ∷ ys)) i) =
+      λ i small. slice_index-join_by f x (ends (y ∷ ys)) i same (omega arith) in
+      subst (λ (l : List ℕ). IsEnd R n (x ∷ y ∷ ys) l) (sym (more x y ys))
+      (record {
+        same_length = length-join_by f x (ends (y ∷ ys)) same ∙ own;
+        beside = λ z member i small. rw (at i small) (elim member [
+          | inl e ↦ subst (λ (w : List ℕ). R (f (slice_index x i) (slice_index (ends (y ∷ ys)) i)) (slice_index w i)) (sym e) (left (slice_index x i) (slice_index (ends (y ∷ ys)) i))
+          | inr t ↦ right (slice_index x i) (slice_index (ends (y ∷ ys)) i) (slice_index z i) (rest.beside z t i small)
+        ]);
+        reached = λ i small. elim (either (slice_index x i) (slice_index (ends (y ∷ ys)) i)) [
+          | inl e ↦ (x, inl refl, sym (at i small ∙ e))
+          | inr e ↦ (let found = rest.reached i small in (found.0, inr found.1, found.2 ∙ sym (at i small ∙ e)))
+        ];
+      })
 
-pub lows-below : (n : ℕ) (x z : List ℕ) (xs : List (List ℕ)) → HaveLength n (x ∷ xs) → In z (x ∷ xs) → IsBelow (lows (x ∷ xs)) z
-lows-below n x z [] h member = elim member [ inl e ↦ subst (λ (y : List ℕ). IsBelow x y) (sym e) (below-itself x) | inr none ↦ absurd none ]
-lows-below n x z (y ∷ ys) h member =
-    let tail = have_length-rest n x (y ∷ ys) h in
-    let first : length x ≡ n = h.each x (inl refl) in
-    let rest : length (lows (y ∷ ys)) ≡ n = length-lows n y ys tail in
-    let same : length x ≡ length (lows (y ∷ ys)) = first ∙ sym rest in
-    let whole : length (lows (x ∷ y ∷ ys)) ≡ length x = length-join_by min x (lows (y ∷ ys)) same in
-    let own : length z ≡ n = h.each z member in
-    record {
-      same_length = whole ∙ (first ∙ sym own);
-      each = λ i small. (let within : i < length x = omega arith in
-          let is : slice_index (lows (x ∷ y ∷ ys)) i ≡ min (slice_index x i) (slice_index (lows (y ∷ ys)) i) = slice_index-join_by min x (lows (y ∷ ys)) i same within in
-          elim member [
-            | inl e ↦ (let d : slice_index z i ≡ slice_index x i = ap (λ (w : List ℕ). slice_index w i) e in omega arith)
-            | inr t ↦ (let inner : i < length (lows (y ∷ ys)) = omega arith in
-                let below : slice_index (lows (y ∷ ys)) i ≤ slice_index z i = (lows-below n y z ys tail t).each i inner in omega arith)
-          ]);
-    }
+either-min : (a b : ℕ) → (min a b ≡ a) ⊎ (min a b ≡ b)
+either-min a b = elim (cases_lt a b) [ inl less ↦ inl (omega arith) | inr more ↦ inr (omega arith) ]
 
-pub highs-above : (n : ℕ) (x z : List ℕ) (xs : List (List ℕ)) → HaveLength n (x ∷ xs) → In z (x ∷ xs) → IsBelow z (highs (x ∷ xs))
-highs-above n x z [] h member = elim member [ inl e ↦ subst (λ (y : List ℕ). IsBelow y x) (sym e) (below-itself x) | inr none ↦ absurd none ]
-highs-above n x z (y ∷ ys) h member =
-    let tail = have_length-rest n x (y ∷ ys) h in
-    let first : length x ≡ n = h.each x (inl refl) in
-    let rest : length (highs (y ∷ ys)) ≡ n = length-highs n y ys tail in
-    let same : length x ≡ length (highs (y ∷ ys)) = first ∙ sym rest in
-    let whole : length (highs (x ∷ y ∷ ys)) ≡ length x = length-join_by max x (highs (y ∷ ys)) same in
-    let own : length z ≡ n = h.each z member in
-    record {
-      same_length = own ∙ sym (whole ∙ first);
-      each = λ i small. (let within : i < length x = omega arith in
-          let is : slice_index (highs (x ∷ y ∷ ys)) i ≡ max (slice_index x i) (slice_index (highs (y ∷ ys)) i) = slice_index-join_by max x (highs (y ∷ ys)) i same within in
-          elim member [
-            | inl e ↦ (let d : slice_index z i ≡ slice_index x i = ap (λ (w : List ℕ). slice_index w i) e in omega arith)
-            | inr t ↦ (let above : slice_index z i ≤ slice_index (highs (y ∷ ys)) i = (highs-above n y z ys tail t).each i small in omega arith)
-          ]);
-    }
+either-max : (a b : ℕ) → (max a b ≡ a) ⊎ (max a b ≡ b)
+either-max a b = elim (cases_lt a b) [ inl less ↦ inr (omega arith) | inr more ↦ inl (omega arith) ]
 
-pub lows-reached : (n : ℕ) (x : List ℕ) (xs : List (List ℕ)) (i : ℕ) → HaveLength n (x ∷ xs) → i < n
-    → (z : List ℕ) × In z (x ∷ xs) × (slice_index z i ≡ slice_index (lows (x ∷ xs)) i)
-lows-reached n x [] i h small = (x, inl refl, refl)
-lows-reached n x (y ∷ ys) i h small =
-    let tail = have_length-rest n x (y ∷ ys) h in
-    let first : length x ≡ n = h.each x (inl refl) in
-    let rest : length (lows (y ∷ ys)) ≡ n = length-lows n y ys tail in
-    let is : slice_index (lows (x ∷ y ∷ ys)) i ≡ min (slice_index x i) (slice_index (lows (y ∷ ys)) i) =
-    slice_index-join_by min x (lows (y ∷ ys)) i (first ∙ sym rest) (omega arith) in
-    let found = lows-reached n y ys i tail small in
-    let found_is : slice_index found.0 i ≡ slice_index (lows (y ∷ ys)) i = found.2 in
-    elim (cases_lt (slice_index x i) (slice_index (lows (y ∷ ys)) i)) [
-      | inl less ↦ (x, inl refl, omega arith)
-      | inr more ↦ (found.0, inr found.1, omega arith)
-    ]
+end-lows : (n : ℕ) (x : List ℕ) (xs : List (List ℕ)) → HaveLength n (x ∷ xs) → IsEnd (λ a b. a ≤ b) n (x ∷ xs) (lows (x ∷ xs))
+end-lows =
+    end-of_ends min lows (λ x. refl) (λ x y ys. refl) (λ a b. a ≤ b) (λ a. omega arith) (λ a b. omega arith) (λ a b c below. omega arith) either-min
 
-pub highs-reached : (n : ℕ) (x : List ℕ) (xs : List (List ℕ)) (i : ℕ) → HaveLength n (x ∷ xs) → i < n
-    → (z : List ℕ) × In z (x ∷ xs) × (slice_index z i ≡ slice_index (highs (x ∷ xs)) i)
-highs-reached n x [] i h small = (x, inl refl, refl)
-highs-reached n x (y ∷ ys) i h small =
-    let tail = have_length-rest n x (y ∷ ys) h in
-    let first : length x ≡ n = h.each x (inl refl) in
-    let rest : length (highs (y ∷ ys)) ≡ n = length-highs n y ys tail in
-    let is : slice_index (highs (x ∷ y ∷ ys)) i ≡ max (slice_index x i) (slice_index (highs (y ∷ ys)) i) =
-    slice_index-join_by max x (highs (y ∷ ys)) i (first ∙ sym rest) (omega arith) in
-    let found = highs-reached n y ys i tail small in
-    let found_is : slice_index found.0 i ≡ slice_index (highs (y ∷ ys)) i = found.2 in
-    elim (cases_lt (slice_index x i) (slice_index (highs (y ∷ ys)) i)) [
-      | inl less ↦ (found.0, inr found.1, omega arith)
-      | inr more ↦ (x, inl refl, omega arith)
-    ]
+end-highs : (n : ℕ) (x : List ℕ) (xs : List (List ℕ)) → HaveLength n (x ∷ xs) → IsEnd (λ a b. b ≤ a) n (x ∷ xs) (highs (x ∷ xs))
+end-highs =
+    end-of_ends max highs (λ x. refl) (λ x y ys. refl) (λ a b. b ≤ a) (λ a. omega arith) (λ a b. omega arith) (λ a b c above. omega arith) either-max
 
 -- the corners of the hull are tight around the list
 pub corners-tight : (n : ℕ) (z : List ℕ) (xs : List (List ℕ)) → HaveLength n xs → In z xs → IsTight xs (lows xs) (highs xs)
 corners-tight n z [] h member = absurd member
-corners-tight n z (x ∷ xs) h member = record {
-  inside = λ y found. record { low = lows-below n x y xs h found; high = highs-above n x y xs h found };
-  low = λ i small. lows-reached n x xs i h (let e = length-lows n x xs h in omega (arith, e));
-  high = λ i small. highs-reached n x xs i h (let e = length-highs n x xs h in omega (arith, e));
-}
-
-abbrev corners_of : List ℕ → List ℕ → Corners
-corners_of l h = record { lo = l; hi = h }
+corners-tight n z (x ∷ xs) h member =
+    let low = end-lows n x xs h in
+    let high = end-highs n x xs h in
+    record {
+      inside = λ y found. record {
+        low = record { same_length = low.same_length ∙ sym (h.each y found); each = λ i small. low.beside y found i (omega (arith, low.same_length)) };
+        high = record { same_length = h.each y found ∙ sym high.same_length; each = λ i small. high.beside y found i (omega (arith, h.each y found)) };
+      };
+      low = λ i small. low.reached i (omega (arith, low.same_length));
+      high = λ i small. high.reached i (omega (arith, high.same_length));
+    }
 
 -- and no other corners are
 pub corners-from_tight : (z : List ℕ) (xs : List (List ℕ)) (l h : List ℕ) → In z xs → IsTight xs l h → corners xs ≡ record { lo = l; hi = h }
@@ -128,42 +107,14 @@ corners-from_tight z [] l h member tight = absurd member
 corners-from_tight z (x ∷ xs) l h member tight =
     let lengths : HaveLength (length l) (x ∷ xs) = record { each = λ y found. sym ((tight.inside y found).low.same_length) } in
     let same : length l ≡ length h = (tight.inside z member).low.same_length ∙ (tight.inside z member).high.same_length in
-    let low_count : length (lows (x ∷ xs)) ≡ length l = length-lows (length l) x xs lengths in
-    let high_count : length (highs (x ∷ xs)) ≡ length l = length-highs (length l) x xs lengths in
-    let below : IsBelow (lows (x ∷ xs)) l = record {
-      same_length = low_count;
-      each = λ i small.
-          (let found = tight.low i (omega arith) in
-          let is : slice_index found.0 i ≡ slice_index l i = found.2 in
-          let least : slice_index (lows (x ∷ xs)) i ≤ slice_index found.0 i = (lows-below (length l) x found.0 xs lengths found.1).each i small in
-          omega arith);
-    } in
-    let above : IsBelow l (lows (x ∷ xs)) = record {
-      same_length = sym low_count;
-      each = λ i small.
-          (let found = lows-reached (length l) x xs i lengths small in
-          let is : slice_index found.0 i ≡ slice_index (lows (x ∷ xs)) i = found.2 in
-          let least : slice_index l i ≤ slice_index found.0 i = (tight.inside found.0 found.1).low.each i small in
-          omega arith);
-    } in
-    let under : IsBelow (highs (x ∷ xs)) h = record {
-      same_length = high_count ∙ same;
-      each = λ i small.
-          (let found = highs-reached (length l) x xs i lengths (omega arith) in
-          let is : slice_index found.0 i ≡ slice_index (highs (x ∷ xs)) i = found.2 in
-          let own : length found.0 ≡ length l = lengths.each found.0 found.1 in
-          let most : slice_index found.0 i ≤ slice_index h i = (tight.inside found.0 found.1).high.each i (omega arith) in
-          omega arith);
-    } in
-    let over : IsBelow h (highs (x ∷ xs)) = record {
-      same_length = sym (high_count ∙ same);
-      each = λ i small.
-          (let found = tight.high i small in
-          let is : slice_index found.0 i ≡ slice_index h i = found.2 in
-          let own : length found.0 ≡ length l = lengths.each found.0 found.1 in
-          let most : slice_index found.0 i ≤ slice_index (highs (x ∷ xs)) i = (highs-above (length l) x found.0 xs lengths found.1).each i (omega arith) in
-          omega arith);
-    } in
-    let first : lows (x ∷ xs) ≡ l = same-from_below (lows (x ∷ xs)) l below above in
-    let second : highs (x ∷ xs) ≡ h = same-from_below (highs (x ∷ xs)) h under over in
-    ap (λ (w : List ℕ). corners_of w (highs (x ∷ xs))) first ∙ ap (λ (w : List ℕ). corners_of l w) second
+    let first : lows (x ∷ xs) ≡ l =
+    ends-same (λ a b. a ≤ b) (λ a b below above. omega arith) (length l) (x ∷ xs) (lows (x ∷ xs)) l (end-lows (length l) x xs lengths)
+    (record { same_length = refl; beside = λ y found. (tight.inside y found).low.each; reached = tight.low }) in
+    let second : highs (x ∷ xs) ≡ h =
+    ends-same (λ a b. b ≤ a) (λ a b above below. omega arith) (length l) (x ∷ xs) (highs (x ∷ xs)) h (end-highs (length l) x xs lengths)
+    (record {
+      same_length = sym same;
+      beside = λ y found i small. (tight.inside y found).high.each i (omega (arith, lengths.each y found));
+      reached = λ i small. tight.high i (omega (arith, same));
+    }) in
+    rw (first, second) refl
