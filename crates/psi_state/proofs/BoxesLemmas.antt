@@ -1,8 +1,8 @@
 -- Lemmas. Which states a box lists: those between its two corners.
-use Rattle.std.specs.Prelude.{◌≡◌, ℕ, zero, suc, ◌+◌, ◌-◌, ◌<◌, ◌≤◌, List, [], ◌∷◌, length, map, slice_index, slice_set, refl}
+use Rattle.std.specs.Prelude.{◌≡◌, ℕ, zero, suc, ◌+◌, ◌-◌, ◌<◌, ◌≤◌, List, [], ◌∷◌, length, map, drop, slice_index, slice_set, refl}
 use Rattle.std.proofs.Common.{inl, inr, ap, sym, ◌∙◌, subst, arith, length-set, get_or-set_same, get_or-set_other}
 use Rattle.std.proofs.lemmas.Bool.{cases_lt, cases_eq}
-use Rattle.std.proofs.lemmas.List.{length-replicate, get_or-replicate, set_past}
+use Rattle.std.proofs.lemmas.List.{ext_get_or, length-drop, get_or-drop, length-replicate, get_or-replicate, set_past}
 use Rattle.psi_state.specs.State.{IsBelow, numbers_from, box, zeros, all_states}
 use Rattle.psi_state.specs.Members.{In, AreAmong}
 use Rattle.psi_state.proofs.MembersLemmas.{In-map, In-of_map, In-flat_map, In-of_flat_map, In-numbers_from, In-of_numbers_from}
@@ -24,6 +24,32 @@ below-cons x xs y ys first rest = record { same_length = ap suc rest.same_length
     each zero small = first
     each (suc i) small = rest.each i (omega arith)
 
+-- what holds of two empty lists, and of longer ones that are below one another where it holds of their tails, holds of all that are
+pub below-induction : (P : List ℕ → List ℕ → Type 0) → P [] []
+    → ((j k : ℕ) (l h : List ℕ) → j ≤ k → IsBelow l h → P l h → P (j ∷ l) (k ∷ h)) → (l h : List ℕ) → IsBelow l h → P l h
+below-induction P none more [] [] ordered = none
+below-induction P none more [] (k ∷ h) ordered = absurd (let e : 0 ≡ suc (length h) = ordered.same_length in omega arith)
+below-induction P none more (j ∷ l) [] ordered = absurd (let e : suc (length l) ≡ 0 = ordered.same_length in omega arith)
+below-induction P none more (j ∷ l) (k ∷ h) ordered =
+    let rest = below-tail j l k h ordered in
+    more j k l h (below-head j l k h ordered) rest (below-induction P none more l h rest)
+
+-- so does what holds of three lists, one between the others
+pub between-induction : (P : List ℕ → List ℕ → List ℕ → Type 0) → P [] [] []
+    → ((j k v : ℕ) (l h x : List ℕ) → j ≤ v → v ≤ k → IsBetween l h x → P l h x → P (j ∷ l) (k ∷ h) (v ∷ x))
+    → (l h x : List ℕ) → IsBetween l h x → P l h x
+between-induction P none more l h x between =
+    below-induction (λ (xs hs : List ℕ). (ls : List ℕ) → IsBelow ls xs → P ls hs xs) first next x h between.high l between.low
+  where
+    first : (ls : List ℕ) → IsBelow ls [] → P ls [] []
+    first [] low = none
+    first (j ∷ ls) low = absurd (let e : suc (length ls) ≡ 0 = low.same_length in omega arith)
+
+    next : (v k : ℕ) (xs hs : List ℕ) → v ≤ k → IsBelow xs hs → ((ls : List ℕ) → IsBelow ls xs → P ls hs xs) → (ls : List ℕ) → IsBelow ls (v ∷ xs) → P ls (k ∷ hs) (v ∷ xs)
+    next v k xs hs last high rest [] low = absurd (let e : 0 ≡ suc (length xs) = low.same_length in omega arith)
+    next v k xs hs last high rest (j ∷ ls) low =
+        (let tail = below-tail j ls v xs low in more j k v ls hs xs (below-head j ls v xs low) last (record { low = tail; high = high }) (rest ls tail))
+
 pub below-itself : (x : List ℕ) → IsBelow x x
 below-itself x = record { same_length = refl; each = λ i small. omega arith }
 
@@ -33,6 +59,13 @@ below-through x y z low high = record {
   each = λ i small. (let first : slice_index x i ≤ slice_index y i = low.each i small in
       let within : i < length y = omega (arith, low.same_length) in
       let second : slice_index y i ≤ slice_index z i = high.each i within in omega arith);
+}
+
+-- what is left of a state is below what is left of another
+pub below-drop : (x y : List ℕ) (n : ℕ) → IsBelow x y → IsBelow (drop n x) (drop n y)
+below-drop x y n below = record {
+  same_length = omega (arith, length-drop {A = ℕ} n x, length-drop {A = ℕ} n y, below.same_length);
+  each = λ i small. rw (get_or-drop {A = ℕ} n x i 0, get_or-drop {A = ℕ} n y i 0) (below.each (n + i) (omega (arith, length-drop {A = ℕ} n x)));
 }
 
 -- a state with another number at one place is below another where it was and that number is
@@ -54,30 +87,15 @@ set-below x y q v below small =
     ]
 
 pub same-from_below : (x y : List ℕ) → IsBelow x y → IsBelow y x → x ≡ y
-same-from_below [] [] low high = refl
-same-from_below [] (y ∷ ys) low high = absurd (let e : 0 ≡ suc (length ys) = low.same_length in omega arith)
-same-from_below (x ∷ xs) [] low high = absurd (let e : suc (length xs) ≡ 0 = low.same_length in omega arith)
-same-from_below (x ∷ xs) (y ∷ ys) low high =
-    let first : x ≤ y = below-head x xs y ys low in
-    let back : y ≤ x = below-head y ys x xs high in
-    let e : x ≡ y = omega arith in
-    let rest = same-from_below xs ys (below-tail x xs y ys low) (below-tail y ys x xs high) in
-    cc
+same-from_below x y low high = ext_get_or 0 x y low.same_length (λ i small. omega (arith, low.each i small, high.each i (omega (arith, low.same_length))))
 
 pub In-box : (l h x : List ℕ) → IsBelow l x → IsBelow x h → In x (box l h)
-In-box [] [] [] low high = inl refl
-In-box [] [] (v ∷ x) low high = absurd (let e : 0 ≡ suc (length x) = low.same_length in omega arith)
-In-box [] (k ∷ h) [] low high = absurd (let e : 0 ≡ suc (length h) = high.same_length in omega arith)
-In-box [] (k ∷ h) (v ∷ x) low high = absurd (let e : 0 ≡ suc (length x) = low.same_length in omega arith)
-In-box (j ∷ l) [] [] low high = absurd (let e : suc (length l) ≡ 0 = low.same_length in omega arith)
-In-box (j ∷ l) [] (v ∷ x) low high = absurd (let e : suc (length x) ≡ 0 = high.same_length in omega arith)
-In-box (j ∷ l) (k ∷ h) [] low high = absurd (let e : suc (length l) ≡ 0 = low.same_length in omega arith)
-In-box (j ∷ l) (k ∷ h) (v ∷ x) low high =
-    let first : j ≤ v = below-head j l v x low in
-    let last : v ≤ k = below-head v x k h high in
-    let rest = In-box l h x (below-tail j l v x low) (below-tail v x k h high) in
-    In-flat_map (λ w. map (λ (y : List ℕ). w ∷ y) (box l h)) v (v ∷ x) (numbers_from j (suc k - j))
-    (In-numbers_from v j (suc k - j) first (omega arith)) (In-map (λ (y : List ℕ). v ∷ y) x (box l h) rest)
+In-box l h x low high =
+    between-induction (λ ls hs xs. In xs (box ls hs)) (inl refl)
+    (λ j k v ls hs xs first last between rest.
+    In-flat_map (λ w. map (λ (y : List ℕ). w ∷ y) (box ls hs)) v (v ∷ xs) (numbers_from j (suc k - j))
+    (In-numbers_from v j (suc k - j) first (omega arith)) (In-map (λ (y : List ℕ). v ∷ y) xs (box ls hs) rest))
+    l h x (record { low = low; high = high })
 
 -- a state between the corners stays between them where one place is given a number that is between theirs
 pub set-between : (l h x : List ℕ) (q v : ℕ) → IsBetween l h x → q < length l → slice_index l q ≤ v → v ≤ slice_index h q

@@ -1,6 +1,6 @@
 -- The steps of the loops that count the states of a box, and that turn states into places and back.
 use Rattle.std.specs.Prelude.{◌≡◌, ℕ, suc, ◌+◌, ◌-◌, ◌*◌, ◌/◌, ◌%◌, ◌<◌, ◌≤◌, List, length, Some, slice_get, slice_index, slice_set, drop}
-use Rattle.std.proofs.Common.{inl, inr, ap, sym, ◌∙◌, subst, arith}
+use Rattle.std.proofs.Common.{inl, inr, ap, sym, ◌∙◌, subst, add-one, arith}
 use Rattle.std.proofs.Math.Nat.{mul_assoc, zero-mul, le-mul_of_pos_right}
 use Rattle.std.proofs.lemmas.Bool.{cases_eq}
 use Rattle.std.proofs.lemmas.List.{drop-set-lt, get_or-set_same}
@@ -17,13 +17,8 @@ pub record IsCounting (l h : List ℕ) (i count : ℕ) : Type 0 where
 
 pub counting-next : (l h : List ℕ) (i count width : ℕ) → IsBelow l h → i < length l → width ≡ suc (slice_index h i) - slice_index l i
     → IsCounting l h i count → IsCounting l h (i + 1) (count * width)
-counting-next l h i count width ordered small is so_far = record {
-  all = (let next : i + 1 ≡ suc i = omega arith in
-      ap (λ k. count * width * volume (drop k l) (drop k h)) next
-      ∙ (mul_assoc count width (volume (drop (suc i) l) (drop (suc i) h))
-      ∙ (ap (λ w. count * (w * volume (drop (suc i) l) (drop (suc i) h))) is
-      ∙ (ap (λ n. count * n) (sym (volume-drop l h i ordered small)) ∙ so_far.all))));
-}
+counting-next l h i count width ordered small is so_far =
+    record { all = rw (add-one, is, mul_assoc, ← volume-drop l h i ordered small) so_far.all }
 
 -- what was passed has no more states than the box
 pub counting-most : (l h : List ℕ) (i count : ℕ) → IsBelow l h → IsCounting l h i count → count ≤ length (box l h)
@@ -34,8 +29,8 @@ counting-most l h i count ordered so_far =
 
 pub counting-last : (l h : List ℕ) (i count : ℕ) → IsBelow l h → i ≡ length l → IsCounting l h i count → count ≡ length (box l h)
 counting-last l h i count ordered end so_far =
-    let one : volume (drop i l) (drop i h) ≡ 1 = ap (λ k. volume (drop k l) (drop k h)) end ∙ volume-drop-all l h ordered.same_length in
-    let all : count * 1 ≡ volume l h = ap (λ n. count * n) (sym one) ∙ so_far.all in
+    let one : volume (drop i l) (drop i h) ≡ 1 = rw end (volume-drop-all l h ordered.same_length) in
+    let all : count * 1 ≡ volume l h = rw one at so_far.all in
     omega (arith, length-box l h)
 
 -- the place of what was passed, in steps of what is left, and the place of what is left, are the whole place
@@ -61,19 +56,9 @@ place-between l h x i member small =
 pub ranking-next : (l h x : List ℕ) (i rank width : ℕ) → IsBelow l h → length x ≡ length l → i < length l
     → width ≡ suc (slice_index h i) - slice_index l i → IsRanking l h x i rank
     → IsRanking l h x (i + 1) (rank * width + (slice_index x i - slice_index l i))
-ranking-next l h x i rank width ordered same small is so_far = record {
-  all = (let next : i + 1 ≡ suc i = omega arith in
-      let value = slice_index x i - slice_index l i in
-      let rest = volume (drop (suc i) l) (drop (suc i) h) in
-      let place = place_in (drop (suc i) l) (drop (suc i) h) (drop (suc i) x) in
-      let volumes : volume (drop i l) (drop i h) ≡ width * volume (drop (suc i) l) (drop (suc i) h) =
-      volume-drop l h i ordered small ∙ ap (λ w. w * volume (drop (suc i) l) (drop (suc i) h)) (sym is) in
-      let places = place_in-drop l h x i ordered same small in
-      ap (λ k. (rank * width + (slice_index x i - slice_index l i)) * volume (drop k l) (drop k h) + place_in (drop k l) (drop k h) (drop k x)) next
-      ∙ (sym (horner rank width (slice_index x i - slice_index l i) (volume (drop (suc i) l) (drop (suc i) h)) (place_in (drop (suc i) l) (drop (suc i) h) (drop (suc i) x)))
-      ∙ (ap (λ n. rank * n + ((slice_index x i - slice_index l i) * volume (drop (suc i) l) (drop (suc i) h) + place_in (drop (suc i) l) (drop (suc i) h) (drop (suc i) x))) (sym volumes)
-      ∙ (ap (λ n. rank * volume (drop i l) (drop i h) + n) (sym places) ∙ so_far.all))));
-}
+ranking-next l h x i rank width ordered same small is so_far =
+    let all = rw (volume-drop l h i ordered small, place_in-drop l h x i ordered same small, ← is) at so_far.all in
+    record { all = rw add-one (sym (horner rank width (slice_index x i - slice_index l i) _ _) ∙ all) }
 
 -- what was passed doesn't rank above the whole state
 pub ranking-most : (l h x : List ℕ) (i rank : ℕ) → IsBelow l h → In x (box l h) → IsRanking l h x i rank → rank < length (box l h)
@@ -97,10 +82,9 @@ pub ranking-last : (l h x : List ℕ) (i rank : ℕ) → IsBelow l h → In x (b
     → slice_get (box l h) rank ≡ Some x
 ranking-last l h x i rank ordered member end so_far =
     let between = In-of_box l h x member in
-    let one : volume (drop i l) (drop i h) ≡ 1 = ap (λ k. volume (drop k l) (drop k h)) end ∙ volume-drop-all l h ordered.same_length in
-    let none : place_in (drop i l) (drop i h) (drop i x) ≡ 0 =
-    ap (λ k. place_in (drop k l) (drop k h) (drop k x)) end ∙ place_in-drop-all l h x ordered.same_length (sym (between.low.same_length)) in
-    let all : rank * 1 + 0 ≡ place_in l h x = ap (λ n. rank * n + 0) (sym one) ∙ (ap (λ n. rank * volume (drop i l) (drop i h) + n) (sym none) ∙ so_far.all) in
+    let one : volume (drop i l) (drop i h) ≡ 1 = rw end (volume-drop-all l h ordered.same_length) in
+    let none : place_in (drop i l) (drop i h) (drop i x) ≡ 0 = rw end (place_in-drop-all l h x) in
+    let all : rank * 1 + 0 ≡ place_in l h x = rw (one, none) at so_far.all in
     let place : rank ≡ place_in l h x = omega arith in
     ap (λ k. slice_get (box l h) k) place ∙ slice_get-box l h x between
 
@@ -130,21 +114,10 @@ unranking-next l h x i left width v r ordered small wide is so_far =
     let count : length l ≡ length x = so_far.between.low.same_length in
     let at : slice_index (slice_set x i v) i ≡ v = get_or-set_same x i v 0 (omega arith) in
     let away : drop (suc i) (slice_set x i v) ≡ drop (suc i) x = drop-set-lt (suc i) x i v (omega arith) in
-    let volumes : volume (drop i l) (drop i h) ≡ width * volume (drop (suc i) l) (drop (suc i) h) =
-    volume-drop l h i ordered small ∙ ap (λ w. w * volume (drop (suc i) l) (drop (suc i) h)) (sym wide) in
-    let places : place_in (drop i l) (drop i h) (drop i (slice_set x i v))
-    ≡ left % width * volume (drop (suc i) l) (drop (suc i) h) + place_in (drop (suc i) l) (drop (suc i) h) (drop (suc i) x) =
-    place_in-drop l h (slice_set x i v) i ordered (sym (between.low.same_length)) small
-    ∙ (ap (λ n. (n - slice_index l i) * volume (drop (suc i) l) (drop (suc i) h) + place_in (drop (suc i) l) (drop (suc i) h) (drop (suc i) (slice_set x i v))) at
-    ∙ (ap (λ n. n * volume (drop (suc i) l) (drop (suc i) h) + place_in (drop (suc i) l) (drop (suc i) h) (drop (suc i) (slice_set x i v))) value
-    ∙ ap (λ (y : List ℕ). left % width * volume (drop (suc i) l) (drop (suc i) h) + place_in (drop (suc i) l) (drop (suc i) h) y) away)) in
     record {
       between = between;
-      all = ap (λ n. left / width * n + place_in (drop i l) (drop i h) (drop i (slice_set x i v))) volumes
-          ∙ (ap (λ n. left / width * (width * volume (drop (suc i) l) (drop (suc i) h)) + n) places
-          ∙ (horner (left / width) width (left % width) (volume (drop (suc i) l) (drop (suc i) h)) (place_in (drop (suc i) l) (drop (suc i) h) (drop (suc i) x))
-          ∙ (ap (λ n. n * volume (drop (suc i) l) (drop (suc i) h) + place_in (drop (suc i) l) (drop (suc i) h) (drop (suc i) x)) split
-          ∙ so_far.all)));
+      all = rw (volume-drop l h i ordered small, ← wide, place_in-drop l h (slice_set x i v) i ordered (sym (between.low.same_length)) small, at, value, away)
+          (horner (left / width) width (left % width) _ _ ∙ (rw split so_far.all));
     }
 
 -- the step of a loop that goes down, over the number of the places that aren't set

@@ -1,12 +1,11 @@
 -- The step of an odometer gives the state that follows in a box's list: the last place that isn't at its greatest
 -- number is raised by one, and all places after it, which are, go back to their least.
-use Rattle.std.specs.Prelude.{◌≡◌, ℕ, zero, suc, ◌-◌, ◌<◌, ◌≤◌, List, [], ◌∷◌, ◌++◌, length, map, slice_index, slice_set}
-use Rattle.std.proofs.Common.{ap, sym, ◌∙◌, subst, arith}
+use Rattle.std.specs.Prelude.{◌≡◌, ℕ, zero, suc, ◌-◌, ◌<◌, ◌≤◌, List, [], ◌∷◌, length, slice_index, slice_set, refl}
+use Rattle.std.proofs.Common.{sym, ◌∙◌, arith}
 use Rattle.std.proofs.lemmas.List.{ext_get_or, get_or-set_same, get_or-set_other, length-set}
-use Rattle.psi_state.specs.State.{IsBelow, box}
+use Rattle.psi_state.specs.State.{IsBelow}
 use Rattle.psi_state.specs.Boxes.{IsBetween}
 use Rattle.psi_state.proofs.BoxesLemmas.{below-tail}
-use Rattle.psi_state.specs.Volume.{layers}
 use Rattle.psi_state.specs.Listing.{onward}
 use Rattle.psi_state.proofs.ListingLemmas.{onward-low, onward-high}
 
@@ -51,21 +50,14 @@ onward-raised (j ∷ l) (k ∷ h) (v ∷ x) (w ∷ y) zero between small room ra
     let same_high : length x ≡ length h = high.same_length in
     let top : x ≡ h = ext_get_or 0 x h same_high (λ n within. raised.full (suc n) (omega arith) (omega arith)) in
     let bottom : y ≡ l = ext_get_or 0 y l (omega arith) (λ n within. raised.back (suc n) (omega arith) (omega arith)) in
-    let ordered : IsBelow l h = subst (λ (z : List ℕ). IsBelow l z) top low in
-    ap (λ (z : List ℕ). map (λ (t : List ℕ). v ∷ t) (onward l h z) ++ layers (box l h) (suc v) (k - v)) top
-    ∙ (ap (λ (zs : List (List ℕ)). map (λ (t : List ℕ). v ∷ t) zs ++ layers (box l h) (suc v) (k - v)) (onward-high l h ordered.same_length)
-    ∙ (ap (λ n. (v ∷ h) ∷ layers (box l h) (suc v) n) width
-    ∙ (ap (λ (zs : List (List ℕ)). (v ∷ h) ∷ (map (λ (t : List ℕ). suc v ∷ t) zs ++ layers (box l h) (suc (suc v)) (k - suc v))) (sym (onward-low l h ordered))
-    ∙ (ap (λ (z : List ℕ). (v ∷ z) ∷ onward (j ∷ l) (k ∷ h) (suc v ∷ l)) (sym top)
-    ∙ (ap (λ n. (v ∷ x) ∷ onward (j ∷ l) (k ∷ h) (n ∷ l)) (sym number)
-    ∙ ap (λ (z : List ℕ). (v ∷ x) ∷ onward (j ∷ l) (k ∷ h) (w ∷ z)) (sym bottom))))))
+    let ordered : IsBelow l h = rw top at low in
+    rw (top, bottom, number, onward-high l h ordered, onward-low l h ordered, width) refl
 onward-raised (j ∷ l) (k ∷ h) (v ∷ x) (w ∷ y) (suc i) between small room raised =
     let rest = onward-raised l h x y i
     (record { low = below-tail j l v x between.low; high = below-tail v x k h between.high }) (omega arith) room
     (raised-tail j k v w l h x y i raised) in
     let number : w ≡ v = raised.front 0 (omega arith) in
-    ap (λ (zs : List (List ℕ)). map (λ (t : List ℕ). v ∷ t) zs ++ layers (box l h) (suc v) (k - v)) rest
-    ∙ ap (λ n. (v ∷ x) ∷ onward (j ∷ l) (k ∷ h) (n ∷ y)) (sym number)
+    rw (number, rest) refl
 
 raised-from_turned : (l h x y : List ℕ) (n v : ℕ) → 0 < n → n ≤ length x → v ≡ suc (slice_index x (n - 1)) → IsTurned l h x y n
     → IsRaised l h x (slice_set y (n - 1) v) (n - 1)
@@ -92,6 +84,5 @@ turned-raised l h x y n v between some few room is turned =
 -- where no place has room, the state was the last
 pub turned-last : (l h x y : List ℕ) → IsBetween l h x → IsTurned l h x y 0 → onward l h x ≡ x ∷ []
 turned-last l h x y between turned =
-    let count : length x ≡ length h = between.high.same_length in
-    let top : x ≡ h = ext_get_or 0 x h count (λ i small. turned.full i (omega arith) small) in
-    subst (λ (z : List ℕ). onward l h z ≡ z ∷ []) (sym top) (onward-high l h (between.low.same_length ∙ count))
+    let top : x ≡ h = ext_get_or 0 x h between.high.same_length (λ i small. turned.full i (omega arith) small) in
+    rw top (onward-high l h (rw top at between.low))

@@ -5,12 +5,12 @@ use Rattle.std.specs.Cmp.Lexicographic.{slice_cmp}
 use Rattle.std.specs.Ordering.{nat_cmp, ordering_then}
 use Rattle.std.specs.declared.cmp.Ordering.{Ordering}
 use Rattle.std.specs.declared.cmp.Ordering.TheVariants.{Equal}
-use Rattle.std.proofs.Common.{inl, inr, ap, sym, ◌∙◌, subst, arith}
+use Rattle.std.proofs.Common.{inl, inr, ap, sym, ◌∙◌, arith}
 use Rattle.std.proofs.lemmas.Bool.{cases_lt}
 use Rattle.std.proofs.lemmas.Grind.{common_steps}
 use Rattle.std.proofs.lemmas.List.{get_or_past}
 use Rattle.psi_state.specs.Hashing.{quad, number_in}
-use Rattle.psi_state.proofs.QuadsLemmas.{each-from_quad}
+use Rattle.psi_state.proofs.QuadsLemmas.{number-quad, each-from_quad}
 
 -- the first place at which two lists differ tells their order
 one_differs : (x y : ℕ) (o : Ordering) → (x ≡ y → ⊥) → ordering_then (nat_cmp x y) o ≡ nat_cmp x y
@@ -33,18 +33,6 @@ cmp-same (x ∷ xs) [] same = absurd cc
 cmp-same (x ∷ xs) (y ∷ ys) same =
     let tied : Equal ≡ nat_cmp x y = nat_cmp_is x y Equal cc in
     rw (← tied) (cmp-same xs ys cc)
-
--- the numbers of a quad are the list's
-number-quad : (x : List ℕ) (i : ℕ) → ((k : ℕ) → slice_index x k < 65536) → (place k : ℕ) → 4 * i + place ≡ k → place < 4 → number_in (quad x i) place ≡ slice_index x k
-number-quad x i each zero k at small =
-    subst (λ m. number_in (quad x i) 0 ≡ slice_index x m) (let e : 4 * i ≡ k = omega arith in e) (omega (arith, each (4 * i)))
-number-quad x i each (suc zero) k at small =
-    subst (λ m. number_in (quad x i) 1 ≡ slice_index x m) at (omega (arith, each (4 * i), each (4 * i + 1)))
-number-quad x i each (suc (suc zero)) k at small =
-    subst (λ m. number_in (quad x i) 2 ≡ slice_index x m) at (omega (arith, each (4 * i), each (4 * i + 1), each (4 * i + 2)))
-number-quad x i each (suc (suc (suc zero))) k at small =
-    subst (λ m. number_in (quad x i) 3 ≡ slice_index x m) at (omega (arith, each (4 * i), each (4 * i + 1), each (4 * i + 2), each (4 * i + 3)))
-number-quad x i each (suc (suc (suc (suc place)))) k at small = absurd (omega arith)
 
 module _ (x y : List ℕ) (i place : ℕ) (own : (k : ℕ) → slice_index x k < 65536) (others : (k : ℕ) → slice_index y k < 65536) (long : length x ≡ length y)
     (before : (k : ℕ) → k < i → quad x k ≡ quad y k) (small : place < 4)

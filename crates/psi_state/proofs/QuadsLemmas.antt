@@ -1,57 +1,30 @@
 -- States of as many queues are one where their quads are.
 use Rattle.std.specs.Prelude.{◌≡◌, ℕ, zero, suc, ◌+◌, ◌*◌, ◌/◌, ◌%◌, ◌<◌, ◌≤◌, ◌↔◌, Bool, true, false, IsTrue, List, length, slice_index, nat_eq, refl}
 use Rattle.std.specs.Cmp.Lexicographic.{pointwise}
-use Rattle.std.proofs.Common.{inl, inr, ap, sym, subst, arith}
+use Rattle.std.proofs.Common.{inl, inr, ap, sym, ◌∙◌, subst, arith}
 use Rattle.std.proofs.lemmas.Bool.{cases_lt}
 use Rattle.std.proofs.lemmas.Grind.{same_number_lists}
 use Rattle.psi_state.specs.State.{IsVector}
-use Rattle.psi_state.specs.Hashing.{quad}
+use Rattle.psi_state.specs.Hashing.{quad, number_in}
 use Rattle.psi_state.proofs.StatesLemmas.{same-from_eq, apart-from_eq}
 
--- two numbers of 16 bits beside higher ones
-low-same : (a b c d : ℕ) → a < 65536 → c < 65536 → a + 65536 * b ≡ c + 65536 * d → a ≡ c
-low-same a b c d small fits same = omega arith
+-- the numbers of a quad are the list's
+pub number-quad : (x : List ℕ) (i : ℕ) → ((k : ℕ) → slice_index x k < 65536) → (place k : ℕ) → 4 * i + place ≡ k → place < 4 → number_in (quad x i) place ≡ slice_index x k
+number-quad x i each zero k at small =
+    subst (λ m. number_in (quad x i) 0 ≡ slice_index x m) (let e : 4 * i ≡ k = omega arith in e) (omega (arith, each (4 * i)))
+number-quad x i each (suc zero) k at small =
+    subst (λ m. number_in (quad x i) 1 ≡ slice_index x m) at (omega (arith, each (4 * i), each (4 * i + 1)))
+number-quad x i each (suc (suc zero)) k at small =
+    subst (λ m. number_in (quad x i) 2 ≡ slice_index x m) at (omega (arith, each (4 * i), each (4 * i + 1), each (4 * i + 2)))
+number-quad x i each (suc (suc (suc zero))) k at small =
+    subst (λ m. number_in (quad x i) 3 ≡ slice_index x m) at (omega (arith, each (4 * i), each (4 * i + 1), each (4 * i + 2), each (4 * i + 3)))
+number-quad x i each (suc (suc (suc (suc place)))) k at small = absurd (omega arith)
 
-high-same : (a b c d : ℕ) → a < 65536 → c < 65536 → a + 65536 * b ≡ c + 65536 * d → b ≡ d
-high-same a b c d small fits same = omega arith
-
-module _ (x y : List ℕ) (i : ℕ) (own : (k : ℕ) → slice_index x k < 65536) (others : (k : ℕ) → slice_index y k < 65536) (same : quad x i ≡ quad y i) where
-  first : slice_index x (4 * i) ≡ slice_index y (4 * i)
-  first =
-      low-same (slice_index x (4 * i)) (slice_index x (4 * i + 1) + 65536 * (slice_index x (4 * i + 2) + 65536 * slice_index x (4 * i + 3)))
-      (slice_index y (4 * i)) (slice_index y (4 * i + 1) + 65536 * (slice_index y (4 * i + 2) + 65536 * slice_index y (4 * i + 3)))
-      (own (4 * i)) (others (4 * i)) (omega arith)
-
-  later : slice_index x (4 * i + 1) + 65536 * (slice_index x (4 * i + 2) + 65536 * slice_index x (4 * i + 3))
-      ≡ slice_index y (4 * i + 1) + 65536 * (slice_index y (4 * i + 2) + 65536 * slice_index y (4 * i + 3))
-  later = (let e = first in omega arith)
-
-  second : slice_index x (4 * i + 1) ≡ slice_index y (4 * i + 1)
-  second =
-      low-same (slice_index x (4 * i + 1)) (slice_index x (4 * i + 2) + 65536 * slice_index x (4 * i + 3))
-      (slice_index y (4 * i + 1)) (slice_index y (4 * i + 2) + 65536 * slice_index y (4 * i + 3)) (own (4 * i + 1)) (others (4 * i + 1)) later
-
-  last : slice_index x (4 * i + 2) + 65536 * slice_index x (4 * i + 3) ≡ slice_index y (4 * i + 2) + 65536 * slice_index y (4 * i + 3)
-  last = (let e = second in let l = later in omega arith)
-
-  third : slice_index x (4 * i + 2) ≡ slice_index y (4 * i + 2)
-  third =
-      low-same (slice_index x (4 * i + 2)) (slice_index x (4 * i + 3)) (slice_index y (4 * i + 2)) (slice_index y (4 * i + 3)) (own (4 * i + 2)) (others (4 * i + 2)) last
-
-  fourth : slice_index x (4 * i + 3) ≡ slice_index y (4 * i + 3)
-  fourth =
-      high-same (slice_index x (4 * i + 2)) (slice_index x (4 * i + 3)) (slice_index y (4 * i + 2)) (slice_index y (4 * i + 3)) (own (4 * i + 2)) (others (4 * i + 2)) last
-
-  to : (k place : ℕ) → place ≡ k → slice_index x place ≡ slice_index y place → slice_index x k ≡ slice_index y k
-  to k place is at = subst (λ m. slice_index x m ≡ slice_index y m) is at
-
-  -- a quad tells each of its numbers
-  pub each-from_quad : (k j : ℕ) → 4 * i + j ≡ k → j < 4 → slice_index x k ≡ slice_index y k
-  each-from_quad k zero is small = to k (4 * i) (omega arith) first
-  each-from_quad k (suc zero) is small = to k (4 * i + 1) (omega arith) second
-  each-from_quad k (suc (suc zero)) is small = to k (4 * i + 2) (omega arith) third
-  each-from_quad k (suc (suc (suc zero))) is small = to k (4 * i + 3) (omega arith) fourth
-  each-from_quad k (suc (suc (suc (suc j)))) is small = absurd (omega arith)
+-- so a quad tells each of its numbers
+pub each-from_quad : (x y : List ℕ) (i : ℕ) → ((k : ℕ) → slice_index x k < 65536) → ((k : ℕ) → slice_index y k < 65536) → quad x i ≡ quad y i
+    → (k j : ℕ) → 4 * i + j ≡ k → j < 4 → slice_index x k ≡ slice_index y k
+each-from_quad x y i own others same k j is small =
+    sym (number-quad x i own j k is small) ∙ (ap (λ q. number_in q j) same ∙ number-quad y i others j k is small)
 
 pub same-from_quads : (x y : List ℕ) (quads : ℕ) → IsVector x → IsVector y → length x ≡ length y → length x ≤ 4 * quads
     → ((i : ℕ) → i < quads → quad x i ≡ quad y i) → x ≡ y

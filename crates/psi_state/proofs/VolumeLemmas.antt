@@ -1,12 +1,14 @@
 -- Lemmas. The number of states of a box, as the product of its widths, and the place of each state in the box's list.
 use Rattle.std.specs.Prelude.{◌≡◌, ℕ, zero, suc, ◌+◌, ◌-◌, ◌*◌, ◌<◌, ◌≤◌, List, [], ◌∷◌, ◌++◌, length, map, Some, slice_get, slice_index, drop, refl}
+use Rattle.std.specs.Option.{option_map}
 use Rattle.std.proofs.Common.{ap, sym, ◌∙◌, arith, length-append, zero-add}
 use Rattle.std.proofs.Math.Nat.{suc-mul, zero-mul, mul-pos}
-use Rattle.std.proofs.lemmas.List.{length-map}
-use Rattle.std.proofs.lemmas.Option.{slice_get_within}
+use Rattle.std.proofs.Math.Seq.{drop-cons, drop-length}
+use Rattle.std.proofs.lemmas.List.{length-map, drop_all}
+use Rattle.std.proofs.lemmas.Option.{slice_get_within, slice_get-map}
 use Rattle.psi_state.specs.State.{IsBelow, box}
 use Rattle.psi_state.specs.Boxes.{IsBetween}
-use Rattle.psi_state.proofs.BoxesLemmas.{below-head, below-tail}
+use Rattle.psi_state.proofs.BoxesLemmas.{below-induction, between-induction, below-drop}
 use Rattle.psi_state.specs.Volume.{volume, place_in, layers}
 
 pub length-layers : (inner : List (List ℕ)) (first n : ℕ) → length (layers inner first n) ≡ n * length inner
@@ -26,14 +28,7 @@ length-box (j ∷ l) (k ∷ h) = length-layers (box l h) j (suc k - j) ∙ ap (�
 
 -- a box between ordered corners isn't empty
 pub volume-some : (l h : List ℕ) → IsBelow l h → 1 ≤ volume l h
-volume-some [] [] ordered = omega arith
-volume-some [] (k ∷ h) ordered = absurd (let e : 0 ≡ suc (length h) = ordered.same_length in omega arith)
-volume-some (j ∷ l) [] ordered = absurd (let e : suc (length l) ≡ 0 = ordered.same_length in omega arith)
-volume-some (j ∷ l) (k ∷ h) ordered =
-    let first : j ≤ k = below-head j l k h ordered in
-    let width : 1 ≤ suc k - j = omega arith in
-    let rest : 1 ≤ volume l h = volume-some l h (below-tail j l k h ordered) in
-    mul-pos width rest
+volume-some = below-induction (λ l h. 1 ≤ volume l h) (omega arith) (λ j k l h first ordered rest. (let width : 1 ≤ suc k - j = omega arith in mul-pos width rest))
 
 slice_get-left : {A : Type 0} (xs ys : List A) (i : ℕ) (x : A) → slice_get xs i ≡ Some x → slice_get (xs ++ ys) i ≡ Some x
 slice_get-left [] ys i x is = absurd cc
@@ -46,12 +41,6 @@ slice_get-right (z ∷ xs) ys i =
     let e : suc (length xs) + i ≡ suc (length xs + i) = omega arith in
     ap (λ k. slice_get (z ∷ xs ++ ys) k) e ∙ slice_get-right xs ys i
 
-slice_get-cons : (v : ℕ) (inner : List (List ℕ)) (i : ℕ) (x : List ℕ) → slice_get inner i ≡ Some x
-    → slice_get (map (λ (y : List ℕ). v ∷ y) inner) i ≡ Some (v ∷ x)
-slice_get-cons v [] i x is = absurd cc
-slice_get-cons v (y ∷ inner) zero x is = ap (λ (z : List ℕ). Some (v ∷ z)) cc
-slice_get-cons v (y ∷ inner) (suc i) x is = slice_get-cons v inner i x is
-
 pub slice_get-layers : (inner : List (List ℕ)) (first n k i : ℕ) (x : List ℕ) → k < n → slice_get inner i ≡ Some x
     → slice_get (layers inner first n) (k * length inner + i) ≡ Some ((first + k) ∷ x)
 slice_get-layers inner first zero k i x small is = absurd (omega arith)
@@ -59,7 +48,7 @@ slice_get-layers inner first (suc n) zero i x small is =
     let at : 0 * length inner + i ≡ i = omega (arith, zero-mul (length inner)) in
     let number : first ≡ first + 0 = omega arith in
     ap (λ j. slice_get (layers inner first (suc n)) j) at
-    ∙ (slice_get-left (map (λ (y : List ℕ). first ∷ y) inner) (layers inner (suc first) n) i (first ∷ x) (slice_get-cons first inner i x is)
+    ∙ (slice_get-left (map (λ (y : List ℕ). first ∷ y) inner) (layers inner (suc first) n) i (first ∷ x) (slice_get-map (λ (y : List ℕ). first ∷ y) inner i ∙ ap (option_map (λ (y : List ℕ). first ∷ y)) is)
     ∙ ap (λ v. Some (v ∷ x)) number)
 slice_get-layers inner first (suc n) (suc k) i x small is =
     let count = length-map inner (λ (x : List ℕ). first ∷ x) in
@@ -73,22 +62,14 @@ slice_get-layers inner first (suc n) (suc k) i x small is =
 
 -- the place of a state of a box is where the box's list has it
 pub slice_get-box : (l h x : List ℕ) → IsBetween l h x → slice_get (box l h) (place_in l h x) ≡ Some x
-slice_get-box [] [] [] between = refl
-slice_get-box [] [] (v ∷ x) between = absurd (let e : 0 ≡ suc (length x) = between.low.same_length in omega arith)
-slice_get-box [] (k ∷ h) [] between = absurd (let e : 0 ≡ suc (length h) = between.high.same_length in omega arith)
-slice_get-box [] (k ∷ h) (v ∷ x) between = absurd (let e : 0 ≡ suc (length x) = between.low.same_length in omega arith)
-slice_get-box (j ∷ l) [] [] between = absurd (let e : suc (length l) ≡ 0 = between.low.same_length in omega arith)
-slice_get-box (j ∷ l) [] (v ∷ x) between = absurd (let e : suc (length x) ≡ 0 = between.high.same_length in omega arith)
-slice_get-box (j ∷ l) (k ∷ h) [] between = absurd (let e : suc (length l) ≡ 0 = between.low.same_length in omega arith)
-slice_get-box (j ∷ l) (k ∷ h) (v ∷ x) between =
-    let first : j ≤ v = below-head j l v x between.low in
-    let last : v ≤ k = below-head v x k h between.high in
-    let rest = slice_get-box l h x (record { low = below-tail j l v x between.low; high = below-tail v x k h between.high }) in
-    let found = slice_get-layers (box l h) j (suc k - j) (v - j) (place_in l h x) x (omega arith) rest in
+slice_get-box =
+    between-induction (λ l h x. slice_get (box l h) (place_in l h x) ≡ Some x) refl
+    (λ j k v l h x first last between rest.
+    (let found = slice_get-layers (box l h) j (suc k - j) (v - j) (place_in l h x) x (omega arith) rest in
     let count : volume l h ≡ length (box l h) = sym (length-box l h) in
     let number : j + (v - j) ≡ v = omega arith in
     ap (λ n. slice_get (box (j ∷ l) (k ∷ h)) ((v - j) * n + place_in l h x)) count
-    ∙ (found ∙ ap (λ w. Some (w ∷ x)) number)
+    ∙ (found ∙ ap (λ w. Some (w ∷ x)) number)))
 
 -- so it is below the number of states
 pub place_in-small : (l h x : List ℕ) → IsBetween l h x → place_in l h x < volume l h
@@ -99,38 +80,21 @@ place_in-small l h x between =
 -- the number of states between what is left of the corners, with one place more
 pub volume-drop : (l h : List ℕ) (i : ℕ) → IsBelow l h → i < length l
     → volume (drop i l) (drop i h) ≡ (suc (slice_index h i) - slice_index l i) * volume (drop (suc i) l) (drop (suc i) h)
-volume-drop [] h i ordered small = absurd (omega arith)
-volume-drop (j ∷ l) [] i ordered small = absurd (let e : suc (length l) ≡ 0 = ordered.same_length in omega arith)
-volume-drop (j ∷ l) (k ∷ h) zero ordered small = refl
-volume-drop (j ∷ l) (k ∷ h) (suc i) ordered small = volume-drop l h i (below-tail j l k h ordered) (omega arith)
+volume-drop l h i ordered small = rw (drop-cons l i 0 small, drop-cons h i 0 (omega (arith, ordered.same_length))) refl
 
 pub volume-drop-some : (l h : List ℕ) (i : ℕ) → IsBelow l h → 1 ≤ volume (drop i l) (drop i h)
-volume-drop-some l h zero ordered = volume-some l h ordered
-volume-drop-some [] [] (suc i) ordered = omega arith
-volume-drop-some [] (k ∷ h) (suc i) ordered = absurd (let e : 0 ≡ suc (length h) = ordered.same_length in omega arith)
-volume-drop-some (j ∷ l) [] (suc i) ordered = absurd (let e : suc (length l) ≡ 0 = ordered.same_length in omega arith)
-volume-drop-some (j ∷ l) (k ∷ h) (suc i) ordered = volume-drop-some l h i (below-tail j l k h ordered)
+volume-drop-some l h i ordered = volume-some (drop i l) (drop i h) (below-drop l h i ordered)
 
 -- after the last place nothing is left
 pub volume-drop-all : (l h : List ℕ) → length l ≡ length h → volume (drop (length l) l) (drop (length l) h) ≡ 1
-volume-drop-all [] [] same = refl
-volume-drop-all [] (k ∷ h) same = absurd (omega arith)
-volume-drop-all (j ∷ l) [] same = absurd (omega arith)
-volume-drop-all (j ∷ l) (k ∷ h) same = volume-drop-all l h (omega arith)
+volume-drop-all l h same = rw (drop-length l, drop_all (length l) h (omega arith)) refl
 
 -- the place of what is left of a state, with one place more
 pub place_in-drop : (l h x : List ℕ) (i : ℕ) → IsBelow l h → length x ≡ length l → i < length l
     → place_in (drop i l) (drop i h) (drop i x)
     ≡ (slice_index x i - slice_index l i) * volume (drop (suc i) l) (drop (suc i) h) + place_in (drop (suc i) l) (drop (suc i) h) (drop (suc i) x)
-place_in-drop [] h x i ordered same small = absurd (omega arith)
-place_in-drop (j ∷ l) [] x i ordered same small = absurd (let e : suc (length l) ≡ 0 = ordered.same_length in omega arith)
-place_in-drop (j ∷ l) (k ∷ h) [] i ordered same small = absurd (omega arith)
-place_in-drop (j ∷ l) (k ∷ h) (v ∷ x) zero ordered same small = refl
-place_in-drop (j ∷ l) (k ∷ h) (v ∷ x) (suc i) ordered same small =
-    place_in-drop l h x i (below-tail j l k h ordered) (omega arith) (omega arith)
+place_in-drop l h x i ordered same small =
+    rw (drop-cons l i 0 small, drop-cons h i 0 (omega (arith, ordered.same_length)), drop-cons x i 0 (omega arith)) refl
 
-pub place_in-drop-all : (l h x : List ℕ) → length l ≡ length h → length x ≡ length l → place_in (drop (length l) l) (drop (length l) h) (drop (length l) x) ≡ 0
-place_in-drop-all [] h x ordered same = refl
-place_in-drop-all (j ∷ l) [] x ordered same = absurd (omega arith)
-place_in-drop-all (j ∷ l) (k ∷ h) [] ordered same = absurd (omega arith)
-place_in-drop-all (j ∷ l) (k ∷ h) (v ∷ x) ordered same = place_in-drop-all l h x (omega arith) (omega arith)
+pub place_in-drop-all : (l h x : List ℕ) → place_in (drop (length l) l) (drop (length l) h) (drop (length l) x) ≡ 0
+place_in-drop-all l h x = rw (drop-length l) refl
