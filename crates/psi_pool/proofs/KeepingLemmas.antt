@@ -1,27 +1,27 @@
 -- What a table keeps, and what its calls make of it.
-use Rattle.std.proofs.Common.{◌≡◌, ◌⊎◌, ◌↔◌, ℕ, suc, ◌+◌, ◌*◌, ◌<◌, ◌≤◌, Bool, List, [], ◌∷◌, ◌++◌, IsTrue, length, map, get_or, slice_index, take, slice_set, true, false, inl, inr, ap, sym, ◌∙◌, subst, arith, length-set, get_or-set_same, get_or-set_other}
+use Rattle.std.proofs.Common.{◌≡◌, ◌⊎◌, ◌↔◌, ℕ, ◌+◌, ◌*◌, ◌<◌, ◌≤◌, Bool, List, [], ◌∷◌, ◌++◌, IsTrue, length, map, get_or, slice_index, take, slice_set, true, false, inl, inr, ap, sym, ◌∙◌, subst, arith, length-set, get_or-set_same, get_or-set_other}
 use Rattle.std.proofs.lemmas.List.{get_or_default, take_more_set, map-append}
 use Rattle.psi_state.specs.Members.{In}
-use Rattle.psi_state.proofs.MembersLemmas.{In-append, In-append_left, In-append_right}
+use Rattle.psi_state.proofs.SameLemmas.{same-swap}
 use Rattle.psi_state.specs.Sets.{insert_state, ascending, image}
 use Rattle.psi_state.proofs.SetsLemmas.{In-ascending, In-of_ascending}
 use Rattle.psi_state.specs.Ascending.{IsDistinct, IsRising, HaveSame}
 use Rattle.psi_state.proofs.AscendingLemmas.{ascending-members, ascending-rising, length-ascending, image-ascending}
 use Rattle.psi_pool.specs.declared.nodes.Node.{Node}
-use Rattle.psi_pool.specs.declared.table.Table.{Table}
+use Rattle.psi_pool.specs.declared.state_table.StateTable.{StateTable}
 use Rattle.psi_pool.specs.Inner.BucketsKept.{bucket}
 use Rattle.psi_pool.specs.Pooled.{Pooled}
 use Rattle.psi_pool.specs.Paced.{Paced}
 use Rattle.psi_pool.specs.Inner.NodesKept.{node_at, states, IsLinked, AreLinked, HoldSet}
-use Rattle.psi_pool.specs.Inner.TablesKept.{held, IsTable, IsPool}
+use Rattle.psi_pool.specs.Inner.StateTablesKept.{held, IsStateTable, IsPool}
 use Rattle.psi_pool.proofs.SortingLemmas.{insert_state-there, ascending-short}
 use Rattle.psi_pool.proofs.PlacesLemmas.{states-take, states-same, distinct-more, length-states}
 use Rattle.psi_pool.proofs.LinkingLemmas.{linked-none, linked-more}
 use Rattle.psi_pool.proofs.ChainsLemmas.{chained-linked}
 
 -- no node is in use, and the buckets are empty
-pub table-empty : {t : Table} (heads : List ℕ) → t.heads.items ≡ heads → length t.nodes.items ≤ 4096 → length heads ≡ 4 * length t.nodes.items + 1 → t.used ≡ length heads
-    → t.len ≡ 0 → ((b : ℕ) → b < length heads → slice_index heads b ≡ 4096) → IsTable t
+pub table-empty : {t : StateTable} (heads : List ℕ) → t.heads.items ≡ heads → length t.nodes.items ≤ 4096 → length heads ≡ 4 * length t.nodes.items + 1 → t.used ≡ length heads
+    → t.len ≡ 0 → ((b : ℕ) → b < length heads → slice_index heads b ≡ 4096) → IsStateTable t
 table-empty {t} heads same small buckets whole none empty =
     let long = ap (λ (hs : List ℕ). length hs) same in
     let linked = linked-none t.used t.nodes.items t.heads.items
@@ -35,23 +35,19 @@ table-empty {t} heads same small buckets whole none empty =
       links = λ yes. subst (λ n. AreLinked t.used t.nodes.items t.heads.items n) (sym none) (record {
         linked = linked;
         chained = chained-linked t.used t.nodes.items t.heads.items 0 (omega arith) (omega arith) linked;
-        distinct = distinct t.nodes.items;
+        distinct = tt;
       });
     }
-  where
-    distinct : (ns : List Node) → IsDistinct (states ns 0)
-    distinct [] = tt
-    distinct (m ∷ ns) = tt
 
 -- a table by its counts and its links
-table-counted : (t : Table) → (length t.nodes.items ≤ 4096) × (length t.heads.items ≡ 4 * length t.nodes.items + 1) × (1 ≤ t.used) × (t.used ≤ length t.heads.items)
-    × (t.len ≤ length t.nodes.items) → (IsTrue t.is_linked → AreLinked t.used t.nodes.items t.heads.items t.len) → IsTable t
+table-counted : (t : StateTable) → (length t.nodes.items ≤ 4096) × (length t.heads.items ≡ 4 * length t.nodes.items + 1) × (1 ≤ t.used) × (t.used ≤ length t.heads.items)
+    × (t.len ≤ length t.nodes.items) → (IsTrue t.is_linked → AreLinked t.used t.nodes.items t.heads.items t.len) → IsStateTable t
 table-counted t counts links = record { small = counts.0; buckets = counts.1; some = counts.2; few = counts.3; fits = counts.4; links = links }
 
 -- the nodes are linked again
-pub table-linked : (t : Table) {now : Table} (nodes : List Node) (heads : List ℕ) (xs : List (List ℕ)) → IsTable t → now.nodes.items ≡ nodes → now.heads.items ≡ heads
+pub table-linked : (t : StateTable) {now : StateTable} (nodes : List Node) (heads : List ℕ) (xs : List (List ℕ)) → IsStateTable t → now.nodes.items ≡ nodes → now.heads.items ≡ heads
     → length nodes ≡ length t.nodes.items → length heads ≡ length t.heads.items → now.used ≡ 4 * t.len + 1 → now.len ≤ t.len → HoldSet now.used nodes heads now.len xs
-    → IsTable now
+    → IsStateTable now
 table-linked t {now} nodes heads xs ok nodes_are heads_are nodes_same heads_same used fewer holds =
     let fits = ok.fits in
     let small = ok.small in
@@ -103,22 +99,20 @@ module _ (nodes : List Node) (heads : List ℕ) (used len : ℕ) (limit : length
   keeps-inserted : AreLinked used more (slice_set heads home len) (len + 1)
   keeps-inserted =
       let count = length-more in
-      let next_place : suc len ≡ len + 1 = omega arith in
       record {
         linked = linked-inserted;
         chained = chained-linked used more (slice_set heads home len) (len + 1) some (omega arith) linked-inserted;
-        distinct = subst (λ k. IsDistinct (states more k)) next_place
-            (distinct-more more len (omega arith) (subst (λ (xs : List (List ℕ)). IsDistinct xs) (sym same) links.distinct) new);
+        distinct = distinct-more more len (omega arith) (subst (λ (xs : List (List ℕ)). IsDistinct xs) (sym same) links.distinct) new;
       }
 
   pub links-inserted : AreLinked used (slice_set nodes len (record { state = x; next = next })) (slice_set heads home len) (len + 1)
   unfolding more
   links-inserted = keeps-inserted
 
-pub table-inserted : (t : Table) {now : Table} (x : List ℕ) (home next : ℕ) → IsTable t → t.is_linked ≡ true
+pub table-inserted : (t : StateTable) {now : StateTable} (x : List ℕ) (home next : ℕ) → IsStateTable t → t.is_linked ≡ true
     → now.nodes.items ≡ slice_set t.nodes.items t.len (record { state = x; next = next }) → now.heads.items ≡ slice_set t.heads.items home t.len → now.used ≡ t.used
     → now.len ≡ t.len + 1 → home ≡ bucket t.used x → home < t.used → next ≡ get_or t.heads.items home next → t.len < length t.nodes.items
-    → (In x (held t) → ⊥) → IsTable now
+    → (In x (held t) → ⊥) → IsStateTable now
 table-inserted t {now} x home next ok linked nodes_are heads_are used_is len_is own inside read free absent =
     let limit = ok.small in
     let buckets = ok.buckets in
@@ -134,45 +128,33 @@ table-inserted t {now} x home next ok linked nodes_are heads_are used_is len_is 
     (subst (λ k. AreLinked t.used (slice_set t.nodes.items t.len (record { state = x; next = next })) (slice_set t.heads.items home t.len) k) (sym len_is)
     (links-inserted t.nodes.items t.heads.items t.used t.len limit few some (ok.links linked) x home next own inside read free absent)))))
 
-pub more-members : (xs : List (List ℕ)) (x : List ℕ) → HaveSame (xs ++ x ∷ []) (x ∷ xs)
-more-members xs x = record {
-  there = λ z member. elim (In-append z xs (x ∷ []) member) [ inl old ↦ inr old | inr end ↦ elim end [ inl e ↦ inl e | inr none ↦ absurd none ] ];
-  back = λ z member. elim member [ inl e ↦ In-append_right z xs (x ∷ []) (inl e) | inr old ↦ In-append_left z xs (x ∷ []) old ];
-}
-
 -- one state more at the end is one more among them
 pub members-inserted : (nodes : List Node) (len : ℕ) (m : Node) → len < length nodes → HaveSame (states (slice_set nodes len m) (len + 1)) (m.state ∷ states nodes len)
 members-inserted nodes len m free =
     let listed : states (slice_set nodes len m) (len + 1) ≡ states nodes len ++ m.state ∷ [] =
     ap (λ (ns : List Node). map (λ (n : Node). n.state) ns) (take_more_set nodes len m free) ∙ map-append (λ (n : Node). n.state) (take len nodes) (m ∷ []) in
-    subst (λ (xs : List (List ℕ)). HaveSame xs (m.state ∷ states nodes len)) (sym listed) (more-members (states nodes len) m.state)
+    subst (λ (xs : List (List ℕ)). HaveSame xs (m.state ∷ states nodes len)) (sym listed) (same-swap (states nodes len) (m.state ∷ []))
 
 -- a state that is there already
 pub states-there : (xs : List (List ℕ)) (x : List ℕ) → In x xs → insert_state x (ascending xs) ≡ ascending xs
 states-there xs x member = insert_state-there x (ascending xs) (ascending-rising xs) (In-ascending x xs member)
 
-pub members-through : (x : List ℕ) (xs ys zs : List (List ℕ)) → HaveSame xs (x ∷ ys) → HaveSame ys zs → HaveSame xs (x ∷ zs)
-members-through x xs ys zs first second = record {
-  there = λ z member. elim (first.there z member) [ inl e ↦ inl e | inr old ↦ inr (second.there z old) ];
-  back = λ z member. first.back z (elim member [ inl e ↦ inl e | inr old ↦ inr (second.back z old) ]);
-}
-
 -- where the nodes are linked, the count of those in use is that of the set
-pub table-length : (t : Table) → IsTable t → t.is_linked ≡ true → t.len ≡ length (ascending (held t))
+pub table-length : (t : StateTable) → IsStateTable t → t.is_linked ≡ true → t.len ≡ length (ascending (held t))
 table-length t ok linked =
     let fits = ok.fits in
     let links = ok.links linked in
     sym (length-ascending (held t) links.distinct ∙ length-states t.nodes.items t.len fits)
 
 -- and otherwise the set isn't larger
-table-short : (t : Table) → IsTable t → length (ascending (held t)) ≤ t.len
+table-short : (t : StateTable) → IsStateTable t → length (ascending (held t)) ≤ t.len
 table-short t ok =
     let short = ascending-short (held t) in
     let long = length-states t.nodes.items t.len ok.fits in
     omega arith
 
 -- so a pool has no more states than it has room for
-pub pool-few : {pace : Paced} (t : Table) (most room : ℕ) (p : Pooled) → IsPool t most room pace → record { most = most; states = ascending (held t); pace = pace } ≡ p → length p.states ≤ p.most
+pub pool-few : {pace : Paced} (t : StateTable) (most room : ℕ) (p : Pooled) → IsPool t most room pace → record { most = most; states = ascending (held t); pace = pace } ≡ p → length p.states ≤ p.most
 pool-few t most room p kept is =
     let fits = kept.table.fits in
     let count = kept.count in
@@ -180,11 +162,11 @@ pool-few t most room p kept is =
     subst (λ (q : Pooled). length q.states ≤ q.most) is (omega arith)
 
 -- and lists them in their order
-pub pool-rising : {pace : Paced} (t : Table) (most : ℕ) (p : Pooled) → record { most = most; states = ascending (held t); pace = pace } ≡ p → IsRising p.states
+pub pool-rising : {pace : Paced} (t : StateTable) (most : ℕ) (p : Pooled) → record { most = most; states = ascending (held t); pace = pace } ≡ p → IsRising p.states
 pool-rising t most p is = subst (λ (q : Pooled). IsRising q.states) is (ascending-rising (held t))
 
 -- where the set may take a state that isn't there, a node is free
-pub table-free : {pace : Paced} (t old : Table) (most : ℕ) (p : Pooled) (x : List ℕ) → IsTable t → t.is_linked ≡ true → HaveSame (held t) (held old)
+pub table-free : {pace : Paced} (t old : StateTable) (most : ℕ) (p : Pooled) (x : List ℕ) → IsStateTable t → t.is_linked ≡ true → HaveSame (held t) (held old)
     → record { most = most; states = ascending (held old); pace = pace } ≡ p → length t.nodes.items ≡ most → (length p.states < p.most) ⊎ In x p.states
     → (t.len < length t.nodes.items) ⊎ In x (held t)
 table-free t old most p x ok linked same is count fits =
@@ -197,7 +179,7 @@ table-free t old most p x ok linked same is count fits =
     ]
 
 -- where all nodes are in use and linked, the set has as many states
-pub table-full : (t old : Table) → IsTable t → t.is_linked ≡ true → HaveSame (held t) (held old) → length (ascending (held old)) < length t.nodes.items
+pub table-full : (t old : StateTable) → IsStateTable t → t.is_linked ≡ true → HaveSame (held t) (held old) → length (ascending (held old)) < length t.nodes.items
     → t.len < length t.nodes.items
 table-full t old ok linked same room =
     let own = table-length t ok linked in
@@ -236,7 +218,7 @@ pub states-stepped : (f : List ℕ → List ℕ) (old now : List (List ℕ)) →
 states-stepped f old now same = ascending-members now (map f old) same ∙ sym (image-ascending f old)
 
 -- where as many nodes are in use as states are listed, none has a state that another has
-pub table-once : (t old : Table) (count : ℕ) → t.len ≡ count → count ≡ length (ascending (held old)) → HaveSame (held t) (held old)
+pub table-once : (t old : StateTable) (count : ℕ) → t.len ≡ count → count ≡ length (ascending (held old)) → HaveSame (held t) (held old)
     → t.len ≡ length (ascending (held t))
 table-once t old count used listed same =
     let sets = ap (λ (xs : List (List ℕ)). length xs) (ascending-members (held t) (held old) same) in

@@ -1,8 +1,9 @@
 -- The nodes of a set are linked again, one after another.
-use Rattle.std.proofs.Common.{◌≡◌, ◌≢◌, ℕ, suc, ◌+◌, ◌<◌, ◌≤◌, List, [], ◌∷◌, length, get_or, slice_set, slice_index, inl, inr, ap, sym, ◌∙◌, subst, arith, length-set, get_or-set_same, get_or-set_other}
+use Rattle.std.proofs.Common.{◌≡◌, ◌≢◌, ℕ, ◌+◌, ◌<◌, ◌≤◌, List, [], length, get_or, slice_set, slice_index, inl, inr, ap, sym, ◌∙◌, subst, arith, length-set, get_or-set_same, get_or-set_other}
 use Rattle.std.proofs.lemmas.Bool.{cases_eq}
 use Rattle.psi_state.specs.Members.{In}
 use Rattle.psi_state.specs.Ascending.{IsDistinct, HaveSame}
+use Rattle.psi_state.proofs.SameLemmas.{same-itself, same-through}
 use Rattle.psi_pool.specs.declared.nodes.Node.{Node}
 use Rattle.psi_pool.specs.Inner.NodesKept.{node_at, states, IsLinked, HoldSet}
 use Rattle.psi_pool.proofs.PlacesLemmas.{node-read, place-of, In-at, states-same, distinct-more}
@@ -22,13 +23,9 @@ relink-start used nodes heads len within none = record {
   low = omega arith;
   within = within;
   linked = linked-none used nodes heads none;
-  distinct = nothing nodes;
-  members = record { there = λ x member. member; back = λ x member. member };
+  distinct = tt;
+  members = same-itself (states nodes len);
 }
-  where
-    nothing : (ns : List Node) → IsDistinct (states ns 0)
-    nothing [] = tt
-    nothing (w ∷ ns) = tt
 
 -- the state at the place is new: it is linked
 pub relink-more : (xs : List (List ℕ)) (used : ℕ) (old now : List Node) (heads tops : List ℕ) (place left : ℕ) → IsRelinking xs used old heads place left → place < left
@@ -36,14 +33,13 @@ pub relink-more : (xs : List (List ℕ)) (used : ℕ) (old now : List Node) (hea
     → (In (node_at old place).state (states old place) → ⊥) → IsRelinking xs used_now now tops (place + 1) left
 relink-more xs used old now heads tops place left relinking more size same used_now linked absent =
     let within = relinking.within in
-    let next : suc place ≡ place + 1 = omega arith in
     record {
       low = omega arith;
       within = omega arith;
       linked = linked;
       distinct =
           subst (λ (ys : List (List ℕ)). IsDistinct ys) (sym (states-same old now (place + 1) (omega arith) (omega arith) (λ i small. same i)))
-          (subst (λ k. IsDistinct (states old k)) next (distinct-more old place (omega arith) relinking.distinct absent));
+          (distinct-more old place (omega arith) relinking.distinct absent);
       members = subst (λ (ys : List (List ℕ)). HaveSame ys xs) (sym (states-same old now left (omega arith) (omega arith) (λ i small. same i))) relinking.members;
     }
 
@@ -93,17 +89,13 @@ module _ (now : List Node) (place last : ℕ) (early : place ≤ last) (within :
       → HaveSame (states now left) xs → In (node_at now place).state (states now place) → IsRelinking xs used new tops place last
   back-in xs used tops left end linked distinct members present =
       let same = length-new in
-      let moved = new-members left end present in
       record {
         low = early;
         within = omega arith;
         linked = linked-same used now new tops place (λ i small. new-there i (λ is. (omega arith))) linked;
         distinct = subst (λ (ys : List (List ℕ)). IsDistinct ys)
             (sym (states-same now new place (omega arith) (omega arith) (λ i small. kept i (λ is. (omega arith))))) distinct;
-        members = record {
-          there = λ z member. members.there z (moved.there z member);
-          back = λ z member. moved.back z (members.back z member);
-        };
+        members = same-through (new-members left end present) members;
       }
 
 pub relink-fewer : (xs : List (List ℕ)) (used : ℕ) (old now : List Node) (heads tops : List ℕ) (place left last : ℕ) → IsRelinking xs used old heads place left

@@ -1,4 +1,4 @@
 -- What types keep of their private fields, how they are seen, and laws that clauses rest on.
 pub mod BucketsKept
 pub mod NodesKept
-pub mod TablesKept
+pub mod StateTablesKept

@@ -9,7 +9,7 @@ mod hashing;
 mod nodes;
 mod pace;
 mod pool;
-mod table;
+mod state_table;
 
 pub use pace::Pace;
 pub use pool::Pool;

@@ -8,14 +8,14 @@ ghost use Rattle.psi_state.specs.State.{IsBelow};
 ghost use Rattle.psi_state.specs.Members.{In};
 ghost use Rattle.psi_state.specs.Sets.{insert_state, ascending, image, single};
 ghost use Rattle.psi_state.specs.Ascending.{IsRising, HaveSame};
-ghost use Rattle.psi_pool.specs.Inner.TablesKept.{held, IsTable};
+ghost use Rattle.psi_pool.specs.Inner.StateTablesKept.{held, IsStateTable};
 ghost use Rattle.psi_pool.specs.Paced.{counts_of, begun, IsPace, CountsStep};
 ghost use Rattle.psi_pool.specs.contracts.pool.Pool.{the_row};
 
 use crate::OutOfMemory;
 use crate::nodes::one_state;
 use crate::pace::Pace;
-use crate::table::Table;
+use crate::state_table::StateTable;
 use psi_event::EventLaw;
 use psi_state::State;
 use std::alloc::Global;
@@ -35,7 +35,7 @@ const MERGES: u8 = 3;
 /// and then the work of the links grows with the square of their number.
 #[derive(Drop)]
 pub struct Pool {
-    table: Table,
+    table: StateTable,
     pace: Pace,
     most: u16,
     order: Vec<State>,
@@ -44,7 +44,7 @@ pub struct Pool {
 impl Model for Pool {
     ghost use Rattle.std.specs.Prelude.{vec_capacity};
     ghost use Rattle.psi_state.specs.Sets.{ascending};
-    ghost use Rattle.psi_pool.specs.Inner.TablesKept.{held, IsPool};
+    ghost use Rattle.psi_pool.specs.Inner.StateTablesKept.{held, IsPool};
     ghost use Rattle.psi_pool.specs.Pooled.{Pooled};
 
     ghost Value = { Pooled };
@@ -63,7 +63,7 @@ impl Pool {
         requires most { most ≤ 4096 }
         ensures { IfOk result (λ pool. pool ≡ record { most = most; states = []; pace = counts_of 4 }) }
     {
-        let table = Table::reserve(alloc, most)?;
+        let table = StateTable::reserve(alloc, most)?;
         let order = Vec::with_capacity(alloc, most as usize)?;
         Ok(Pool {
             table,
@@ -173,12 +173,12 @@ impl Pool {
 // Lists the states in ascending order, and puts the nodes into it. Where they were in it before a step by an event that
 // moves some states alike and leaves the others, they are two ascending lists then, one among the other, and one merge
 // does. They are sorted where some merges don't do.
-fn list_all(table: &mut Table, order: &mut Vec<State>)
-    requires table { IsTable table.old }
+fn list_all(table: &mut StateTable, order: &mut Vec<State>)
+    requires table { IsStateTable table.old }
     requires listed { length table.old.nodes.items ≤ vec_capacity order.old }
     ensures states { order.new.items ≡ ascending (held table.old) }
     ensures capacity { vec_capacity order.new ≡ vec_capacity order.old }
-    ensures table { IsTable table.new }
+    ensures table { IsStateTable table.new }
     ensures members { HaveSame (held table.new) (held table.old) }
     ensures room { length table.new.nodes.items ≡ length table.old.nodes.items }
     ensures count { table.new.len ≡ length order.new.items }
@@ -192,10 +192,10 @@ fn list_all(table: &mut Table, order: &mut Vec<State>)
 }
 
 // Links the nodes again when it is time to: from then on each state stands in one of them.
-fn link_when_due(table: &mut Table, pace: &mut Pace)
-    requires table { IsTable table.old }
+fn link_when_due(table: &mut StateTable, pace: &mut Pace)
+    requires table { IsStateTable table.old }
     requires pace { IsPace pace.old }
-    ensures table { IsTable table.new }
+    ensures table { IsStateTable table.new }
     ensures members { HaveSame (held table.new) (held table.old) }
     ensures room { length table.new.nodes.items ≡ length table.old.nodes.items }
     ensures counted { CountsStep pace.old pace.new }

@@ -1,9 +1,9 @@
 -- Answers in the proof of `extend`.
-use Rattle.std.proofs.Common.{◌∷◌, List, ℕ, sym, subst, refl}
+use Rattle.std.proofs.Common.{[], ◌∷◌, List, ℕ, sym, subst, refl}
 use Rattle.psi_state.specs.Members.{In}
 use Rattle.psi_state.specs.Ascending.{IsRising, HaveSame}
 use Rattle.psi_pool.proofs.ListingLemmas.{rising-more}
-use Rattle.psi_pool.proofs.KeepingLemmas.{more-members}
+use Rattle.psi_state.proofs.SameLemmas.{same-swap}
 use Rattle.psi_pool.proofs.nodes.extend.Goals as goal
 
 pub returns-in-Greater-clause-rising : goal.returns-in-Greater-clause-rising
@@ -15,4 +15,4 @@ returns-in-Greater-clause-rising c =
 pub returns-in-Greater-clause-listed : goal.returns-in-Greater-clause-listed
 returns-in-Greater-clause-listed c = λ yes.
     subst (λ (xs : List (List ℕ)). HaveSame xs (c.args.x.now ∷ c.args.out.now.items)) (sym c.push_reserved.ensures.items)
-    (more-members c.args.out.now.items c.args.x.now)
+    (same-swap c.args.out.now.items (c.args.x.now ∷ []))

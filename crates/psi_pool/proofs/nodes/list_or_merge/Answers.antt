@@ -1,8 +1,9 @@
 -- Answers in the proof of `list_or_merge`.
 use Rattle.std.proofs.Common.{◌+◌, ◌++◌, List, ℕ, length, subst}
 use Rattle.psi_state.specs.Ascending.{HaveSame}
+use Rattle.psi_state.proofs.SameLemmas.{same-through}
 use Rattle.psi_pool.specs.Inner.NodesKept.{states}
-use Rattle.psi_pool.proofs.ListingLemmas.{listed-all, same-through}
+use Rattle.psi_pool.proofs.ListingLemmas.{listed-all}
 use Rattle.psi_pool.proofs.nodes.list_or_merge.Goals as goal
 
 pub returns-then-len-nodes-clause-listed : goal.returns-then-len-nodes-clause-listed
@@ -17,8 +18,7 @@ returns-clause-members c =
     let aside = c.list_ascending-aside.result in
     let merged : HaveSame (states c.merge.new.nodes (length out + aside)) (out ++ states moved aside) =
     subst (λ (xs : List (List ℕ)). HaveSame (states c.merge.new.nodes (length xs + aside)) (xs ++ states moved aside)) c.as_slice.ensures.value c.merge.ensures in
-    same-through (states c.merge.new.nodes (length out + aside)) (out ++ states moved aside) (states c.args.nodes.now (length c.args.nodes.now)) merged
-    c.list_ascending-aside.ensures.members
+    same-through merged c.list_ascending-aside.ensures.members
 
 pub returns-clause-listed : goal.returns-clause-listed
 returns-clause-listed c =

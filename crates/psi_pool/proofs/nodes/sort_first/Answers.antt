@@ -1,12 +1,13 @@
 -- Answers in the proof of `sort_first`.
-use Rattle.std.proofs.Common.{◌≡◌, ◌+◌, ◌++◌, List, ℕ, length, ap, sym, ◌∙◌, subst, append-nil, arith}
+use Rattle.std.proofs.Common.{◌≡◌, ◌+◌, ◌++◌, List, ℕ, length, sym, ◌∙◌, subst, append-nil, arith}
 use Rattle.std.specs.List.Sorted.{IsPermutation}
 use Rattle.psi_state.specs.Sets.{ascending}
 use Rattle.psi_state.specs.Ascending.{HaveSame}
+use Rattle.psi_state.proofs.SameLemmas.{same-through}
+use Rattle.psi_state.proofs.AscendingLemmas.{same-ascending}
 use Rattle.psi_pool.specs.Inner.NodesKept.{states}
 use Rattle.psi_pool.proofs.SortingLemmas.{sorted-is}
 use Rattle.psi_pool.proofs.PlacesLemmas.{states-take}
-use Rattle.psi_pool.proofs.ListingLemmas.{same-through, same-ascending, no-states}
 use Rattle.psi_pool.proofs.nodes.sort_first.Goals as goal
 
 pub returns-clause-listed : goal.returns-clause-listed
@@ -29,5 +30,5 @@ returns-clause-members c =
     let plain : HaveSame (states c.merge.new.nodes (length out)) out =
     subst (λ n. HaveSame (states c.merge.new.nodes n) out) count
     (subst (λ (xs : List (List ℕ)). HaveSame (states c.merge.new.nodes (length out + 0)) xs)
-    (ap (λ (xs : List (List ℕ)). out ++ xs) (no-states c.args.nodes.now) ∙ append-nil out) merged) in
-    same-through (states c.merge.new.nodes (length out)) out old plain (subst (λ (xs : List (List ℕ)). HaveSame xs old) (sym listed) (same-ascending old))
+    (append-nil out) merged) in
+    same-through plain (subst (λ (xs : List (List ℕ)). HaveSame xs old) (sym listed) (same-ascending old))

@@ -1,7 +1,7 @@
 -- Answers in the proof of `Pool::contains`.
 use Rattle.std.proofs.Common.{ap}
 use Rattle.psi_pool.specs.Pooled.{Pooled}
-use Rattle.psi_pool.specs.Inner.TablesKept.{held}
+use Rattle.psi_pool.specs.Inner.StateTablesKept.{held}
 use Rattle.psi_pool.proofs.KeepingLemmas.{seek-set}
 use Rattle.psi_pool.proofs.pool.Pool.contains.Goals as goal
 

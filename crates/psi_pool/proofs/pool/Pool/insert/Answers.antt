@@ -3,7 +3,7 @@ use Rattle.std.proofs.Common.{◌∙◌, ◌∷◌, List, ℕ, ap}
 use Rattle.psi_state.specs.Sets.{insert_state}
 use Rattle.psi_state.proofs.AscendingLemmas.{ascending-members}
 use Rattle.psi_pool.specs.Pooled.{Pooled}
-use Rattle.psi_pool.specs.Inner.TablesKept.{held}
+use Rattle.psi_pool.specs.Inner.StateTablesKept.{held}
 use Rattle.psi_pool.proofs.KeepingLemmas.{table-free, table-length, told-fresh}
 use Rattle.psi_pool.proofs.pool.Pool.insert.Goals as goal
 

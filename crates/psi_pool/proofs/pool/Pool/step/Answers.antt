@@ -3,7 +3,7 @@ use Rattle.std.proofs.Common.{◌∙◌, List, ℕ, ap, subst}
 use Rattle.psi_state.specs.Sets.{image}
 use Rattle.psi_state.specs.Ascending.{HaveSame}
 use Rattle.psi_pool.specs.Pooled.{Pooled}
-use Rattle.psi_pool.specs.Inner.TablesKept.{held}
+use Rattle.psi_pool.specs.Inner.StateTablesKept.{held}
 use Rattle.psi_pool.proofs.KeepingLemmas.{seen, states-stepped}
 use Rattle.psi_pool.proofs.pool.Pool.step.Goals as goal
 

@@ -4,7 +4,7 @@ use Rattle.psi_state.specs.Sets.{ascending}
 use Rattle.psi_state.proofs.AscendingLemmas.{ascending-members}
 use Rattle.psi_pool.specs.Pooled.{Pooled}
 use Rattle.psi_pool.specs.Paced.{Paced}
-use Rattle.psi_pool.specs.Inner.TablesKept.{held}
+use Rattle.psi_pool.specs.Inner.StateTablesKept.{held}
 use Rattle.psi_pool.proofs.KeepingLemmas.{table-once}
 use Rattle.psi_pool.proofs.pool.Pool.walk.Goals as goal
 

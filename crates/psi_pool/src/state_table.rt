@@ -8,7 +8,7 @@ ghost use Rattle.psi_state.specs.State.{IsBelow};
 ghost use Rattle.psi_state.specs.Members.{In};
 ghost use Rattle.psi_state.specs.Sets.{ascending};
 ghost use Rattle.psi_state.specs.Ascending.{HaveSame};
-ghost use Rattle.psi_pool.specs.Inner.TablesKept.{held, IsTable};
+ghost use Rattle.psi_pool.specs.Inner.StateTablesKept.{held, IsStateTable};
 
 use crate::hashing::bucket_of;
 use crate::nodes::{
@@ -21,7 +21,7 @@ use std::alloc::{AllocError, Global};
 
 /// Nodes, of which the first hold the states of a set, and the buckets of a hash table.
 #[derive(Drop)]
-pub(crate) struct Table {
+pub(crate) struct StateTable {
     // The nodes in use are the first `len`.
     pub(crate) nodes: Vec<Node>,
     // The buckets in use are the first `used`.
@@ -41,18 +41,18 @@ fn buckets_for(states: u16) -> u16
     4 * states + 1
 }
 
-impl Table {
+impl StateTable {
     /// Room for `most` states; none is there.
-    pub(crate) fn reserve(alloc: Global, most: u16) -> Result<Table, AllocError>
+    pub(crate) fn reserve(alloc: Global, most: u16) -> Result<StateTable, AllocError>
         requires { most ≤ 4096 }
-        ensures table { IfOk result (λ table. IsTable table) }
+        ensures table { IfOk result (λ table. IsStateTable table) }
         ensures none { IfOk result (λ table. table.len ≡ 0) }
         ensures room { IfOk result (λ table. length table.nodes.items ≡ most) }
     {
         let used = buckets_for(most);
         let nodes = free_nodes(alloc, most)?;
         let heads = free_heads(alloc, used)?;
-        Ok(Table {
+        Ok(StateTable {
             nodes,
             heads,
             used,
@@ -63,8 +63,8 @@ impl Table {
 
     /// Takes all states out.
     pub(crate) fn clear(&mut self)
-        requires { IsTable self.old }
-        ensures table { IsTable self.new }
+        requires { IsStateTable self.old }
+        ensures table { IsStateTable self.new }
         ensures none { self.new.len ≡ 0 }
         ensures room { length self.new.nodes.items ≡ length self.old.nodes.items }
     {
@@ -76,7 +76,7 @@ impl Table {
 
     /// The number of states. Where the nodes aren't linked, the work grows with the square of the nodes.
     pub(crate) fn count(&self) -> u16
-        requires { IsTable self.now }
+        requires { IsStateTable self.now }
         ensures { result ≡ length (ascending (held self.now)) }
     {
         if self.is_linked {
@@ -87,7 +87,7 @@ impl Table {
 
     /// Whether one of the states is `x`.
     pub(crate) fn has(&self, x: &State) -> bool
-        requires { IsTable self.now }
+        requires { IsStateTable self.now }
         ensures { IsTrue result ↔ In x.now (held self.now) }
     {
         let nodes = &self.nodes[..self.len as usize];
@@ -101,10 +101,10 @@ impl Table {
 
     /// Puts the state in where it isn't there, and returns whether it was not. The nodes are linked.
     pub(crate) fn put(&mut self, x: State) -> bool
-        requires table { IsTable self.old }
+        requires table { IsStateTable self.old }
         requires linked { self.old.is_linked ≡ true }
         requires room { (self.old.len < length self.old.nodes.items) ⊎ In x (held self.old) }
-        ensures table { IsTable self.new }
+        ensures table { IsStateTable self.new }
         ensures members { HaveSame (held self.new) (x ∷ held self.old) }
         ensures room { length self.new.nodes.items ≡ length self.old.nodes.items }
         ensures linked { self.new.is_linked ≡ true }
@@ -128,9 +128,9 @@ impl Table {
     /// Puts the state in, whether it is there or not. The nodes aren't linked from then on.
     #[inline]
     pub(crate) fn push(&mut self, x: State)
-        requires table { IsTable self.old }
+        requires table { IsStateTable self.old }
         requires room { length (ascending (held self.old)) < length self.old.nodes.items }
-        ensures table { IsTable self.new }
+        ensures table { IsStateTable self.new }
         ensures members { HaveSame (held self.new) (x ∷ held self.old) }
         ensures room { length self.new.nodes.items ≡ length self.old.nodes.items }
     {
@@ -146,9 +146,9 @@ impl Table {
     // Lets a node be free: where all are in use, some states stand in several.
     #[inline]
     fn make_room(&mut self)
-        requires table { IsTable self.old }
+        requires table { IsStateTable self.old }
         requires room { length (ascending (held self.old)) < length self.old.nodes.items }
-        ensures table { IsTable self.new }
+        ensures table { IsStateTable self.new }
         ensures free { self.new.len < length self.new.nodes.items }
         ensures members { HaveSame (held self.new) (held self.old) }
         ensures room { length self.new.nodes.items ≡ length self.old.nodes.items }
@@ -160,9 +160,9 @@ impl Table {
 
     /// Moves each state on by the event. The nodes aren't linked from then on.
     pub(crate) fn move_on<E: EventLaw>(&mut self, e: &E)
-        requires table { IsTable self.old }
+        requires table { IsStateTable self.old }
         requires below { (x : List ℕ) → In x (held self.old) → IsBelow x (E.capacities e.now) }
-        ensures table { IsTable self.new }
+        ensures table { IsStateTable self.new }
         ensures states { held self.new ≡ map (E.function e.now) (held self.old) }
         ensures room { length self.new.nodes.items ≡ length self.old.nodes.items }
     {
@@ -174,9 +174,9 @@ impl Table {
     /// to it: into that order where they are two ascending lists, one among the other. The answer is whether the states
     /// are listed. The nodes aren't linked from then on.
     pub(crate) fn list(&mut self, out: &mut Vec<State>) -> bool
-        requires table { IsTable self.old }
+        requires table { IsStateTable self.old }
         requires listed { length self.old.nodes.items ≤ vec_capacity out.old }
-        ensures table { IsTable self.new }
+        ensures table { IsStateTable self.new }
         ensures members { HaveSame (held self.new) (held self.old) }
         ensures room { length self.new.nodes.items ≡ length self.old.nodes.items }
         ensures states { IsTrue result → out.new.items ≡ ascending (held self.old) }
@@ -191,9 +191,9 @@ impl Table {
 
     /// Lists the states in ascending order, and puts the nodes into it. They aren't linked from then on.
     pub(crate) fn sort(&mut self, out: &mut Vec<State>)
-        requires table { IsTable self.old }
+        requires table { IsStateTable self.old }
         requires listed { length self.old.nodes.items ≤ vec_capacity out.old }
-        ensures table { IsTable self.new }
+        ensures table { IsStateTable self.new }
         ensures members { HaveSame (held self.new) (held self.old) }
         ensures room { length self.new.nodes.items ≡ length self.old.nodes.items }
         ensures states { out.new.items ≡ ascending (held self.old) }
@@ -208,8 +208,8 @@ impl Table {
 
     /// Links the nodes where they aren't linked: from then on each state stands in one of them.
     pub(crate) fn link(&mut self)
-        requires { IsTable self.old }
-        ensures table { IsTable self.new }
+        requires { IsStateTable self.old }
+        ensures table { IsStateTable self.new }
         ensures linked { self.new.is_linked ≡ true }
         ensures members { HaveSame (held self.new) (held self.old) }
         ensures room { length self.new.nodes.items ≡ length self.old.nodes.items }
@@ -222,8 +222,8 @@ impl Table {
     // Links the nodes again. It stays out of the way of a step.
     #[inline(never)]
     fn link_anew(&mut self)
-        requires { IsTable self.old }
-        ensures table { IsTable self.new }
+        requires { IsStateTable self.old }
+        ensures table { IsStateTable self.new }
         ensures linked { self.new.is_linked ≡ true }
         ensures members { HaveSame (held self.new) (held self.old) }
         ensures room { length self.new.nodes.items ≡ length self.old.nodes.items }

@@ -1,8 +1,8 @@
--- Answers in the proof of `Table::clear`.
+-- Answers in the proof of `StateTable::clear`.
 use Rattle.std.proofs.Common.{◌≡◌, ℕ, List, length, ap, ◌∙◌, refl, arith}
 use Rattle.std.proofs.lemmas.List.{with_items_is}
 use Rattle.psi_pool.proofs.KeepingLemmas.{table-empty}
-use Rattle.psi_pool.proofs.table.Table.clear.Goals as goal
+use Rattle.psi_pool.proofs.state_table.StateTable.clear.Goals as goal
 
 pub returns-clause-table : goal.returns-clause-table
 returns-clause-table c =

@@ -1,7 +1,7 @@
--- Answers in the proof of `Table::make_room`.
+-- Answers in the proof of `StateTable::make_room`.
 use Rattle.std.proofs.Common.{arith}
 use Rattle.psi_pool.proofs.KeepingLemmas.{table-full}
-use Rattle.psi_pool.proofs.table.Table.make_room.Goals as goal
+use Rattle.psi_pool.proofs.state_table.StateTable.make_room.Goals as goal
 
 pub returns-then-self-len-clause-free : goal.returns-then-self-len-clause-free
 returns-then-self-len-clause-free c =

@@ -1,7 +1,7 @@
--- Answers in the proof of `Table::reserve`.
+-- Answers in the proof of `StateTable::reserve`.
 use Rattle.std.proofs.Common.{refl, arith}
 use Rattle.psi_pool.proofs.KeepingLemmas.{table-empty}
-use Rattle.psi_pool.proofs.table.Table.reserve.Goals as goal
+use Rattle.psi_pool.proofs.state_table.StateTable.reserve.Goals as goal
 
 pub returns-clause-table : goal.returns-clause-table
 returns-clause-table c =

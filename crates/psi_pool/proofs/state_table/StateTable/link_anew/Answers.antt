@@ -1,10 +1,10 @@
--- Answers in the proof of `Table::link_anew`.
+-- Answers in the proof of `StateTable::link_anew`.
 use Rattle.std.proofs.Common.{ℕ, List, length, ap, ◌∙◌}
 use Rattle.std.proofs.lemmas.List.{with_items_is}
 use Rattle.psi_pool.specs.declared.nodes.Node.{Node}
 use Rattle.psi_pool.specs.Inner.NodesKept.{states}
 use Rattle.psi_pool.proofs.KeepingLemmas.{table-linked}
-use Rattle.psi_pool.proofs.table.Table.link_anew.Goals as goal
+use Rattle.psi_pool.proofs.state_table.StateTable.link_anew.Goals as goal
 
 pub returns-clause-table : goal.returns-clause-table
 returns-clause-table c =

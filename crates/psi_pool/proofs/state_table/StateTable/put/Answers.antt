@@ -1,9 +1,9 @@
--- Answers in the proof of `Table::put`.
+-- Answers in the proof of `StateTable::put`.
 use Rattle.std.proofs.Common.{◌<◌, inl, inr, length, refl}
 use Rattle.psi_state.specs.Members.{In}
-use Rattle.psi_pool.specs.Inner.TablesKept.{held}
+use Rattle.psi_pool.specs.Inner.StateTablesKept.{held}
 use Rattle.psi_pool.proofs.KeepingLemmas.{seek-whole, seek-absent, table-inserted, members-inserted}
-use Rattle.psi_pool.proofs.table.Table.put.Goals as goal
+use Rattle.psi_pool.proofs.state_table.StateTable.put.Goals as goal
 
 pub returns-clause-table : goal.returns-clause-table
 returns-clause-table c =
