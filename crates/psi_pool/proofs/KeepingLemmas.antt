@@ -6,7 +6,7 @@ use Rattle.psi_state.proofs.SameLemmas.{same-swap}
 use Rattle.psi_state.specs.Sets.{insert_state, ascending, image}
 use Rattle.psi_state.proofs.SetsLemmas.{In-ascending, In-of_ascending}
 use Rattle.psi_state.specs.Ascending.{IsDistinct, IsRising, HaveSame}
-use Rattle.psi_state.proofs.AscendingLemmas.{ascending-members, ascending-rising, length-ascending, image-ascending}
+use Rattle.psi_state.proofs.AscendingLemmas.{insert_state-there, ascending-members, ascending-rising, length-ascending, image-ascending}
 use Rattle.psi_pool.specs.declared.nodes.Node.{Node}
 use Rattle.psi_pool.specs.declared.state_table.StateTable.{StateTable}
 use Rattle.psi_pool.specs.Inner.BucketsKept.{bucket}
@@ -14,7 +14,7 @@ use Rattle.psi_pool.specs.Pooled.{Pooled}
 use Rattle.psi_pool.specs.Paced.{Paced}
 use Rattle.psi_pool.specs.Inner.NodesKept.{node_at, states, IsLinked, AreLinked, HoldSet}
 use Rattle.psi_pool.specs.Inner.StateTablesKept.{held, IsStateTable, IsPool}
-use Rattle.psi_pool.proofs.SortingLemmas.{insert_state-there, ascending-short}
+use Rattle.psi_pool.proofs.SortingLemmas.{ascending-short}
 use Rattle.psi_pool.proofs.PlacesLemmas.{states-take, states-same, distinct-more, length-states}
 use Rattle.psi_pool.proofs.LinkingLemmas.{linked-none, linked-more}
 use Rattle.psi_pool.proofs.ChainsLemmas.{chained-linked}

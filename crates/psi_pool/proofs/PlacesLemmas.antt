@@ -3,8 +3,8 @@ use Rattle.std.proofs.Common.{◌≡◌, ℕ, zero, suc, ◌+◌, ◌<◌, ◌�
 use Rattle.std.proofs.lemmas.List.{ext_get_or, get_or_default, get_or-map, get_or-take, length-map, length-take-le, map-append, take_more}
 use Rattle.std.proofs.Math.Seq.{take-length}
 use Rattle.psi_state.specs.Members.{In}
-use Rattle.psi_state.proofs.MembersLemmas.{In-append}
 use Rattle.psi_state.specs.Ascending.{IsDistinct}
+use Rattle.psi_state.proofs.AscendingLemmas.{distinct-last}
 use Rattle.psi_pool.specs.declared.nodes.Node.{Node}
 use Rattle.psi_pool.specs.Inner.NodesKept.{node_at, states}
 use Rattle.psi_pool.proofs.SortingLemmas.{In-got}
@@ -59,13 +59,6 @@ pub states-next : (nodes : List Node) (n : ℕ) → n < length nodes → states 
 states-next nodes n within =
     ap (λ (ns : List Node). map (λ (m : Node). m.state) ns) (take_more nodes n (record { state = []; next = 4096 }) within)
     ∙ map-append (λ (m : Node). m.state) (take n nodes) (node_at nodes n ∷ [])
-
-distinct-last : (xs : List (List ℕ)) (x : List ℕ) → IsDistinct xs → (In x xs → ⊥) → IsDistinct (xs ++ x ∷ [])
-distinct-last [] x distinct absent = (λ none. none, tt)
-distinct-last (y ∷ xs) x distinct absent = (
-  λ member. elim (In-append y xs (x ∷ []) member) [ inl here ↦ distinct.0 here | inr last ↦ elim last [ inl e ↦ absent (inl (sym e)) | inr none ↦ none ] ],
-  distinct-last xs x distinct.1 (λ there. absent (inr there)),
-)
 
 -- one node more, whose state is new
 pub distinct-more : (nodes : List Node) (n : ℕ) → n < length nodes → IsDistinct (states nodes n) → (In (node_at nodes n).state (states nodes n) → ⊥)

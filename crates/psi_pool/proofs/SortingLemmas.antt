@@ -13,18 +13,9 @@ use Rattle.std.proofs.lemmas.List.Sorted.{sorted_far, length_permutation, IsPerm
 use Rattle.std.proofs.lemmas.List.MinMax.{ranks_by}
 use Rattle.psi_state.specs.Members.{In}
 use Rattle.psi_state.specs.Sets.{state_cmp, insert_state, ascending}
-use Rattle.psi_state.proofs.SetsLemmas.{same-from_cmp, In-insert_state, In-of_insert_state, In-ascending}
+use Rattle.psi_state.proofs.SetsLemmas.{same-from_cmp, In-ascending}
 use Rattle.psi_state.specs.Ascending.{IsRising, IsDistinct, HaveSame}
-use Rattle.psi_state.proofs.AscendingLemmas.{cmp-back, rising-same, insert_state-rising, ascending-rising, ascending-own, ascending-members, length-ascending}
-
--- a state that is there already changes nothing
-pub insert_state-there : (x : List ℕ) (xs : List (List ℕ)) → IsRising xs → In x xs → insert_state x xs ≡ xs
-insert_state-there x xs rising member =
-    rising-same (insert_state x xs) xs (insert_state-rising x xs rising) rising
-    (record {
-      there = λ z found. elim (In-of_insert_state z x xs found) [ inl e ↦ subst (λ (y : List ℕ). In y xs) (sym e) member | inr t ↦ t ];
-      back = λ z found. In-insert_state z x xs (inr found);
-    })
+use Rattle.psi_state.proofs.AscendingLemmas.{cmp-back, insert_state-there, ascending-rising, ascending-own, ascending-members, length-ascending}
 
 -- the member at a place
 pub In-got : (xs : List (List ℕ)) (k : ℕ) (d : List ℕ) → k < length xs → In (get_or xs k d) xs

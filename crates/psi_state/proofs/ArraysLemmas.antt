@@ -1,9 +1,10 @@
 -- Arrays of a fixed length whose front holds a list, with zeros after it.
 use Rattle.std.specs.Prelude.{◌≡◌, ℕ, zero, suc, ◌+◌, ◌-◌, ◌*◌, ◌<◌, ◌≤◌, List, length, replicate, take, drop, slice_index, slice_set, refl}
 use Rattle.std.proofs.Common.{inl, inr, ap, ◌∙◌, sym, arith}
-use Rattle.std.proofs.lemmas.Bool.{cases_eq, cases_lt}
-use Rattle.std.proofs.lemmas.List.{drop-set-lt, drop-drop, drop-replicate, get_or-drop, get_or-take, get_or_past, length-take-le, get_or-set_same, get_or-set_other}
+use Rattle.std.proofs.lemmas.Bool.{cases_lt}
+use Rattle.std.proofs.lemmas.List.{drop-set-lt, drop-drop, drop-replicate, get_or-drop, get_or-take, get_or_past, length-take-le}
 use Rattle.psi_state.specs.Hashing.{quad}
+use Rattle.psi_state.proofs.BoxesLemmas.{set-each}
 
 -- a list of zeros has no other number, and 0 stands for what is past its end
 pub slice_index-zeros : (n i : ℕ) → slice_index (replicate n 0) i ≡ 0
@@ -24,12 +25,7 @@ drop-push xs n v small rest =
 -- a number that fits is put among numbers that fit
 pub slice_set-small : (xs : List ℕ) (n v bound : ℕ) → n < length xs → v < bound → ((i : ℕ) → slice_index xs i < bound)
     → (i : ℕ) → slice_index (slice_set xs n v) i < bound
-slice_set-small xs n v bound within fits each i =
-    elim (cases_eq i n) [
-      | inl e ↦ (let same : slice_index (slice_set xs n v) n ≡ v = get_or-set_same xs n v 0 within in
-          let at : slice_index (slice_set xs n v) i ≡ slice_index (slice_set xs n v) n = ap (λ k. slice_index (slice_set xs n v) k) e in omega arith)
-      | inr ne ↦ (let same : slice_index (slice_set xs n v) i ≡ slice_index xs i = get_or-set_other xs n i v 0 ne in omega (arith, each i))
-    ]
+slice_set-small xs n v bound within fits each = set-each (λ _ m. m < bound) xs n v (λ _. fits) each
 
 -- each place of the array holds the list's number, and 0 past the list's end
 pub slice_index-padded : (xs : List ℕ) (n i : ℕ) → n ≤ 32 → length xs ≡ 32 → drop n xs ≡ replicate (32 - n) 0 → slice_index xs i ≡ slice_index (take n xs) i

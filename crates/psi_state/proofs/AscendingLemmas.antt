@@ -10,9 +10,9 @@ use Rattle.std.proofs.lemmas.Cmp.{tied_itself, nat_list_cmp_total, nat_cmp_total
 use Rattle.psi_state.specs.State.{numbers_from, box}
 use Rattle.psi_state.specs.Members.{In, AreAmong}
 use Rattle.psi_state.proofs.MembersLemmas.{In-append, In-of_map, In-of_flat_map, In-of_numbers_from}
-use Rattle.psi_state.proofs.SameLemmas.{same-back, same-through, same-map}
+use Rattle.psi_state.proofs.SameLemmas.{same-back, same-through, same-there, same-map}
 use Rattle.psi_state.specs.Sets.{state_cmp, insert_state, ascending, image}
-use Rattle.psi_state.proofs.SetsLemmas.{same-from_cmp, In-of_insert_state, In-ascending, In-of_ascending}
+use Rattle.psi_state.proofs.SetsLemmas.{same-from_cmp, same-insert_state, same-ascending, In-of_insert_state, In-of_ascending}
 use Rattle.psi_state.specs.Volume.{layers}
 use Rattle.psi_state.specs.Ascending.{IsRising, IsDistinct, HaveSame}
 
@@ -64,6 +64,14 @@ pub ascending-rising : (xs : List (List ℕ)) → IsRising (ascending xs)
 ascending-rising [] = tt
 ascending-rising (x ∷ xs) = insert_state-rising x (ascending xs) (ascending-rising xs)
 
+-- a member that isn't there yet
+pub distinct-last : {A : Type 0} (xs : List A) (x : A) → IsDistinct xs → (In x xs → ⊥) → IsDistinct (xs ++ x ∷ [])
+distinct-last [] x distinct absent = (λ none. none, tt)
+distinct-last (y ∷ xs) x distinct absent = (
+  λ member. elim (In-append y xs (x ∷ []) member) [ inl here ↦ distinct.0 here | inr last ↦ elim last [ inl e ↦ absent (inl (sym e)) | inr none ↦ none ] ],
+  distinct-last xs x distinct.1 (λ there. absent (inr there)),
+)
+
 -- two ascending lists with the same members are one
 pub rising-same : (xs ys : List (List ℕ)) → IsRising xs → IsRising ys → HaveSame xs ys → xs ≡ ys
 rising-same [] [] first second same = refl
@@ -81,10 +89,6 @@ rising-same (x ∷ xs) (y ∷ ys) first second same =
     let rest : xs ≡ ys = rising-same xs ys first.1 second.1 tails in
     cc
 
--- a set has the members of the list that it is made of
-pub same-ascending : (xs : List (List ℕ)) → HaveSame (ascending xs) xs
-same-ascending xs = record { there = λ z member. In-of_ascending z xs member; back = λ z member. In-ascending z xs member }
-
 -- an ascending list is that of its own set
 pub ascending-own : (xs : List (List ℕ)) → IsRising xs → ascending xs ≡ xs
 ascending-own xs rising = rising-same (ascending xs) xs (ascending-rising xs) rising (same-ascending xs)
@@ -94,6 +98,11 @@ pub ascending-members : (xs ys : List (List ℕ)) → HaveSame xs ys → ascendi
 ascending-members xs ys same =
     rising-same (ascending xs) (ascending ys) (ascending-rising xs) (ascending-rising ys)
     (same-through (same-ascending xs) (same-through same (same-back (same-ascending ys))))
+
+-- a state that is there already changes nothing
+pub insert_state-there : (x : List ℕ) (xs : List (List ℕ)) → IsRising xs → In x xs → insert_state x xs ≡ xs
+insert_state-there x xs rising member =
+    rising-same (insert_state x xs) xs (insert_state-rising x xs rising) rising (same-through (same-insert_state x xs) (same-back (same-there xs x member)))
 
 -- the image of a set is that of a list of it
 pub image-ascending : (f : List ℕ → List ℕ) (xs : List (List ℕ)) → image f (ascending xs) ≡ image f xs

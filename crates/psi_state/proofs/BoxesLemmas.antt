@@ -68,23 +68,23 @@ below-drop x y n below = record {
   each = λ i small. rw (get_or-drop {A = ℕ} n x i 0, get_or-drop {A = ℕ} n y i 0) (below.each (n + i) (omega (arith, length-drop {A = ℕ} n x)));
 }
 
+-- what holds of the new number at a place, and of the others, holds at each place of a list with another number there
+pub set-each : (P : ℕ → ℕ → Type 0) (x : List ℕ) (q v : ℕ) → (q < length x → P q v) → ((i : ℕ) → P i (slice_index x i)) → (i : ℕ) → P i (slice_index (slice_set x q v) i)
+set-each P x q v here each i =
+    elim (cases_lt q (length x)) [
+      | inr past ↦ rw (set_past {X = ℕ} x q v past) (each i)
+      | inl place ↦ elim (cases_eq i q) [
+        | inl e ↦ rw (e, get_or-set_same {A = ℕ} x q v 0 place) (here place)
+        | inr ne ↦ rw (get_or-set_other {A = ℕ} x q i v 0 ne) (each i)
+      ]
+    ]
+
 -- a state with another number at one place is below another where it was and that number is
 pub set-below : (x y : List ℕ) (q v : ℕ) → IsBelow x y → v ≤ slice_index y q → IsBelow (slice_set x q v) y
-set-below x y q v below small =
-    elim (cases_lt q (length x)) [
-      | inr past ↦ subst (λ (z : List ℕ). IsBelow z y) (sym (set_past {X = ℕ} x q v past)) below
-      | inl place ↦ record {
-        same_length = length-set {A = ℕ} x q v ∙ below.same_length;
-        each = λ i within. (let count : length (slice_set x q v) ≡ length x = length-set {A = ℕ} x q v in
-            let old : slice_index x i ≤ slice_index y i = below.each i (omega arith) in
-            elim (cases_eq i q) [
-              | inl e ↦ (let is : slice_index (slice_set x q v) q ≡ v = get_or-set_same {A = ℕ} x q v 0 place in
-                  let moved : slice_index (slice_set x q v) i ≡ slice_index (slice_set x q v) q = ap (λ j. slice_index (slice_set x q v) j) e in
-                  let there : slice_index y i ≡ slice_index y q = ap (λ j. slice_index y j) e in omega arith)
-              | inr ne ↦ (let is : slice_index (slice_set x q v) i ≡ slice_index x i = get_or-set_other {A = ℕ} x q i v 0 ne in omega arith)
-            ]);
-      }
-    ]
+set-below x y q v below small = record {
+  same_length = length-set {A = ℕ} x q v ∙ below.same_length;
+  each = λ i within. set-each (λ k n. k < length x → n ≤ slice_index y k) x q v (λ _ _. small) below.each i (omega (arith, length-set {A = ℕ} x q v));
+}
 
 pub same-from_below : (x y : List ℕ) → IsBelow x y → IsBelow y x → x ≡ y
 same-from_below x y low high = ext_get_or 0 x y low.same_length (λ i small. omega (arith, low.each i small, high.each i (omega (arith, low.same_length))))
@@ -103,12 +103,7 @@ pub set-between : (l h x : List ℕ) (q v : ℕ) → IsBetween l h x → q < len
 set-between l h x q v between small low high = record {
   low = record {
     same_length = between.low.same_length ∙ sym (length-set {A = ℕ} x q v);
-    each = λ i within. elim (cases_eq i q) [
-      | inl e ↦ (let is : slice_index (slice_set x q v) q ≡ v = get_or-set_same {A = ℕ} x q v 0 (omega (arith, between.low.same_length)) in
-          subst (λ k. slice_index l k ≤ slice_index (slice_set x q v) k) (sym e) (omega arith))
-      | inr ne ↦ (let is : slice_index (slice_set x q v) i ≡ slice_index x i = get_or-set_other {A = ℕ} x q i v 0 ne in
-          omega (arith, between.low.each i within))
-    ];
+    each = set-each (λ k n. k < length l → slice_index l k ≤ n) x q v (λ _ _. low) between.low.each;
   };
   high = set-below x h q v between.high high;
 }

@@ -1,6 +1,6 @@
 -- The steps of the loops that count the states of a box, and that turn states into places and back.
 use Rattle.std.specs.Prelude.{◌≡◌, ℕ, suc, ◌+◌, ◌-◌, ◌*◌, ◌/◌, ◌%◌, ◌<◌, ◌≤◌, List, length, Some, slice_get, slice_index, slice_set, drop}
-use Rattle.std.proofs.Common.{inl, inr, ap, sym, ◌∙◌, subst, add-one, arith}
+use Rattle.std.proofs.Common.{inl, inr, ap, sym, ◌∙◌, add-one, arith}
 use Rattle.std.proofs.Math.Nat.{mul_assoc, zero-mul, le-mul_of_pos_right}
 use Rattle.std.proofs.lemmas.Bool.{cases_eq}
 use Rattle.std.proofs.lemmas.List.{drop-set-lt, get_or-set_same}
@@ -41,25 +41,6 @@ pub record IsRanking (l h x : List ℕ) (i rank : ℕ) : Type 0 where
 horner : (rank width value rest place : ℕ) → rank * (width * rest) + (value * rest + place) ≡ (rank * width + value) * rest + place
 horner rank width value rest place = omega arith
 
--- a state of a box has as many places as its corners, and is between them at each
-pub record IsPlace (l h x : List ℕ) (i : ℕ) : Type 0 where
-  pub same_length : length x ≡ length l
-  pub low : slice_index l i ≤ slice_index x i
-  pub high : slice_index x i ≤ slice_index h i
-
-pub place-between : (l h x : List ℕ) (i : ℕ) → In x (box l h) → i < length l → IsPlace l h x i
-place-between l h x i member small =
-    let between = In-of_box l h x member in
-    let same : length l ≡ length x = between.low.same_length in
-    record { same_length = sym same; low = between.low.each i small; high = between.high.each i (omega arith) }
-
-pub ranking-next : (l h x : List ℕ) (i rank width : ℕ) → IsBelow l h → length x ≡ length l → i < length l
-    → width ≡ suc (slice_index h i) - slice_index l i → IsRanking l h x i rank
-    → IsRanking l h x (i + 1) (rank * width + (slice_index x i - slice_index l i))
-ranking-next l h x i rank width ordered same small is so_far =
-    let all = rw (volume-drop l h i ordered small, place_in-drop l h x i ordered same small, ← is) at so_far.all in
-    record { all = rw add-one (sym (horner rank width (slice_index x i - slice_index l i) _ _) ∙ all) }
-
 -- what was passed doesn't rank above the whole state
 pub ranking-most : (l h x : List ℕ) (i rank : ℕ) → IsBelow l h → In x (box l h) → IsRanking l h x i rank → rank < length (box l h)
 ranking-most l h x i rank ordered member so_far =
@@ -73,9 +54,9 @@ pub ranking-step : (l h x : List ℕ) (i rank width offset : ℕ) → IsBelow l 
     → width ≡ suc (slice_index h i) - slice_index l i → offset ≡ slice_index x i - slice_index l i → IsRanking l h x i rank
     → IsRanking l h x (i + 1) (rank * width + offset) × (rank * width + offset < length (box l h))
 ranking-step l h x i rank width offset ordered member small wide is so_far =
-    let place = place-between l h x i member small in
-    let next = subst (λ n. IsRanking l h x (i + 1) (rank * width + n)) (sym is)
-    (ranking-next l h x i rank width ordered place.same_length small wide so_far) in
+    let same : length x ≡ length l = sym ((In-of_box l h x member).low.same_length) in
+    let all = rw (volume-drop l h i ordered small, place_in-drop l h x i ordered same small, ← wide, ← is) at so_far.all in
+    let next : IsRanking l h x (i + 1) (rank * width + offset) = record { all = rw add-one (sym (horner rank width offset _ _) ∙ all) } in
     (next, ranking-most l h x (i + 1) (rank * width + offset) ordered member next)
 
 pub ranking-last : (l h x : List ℕ) (i rank : ℕ) → IsBelow l h → In x (box l h) → i ≡ length l → IsRanking l h x i rank
@@ -102,9 +83,9 @@ digit-high l h i left width ordered small wide =
     let digit : left % width < width = omega arith in
     omega arith
 
-pub unranking-next : (l h x : List ℕ) (i left width v r : ℕ) → IsBelow l h → i < length l → width ≡ suc (slice_index h i) - slice_index l i
-    → v ≡ slice_index l i + left % width → IsUnranking l h x (suc i) left r → IsUnranking l h (slice_set x i v) i (left / width) r
-unranking-next l h x i left width v r ordered small wide is so_far =
+pub unranking-next : (l h x : List ℕ) (n i left width v r : ℕ) → IsBelow l h → i < length l → width ≡ suc (slice_index h i) - slice_index l i
+    → v ≡ slice_index l i + left % width → n ≡ suc i → IsUnranking l h x n left r → IsUnranking l h (slice_set x i v) i (left / width) r
+unranking-next l h x n i left width v r ordered small wide is down so_far =
     let bound : slice_index l i ≤ slice_index h i = ordered.each i small in
     let some : 0 < width = omega arith in
     let digit : left % width < width = omega arith in
@@ -117,15 +98,8 @@ unranking-next l h x i left width v r ordered small wide is so_far =
     record {
       between = between;
       all = rw (volume-drop l h i ordered small, ← wide, place_in-drop l h (slice_set x i v) i ordered (sym (between.low.same_length)) small, at, value, away)
-          (horner (left / width) width (left % width) _ _ ∙ (rw split so_far.all));
+          (horner (left / width) width (left % width) _ _ ∙ (rw split (rw down at so_far.all)));
     }
-
--- the step of a loop that goes down, over the number of the places that aren't set
-pub unranking-step : (l h x : List ℕ) (n left width v r : ℕ) → IsBelow l h → 0 < n → n ≤ length l → width ≡ suc (slice_index h (n - 1)) - slice_index l (n - 1)
-    → v ≡ slice_index l (n - 1) + left % width → IsUnranking l h x n left r → IsUnranking l h (slice_set x (n - 1) v) (n - 1) (left / width) r
-unranking-step l h x n left width v r ordered some few wide is so_far =
-    let down : n ≡ suc (n - 1) = omega arith in
-    unranking-next l h x (n - 1) left width v r ordered (omega arith) wide is (subst (λ k. IsUnranking l h x k left r) down so_far)
 
 -- a place below the number of states is used up, and is that of the state
 pub unranking-last : (l h x : List ℕ) (left r : ℕ) → r < length (box l h) → IsUnranking l h x 0 left r → slice_get (box l h) r ≡ Some x

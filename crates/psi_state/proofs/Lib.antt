@@ -1,4 +1,5 @@
 -- The lemmas of this crate.
+pub mod ArraysLemmas
 pub mod AscendingLemmas
 pub mod BoxesLemmas
 pub mod ComparingLemmas
@@ -11,7 +12,6 @@ pub mod SetsLemmas
 pub mod StatesLemmas
 pub mod VolumeLemmas
 mod ApartLemmas
-mod ArraysLemmas
 mod QuadsLemmas
 mod CountingLemmas
 mod OdometerLemmas

@@ -34,20 +34,25 @@ cmp-same (x ∷ xs) (y ∷ ys) same =
     let tied : Equal ≡ nat_cmp x y = nat_cmp_is x y Equal cc in
     rw (← tied) (cmp-same xs ys cc)
 
-module _ (x y : List ℕ) (i place : ℕ) (own : (k : ℕ) → slice_index x k < 65536) (others : (k : ℕ) → slice_index y k < 65536) (long : length x ≡ length y)
-    (before : (k : ℕ) → k < i → quad x k ≡ quad y k) (small : place < 4)
-    (same : (k : ℕ) → k < place → number_in (quad x i) k ≡ number_in (quad y i) k)
-    (apart : number_in (quad x i) place ≡ number_in (quad y i) place → ⊥) where
+module _ (x y : List ℕ) (i place a b : ℕ) (own : (k : ℕ) → slice_index x k < 65536) (others : (k : ℕ) → slice_index y k < 65536) (long : length x ≡ length y)
+    (before : (k : ℕ) → k < i → quad x k ≡ quad y k) (a_is : a ≡ quad x i) (b_is : b ≡ quad y i) (small : place < 4)
+    (same : (k : ℕ) → k < place → number_in a k ≡ number_in b k) (apart : number_in a place ≡ number_in b place → ⊥) where
+  -- the numbers of the two quads are those of the lists
+  first : (j k : ℕ) → 4 * i + j ≡ k → j < 4 → number_in a j ≡ slice_index x k
+  first j k at few = ap (λ q. number_in q j) a_is ∙ number-quad x i own j k at few
+
+  second : (j k : ℕ) → 4 * i + j ≡ k → j < 4 → number_in b j ≡ slice_index y k
+  second j k at few = ap (λ q. number_in q j) b_is ∙ number-quad y i others j k at few
+
   same-until : (k : ℕ) → k < 4 * i + place → slice_index x k ≡ slice_index y k
   same-until k earlier =
       elim (cases_lt (k / 4) i) [
         | inl less ↦ each-from_quad x y (k / 4) own others (before (k / 4) less) k (k % 4) (omega arith) (omega arith)
-        | inr last ↦ sym (number-quad x i own (k % 4) k (omega arith) (omega arith))
-            ∙ (same (k % 4) (omega arith) ∙ number-quad y i others (k % 4) k (omega arith) (omega arith))
+        | inr last ↦ sym (first (k % 4) k (omega arith) (omega arith)) ∙ (same (k % 4) (omega arith) ∙ second (k % 4) k (omega arith) (omega arith))
       ]
 
   differ : slice_index x (4 * i + place) ≡ slice_index y (4 * i + place) → ⊥
-  differ equal = apart (number-quad x i own place (4 * i + place) refl small ∙ (equal ∙ sym (number-quad y i others place (4 * i + place) refl small)))
+  differ equal = apart (first place (4 * i + place) refl small ∙ (equal ∙ sym (second place (4 * i + place) refl small)))
 
   within : 4 * i + place < length x
   within =
@@ -57,21 +62,7 @@ module _ (x y : List ℕ) (i place : ℕ) (own : (k : ℕ) → slice_index x k <
       ]
 
   -- the first numbers that differ tell the order
-  pub cmp-from_quads : nat_cmp (number_in (quad x i) place) (number_in (quad y i) place) ≡ slice_cmp nat_cmp x y
+  pub cmp-from_quads : nat_cmp (number_in a place) (number_in b place) ≡ slice_cmp nat_cmp x y
   cmp-from_quads =
-      ap (λ n. nat_cmp n (number_in (quad y i) place)) (number-quad x i own place (4 * i + place) refl small)
-      ∙ (ap (λ n. nat_cmp (slice_index x (4 * i + place)) n) (number-quad y i others place (4 * i + place) refl small)
-      ∙ sym (cmp-apart x y (4 * i + place) same-until within (let w = within in omega arith) differ))
-
--- `cmp-from_quads`, of two quads that are given by themselves
-pub order-told : (x y : List ℕ) (i place a b m n : ℕ) (told : Ordering) → ((k : ℕ) → slice_index x k < 65536) → ((k : ℕ) → slice_index y k < 65536)
-    → length x ≡ length y → ((k : ℕ) → k < i → quad x k ≡ quad y k) → a ≡ quad x i → b ≡ quad y i → place < 4
-    → ((k : ℕ) → k < place → number_in a k ≡ number_in b k) → (number_in a place ≡ number_in b place → ⊥)
-    → m ≡ number_in a place → n ≡ number_in b place → told ≡ nat_cmp m n → told ≡ slice_cmp nat_cmp x y
-order-told x y i place a b m n told own others long before a_is b_is small same apart m_is n_is is =
-    let first : (k : ℕ) → number_in a k ≡ number_in (quad x i) k = λ k. ap (λ v. number_in v k) a_is in
-    let second : (k : ℕ) → number_in b k ≡ number_in (quad y i) k = λ k. ap (λ v. number_in v k) b_is in
-    is ∙ (ap (λ v. nat_cmp v n) (m_is ∙ first place)
-    ∙ (ap (λ v. nat_cmp (number_in (quad x i) place) v) (n_is ∙ second place)
-    ∙ cmp-from_quads x y i place own others long before small (λ k less. sym (first k) ∙ (same k less ∙ second k))
-    (λ equal. apart (first place ∙ (equal ∙ sym (second place))))))
+      rw (first place (4 * i + place) refl small, second place (4 * i + place) refl small)
+      (sym (cmp-apart x y (4 * i + place) same-until within (let w = within in omega arith) differ))

@@ -1,12 +1,12 @@
 -- States of as many queues are one where their quads are.
-use Rattle.std.specs.Prelude.{◌≡◌, ℕ, zero, suc, ◌+◌, ◌*◌, ◌/◌, ◌%◌, ◌<◌, ◌≤◌, ◌↔◌, Bool, true, false, IsTrue, List, length, slice_index, nat_eq, refl}
-use Rattle.std.specs.Cmp.Lexicographic.{pointwise}
+use Rattle.std.specs.Prelude.{◌≡◌, ℕ, zero, suc, ◌+◌, ◌*◌, ◌/◌, ◌%◌, ◌<◌, ◌≤◌, ◌↔◌, Bool, IsTrue, List, length, slice_index, nat_eq}
+use Rattle.std.specs.Cmp.Lexicographic.{pointwise, bytes_decides}
 use Rattle.std.proofs.Common.{inl, inr, ap, sym, ◌∙◌, subst, arith}
 use Rattle.std.proofs.lemmas.Bool.{cases_lt}
+use Rattle.std.proofs.lemmas.Bool.Decides.{same_from_decides}
 use Rattle.std.proofs.lemmas.Grind.{same_number_lists}
 use Rattle.psi_state.specs.State.{IsVector}
 use Rattle.psi_state.specs.Hashing.{quad, number_in}
-use Rattle.psi_state.proofs.StatesLemmas.{same-from_eq, apart-from_eq}
 
 -- the numbers of a quad are the list's
 pub number-quad : (x : List ℕ) (i : ℕ) → ((k : ℕ) → slice_index x k < 65536) → (place k : ℕ) → 4 * i + place ≡ k → place < 4 → number_in (quad x i) place ≡ slice_index x k
@@ -35,14 +35,9 @@ same-from_quads x y quads own others long few each =
 -- what comparing the quads tells
 pub eq-from_quads : (x y : List ℕ) (quads : ℕ) (told : Bool) → IsVector x → IsVector y → length x ≡ length y → length x ≤ 4 * quads
     → IsTrue told ↔ ((i : ℕ) → i < quads → quad x i ≡ quad y i) → told ≡ pointwise nat_eq x y
-eq-from_quads x y quads told own others long few is = by told (pointwise nat_eq x y) refl refl
-  where
-    by : (b c : Bool) → b ≡ told → c ≡ pointwise nat_eq x y → b ≡ c
-    by true true is_told same = refl
-    by false false is_told same = refl
-    by true false is_told apart = absurd (apart-from_eq x y (sym apart) (same-from_quads x y quads own others long few (is.0 (sym is_told))))
-    by false true is_told same =
-        (let tied : told ≡ true = is.1 (λ i small. ap (λ (z : List ℕ). quad z i) (same-from_eq x y (sym same))) in cc)
+eq-from_quads x y quads told own others long few is =
+    same_from_decides told (pointwise nat_eq x y)
+    (λ yes. same-from_quads x y quads own others long few (is.0 yes), λ same. is.1 (λ i small. ap (λ (z : List ℕ). quad z i) same)) (bytes_decides x y)
 
 -- a row is a state's own where its quads and the numbers after them are
 pub row-from_quads : (row x : List ℕ) (quads first : ℕ) (told : Bool) → ((k : ℕ) → slice_index row k < 65536) → ((k : ℕ) → slice_index x k < 65536)

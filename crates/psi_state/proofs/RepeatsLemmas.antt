@@ -1,17 +1,17 @@
 -- Lemmas. Lists of queues in which none stands twice.
-use Rattle.std.specs.Prelude.{◌≡◌, ℕ, zero, suc, ◌<◌, ◌≤◌, List, [], ◌∷◌, length, drop, slice_index, Bool, true, false, nat_eq, refl}
+use Rattle.std.specs.Prelude.{◌≡◌, ℕ, zero, suc, ◌+◌, ◌-◌, ◌<◌, ◌≤◌, List, [], ◌∷◌, length, drop, slice_index, Bool, true, false, nat_eq, refl}
 use Rattle.std.specs.List.{list_any}
 use Rattle.std.proofs.Common.{inl, inr, sym, arith}
+use Rattle.std.proofs.lemmas.List.{length-drop, get_or-drop}
+use Rattle.std.proofs.lemmas.List.Folds.{list_any_at}
 use Rattle.std.proofs.lemmas.Bool.{cases_order, eqb-false, or_left, or_right, or_from, or_parts}
 use Rattle.psi_state.specs.Repeats.{repeats}
 
 -- a number after the first places passes the test
 pub any-at : (p : ℕ → Bool) (xs : List ℕ) (first i : ℕ) → first ≤ i → i < length xs → p (slice_index xs i) ≡ true → list_any p (drop first xs) ≡ true
-any-at p [] first i low small is = absurd (omega arith)
-any-at p (x ∷ xs) zero zero low small is = or_left (p x) (list_any p xs) is
-any-at p (x ∷ xs) zero (suc i) low small is = or_right (p x) (list_any p xs) (any-at p xs zero i (omega arith) (omega arith) is)
-any-at p (x ∷ xs) (suc first) zero low small is = absurd (omega arith)
-any-at p (x ∷ xs) (suc first) (suc i) low small is = any-at p xs first i (omega arith) (omega arith) is
+any-at p xs first i low small is =
+    let at : first + (i - first) ≡ i = omega arith in
+    list_any_at p (drop first xs) (i - first) 0 (omega (arith, length-drop first xs)) (rw (get_or-drop first xs (i - first) 0, at) is)
 
 -- none does
 pub any-none : (p : ℕ → Bool) (xs : List ℕ) (first : ℕ) → ((i : ℕ) → first ≤ i → i < length xs → p (slice_index xs i) ≡ false) → list_any p (drop first xs) ≡ false

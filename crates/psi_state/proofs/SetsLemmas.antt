@@ -8,44 +8,40 @@ use Rattle.std.proofs.Common.{inl, inr, ap, sym, ◌∙◌}
 use Rattle.std.proofs.lemmas.Cmp.{tied_itself, nat_list_cmp_total}
 use Rattle.psi_state.specs.Members.{In}
 use Rattle.psi_state.proofs.MembersLemmas.{In-map, In-of_map}
+use Rattle.psi_state.specs.Ascending.{HaveSame}
+use Rattle.psi_state.proofs.SameLemmas.{same-itself, same-through, same-append, same-middle, same-there}
 use Rattle.psi_state.specs.Sets.{state_cmp, insert_state, ascending, image, single}
 
 pub same-from_cmp : (x y : List ℕ) → state_cmp x y ≡ Equal → x ≡ y
 same-from_cmp x y tied = slice_cmp-IsAntisymmetric nat_cmp-IsAntisymmetric x y tied
 
-In-match : (z x y : List ℕ) (ys more : List (List ℕ)) (o : Ordering) → (o ≡ Equal → x ≡ y)
-    → ((z ≡ x) ⊎ In z ys → In z more) → (z ≡ x) ⊎ In z (y ∷ ys) → In z (match_ordering o (x ∷ y ∷ ys) (y ∷ ys) (y ∷ more))
-In-match z x y ys more Less tied rest member = member
-In-match z x y ys more Equal tied rest member = elim member [ inl e ↦ inl (e ∙ tied refl) | inr m ↦ m ]
-In-match z x y ys more Greater tied rest member =
-    elim member [ inl e ↦ inr (rest (inl e)) | inr m ↦ elim m [ inl e ↦ inl e | inr t ↦ inr (rest (inr t)) ] ]
+same-match : (x y : List ℕ) (ys more : List (List ℕ)) (o : Ordering) → (o ≡ Equal → x ≡ y) → HaveSame more (x ∷ ys)
+    → HaveSame (match_ordering o (x ∷ y ∷ ys) (y ∷ ys) (y ∷ more)) (x ∷ y ∷ ys)
+same-match x y ys more Less tied rest = same-itself (x ∷ y ∷ ys)
+same-match x y ys more Equal tied rest = same-there (y ∷ ys) x (inl (tied refl))
+same-match x y ys more Greater tied rest = same-through (same-append (same-itself (y ∷ [])) rest) (same-middle (y ∷ []) x ys)
+
+-- a set with one state more has that one and the others
+pub same-insert_state : (x : List ℕ) (ys : List (List ℕ)) → HaveSame (insert_state x ys) (x ∷ ys)
+same-insert_state x [] = same-itself (x ∷ [])
+same-insert_state x (y ∷ ys) = same-match x y ys (insert_state x ys) (state_cmp x y) (same-from_cmp x y) (same-insert_state x ys)
 
 pub In-insert_state : (z x : List ℕ) (ys : List (List ℕ)) → (z ≡ x) ⊎ In z ys → In z (insert_state x ys)
-In-insert_state z x [] member = member
-In-insert_state z x (y ∷ ys) member =
-    In-match z x y ys (insert_state x ys) (state_cmp x y) (same-from_cmp x y) (In-insert_state z x ys) member
-
-In-of_match : (z x y : List ℕ) (ys more : List (List ℕ)) (o : Ordering)
-    → (In z more → (z ≡ x) ⊎ In z ys) → In z (match_ordering o (x ∷ y ∷ ys) (y ∷ ys) (y ∷ more)) → (z ≡ x) ⊎ In z (y ∷ ys)
-In-of_match z x y ys more Less rest member = member
-In-of_match z x y ys more Equal rest member = inr member
-In-of_match z x y ys more Greater rest member =
-    elim member [ inl e ↦ inr (inl e) | inr t ↦ elim (rest t) [ inl e ↦ inl e | inr m ↦ inr (inr m) ] ]
+In-insert_state z x ys member = (same-insert_state x ys).back z member
 
 pub In-of_insert_state : (z x : List ℕ) (ys : List (List ℕ)) → In z (insert_state x ys) → (z ≡ x) ⊎ In z ys
-In-of_insert_state z x [] member = member
-In-of_insert_state z x (y ∷ ys) member =
-    In-of_match z x y ys (insert_state x ys) (state_cmp x y) (In-of_insert_state z x ys) member
+In-of_insert_state z x ys member = (same-insert_state x ys).there z member
+
+-- a set has the members of the list that it is made of
+pub same-ascending : (xs : List (List ℕ)) → HaveSame (ascending xs) xs
+same-ascending [] = same-itself []
+same-ascending (x ∷ xs) = same-through (same-insert_state x (ascending xs)) (same-append (same-itself (x ∷ [])) (same-ascending xs))
 
 pub In-ascending : (z : List ℕ) (xs : List (List ℕ)) → In z xs → In z (ascending xs)
-In-ascending z [] member = member
-In-ascending z (x ∷ xs) member =
-    In-insert_state z x (ascending xs) (elim member [ inl e ↦ inl e | inr t ↦ inr (In-ascending z xs t) ])
+In-ascending z xs member = (same-ascending xs).back z member
 
 pub In-of_ascending : (z : List ℕ) (xs : List (List ℕ)) → In z (ascending xs) → In z xs
-In-of_ascending z [] member = member
-In-of_ascending z (x ∷ xs) member =
-    elim (In-of_insert_state z x (ascending xs) member) [ inl e ↦ inl e | inr t ↦ inr (In-of_ascending z xs t) ]
+In-of_ascending z xs member = (same-ascending xs).there z member
 
 pub In-image : (f : List ℕ → List ℕ) (x : List ℕ) (xs : List (List ℕ)) → In x xs → In (f x) (image f xs)
 In-image f x xs member = In-ascending (f x) (map f xs) (In-map f x xs member)

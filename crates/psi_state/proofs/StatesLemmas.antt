@@ -1,13 +1,12 @@
 -- Lemmas. What is known of the states of given capacities and of a box, and when a box has one state.
-use Rattle.std.specs.Prelude.{◌≡◌, ℕ, suc, ◌-◌, List, [], ◌∷◌, ◌++◌, map, Some, None, true, false, nat_eq, refl}
+use Rattle.std.specs.Prelude.{◌≡◌, ℕ, suc, ◌-◌, List, [], ◌∷◌, Some, None, true, false, nat_eq, refl}
 use Rattle.std.specs.Cmp.Lexicographic.{pointwise, bytes_decides}
-use Rattle.std.proofs.Common.{ap, ◌∙◌, arith}
+use Rattle.std.proofs.Common.{ap, arith}
 use Rattle.psi_state.specs.State.{IsBelow, box, zeros, all_states}
 use Rattle.psi_state.specs.Members.{In}
 use Rattle.psi_state.proofs.BoxesLemmas.{below-itself, In-of_box, In-low, In-high, In-all_states, zeros-below}
 use Rattle.psi_state.specs.Sets.{single}
 use Rattle.psi_state.proofs.SetsLemmas.{single-apart}
-use Rattle.psi_state.specs.Volume.{layers}
 use Rattle.psi_state.specs.Hull.{IsTight, corners, hull}
 use Rattle.psi_state.proofs.HullLemmas.{corners-from_tight}
 
@@ -25,8 +24,7 @@ In-caps caps = In-all_states caps caps (below-itself caps)
 pub box-same : (x : List ℕ) → box x x ≡ x ∷ []
 box-same [] = refl
 box-same (v ∷ x) =
-    let one : suc v - v ≡ 1 = omega arith in
-    ap (λ n. layers (box x x) v n) one ∙ ap (λ (xs : List (List ℕ)). map (λ (y : List ℕ). v ∷ y) xs ++ []) (box-same x)
+    let one : suc v - v ≡ 1 = omega arith in rw (one, box-same x) refl
 
 -- a box has one state exactly where its corners are one
 pub single-box : (x : List ℕ) → single (box x x) ≡ Some x

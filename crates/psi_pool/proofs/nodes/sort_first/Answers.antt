@@ -4,7 +4,7 @@ use Rattle.std.specs.List.Sorted.{IsPermutation}
 use Rattle.psi_state.specs.Sets.{ascending}
 use Rattle.psi_state.specs.Ascending.{HaveSame}
 use Rattle.psi_state.proofs.SameLemmas.{same-through}
-use Rattle.psi_state.proofs.AscendingLemmas.{same-ascending}
+use Rattle.psi_state.proofs.SetsLemmas.{same-ascending}
 use Rattle.psi_pool.specs.Inner.NodesKept.{states}
 use Rattle.psi_pool.proofs.SortingLemmas.{sorted-is}
 use Rattle.psi_pool.proofs.PlacesLemmas.{states-take}
