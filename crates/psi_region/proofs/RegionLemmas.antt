@@ -1,5 +1,5 @@
 -- What a step makes of a region: it keeps the order of regions and has what the event makes of each state.
-use Rattle.std.specs.Prelude.{◌≡◌, ℕ, ◌≤◌, List, length, slice_index, Bool, true, false, nat_le, refl}
+use Rattle.std.specs.Prelude.{◌≡◌, ℕ, ◌≤◌, List, length, Bool, true, false, nat_le, refl}
 use Rattle.std.proofs.Common.{inl, inr, ap, sym, ◌∙◌, subst, arith}
 use Rattle.std.proofs.lemmas.Bool.{cases_Bool, true≢false, or_cases, or_parts, or_left, or_right, leb-true, le-leb}
 use Rattle.psi_state.specs.State.{IsBelow, zeros}
@@ -26,33 +26,20 @@ In-hull n x xs lengths member =
 -- what lies between two corners has its tight box there
 pub tight-low : (z : List ℕ) (xs : List (List ℕ)) (l h u w : List ℕ) → IsTight xs u w → In z xs → ((x : List ℕ) → In x xs → IsBetween l h x) → IsBelow l u
 tight-low z xs l h u w tight member each =
-    let own : IsBetween l h z = each z member in
-    let inner : IsBetween u w z = tight.inside z member in
-    let count : length l ≡ length u = own.low.same_length ∙ sym inner.low.same_length in
+    let count : length l ≡ length u = (each z member).low.same_length ∙ sym ((tight.inside z member).low.same_length) in
     record {
       same_length = count;
-      each = λ i small.
-          (let at = tight.low i (omega arith) in
-          let is : slice_index at.0 i ≡ slice_index u i = at.2 in
-          let above : slice_index l i ≤ slice_index at.0 i = (each at.0 at.1).low.each i small in
-          omega arith);
+      each = λ i small. (let at = tight.low i (omega arith) in omega (arith, at.2, (each at.0 at.1).low.each i small));
     }
 
 pub tight-high : (z : List ℕ) (xs : List (List ℕ)) (l h u w : List ℕ) → IsTight xs u w → In z xs → ((x : List ℕ) → In x xs → IsBetween l h x) → IsBelow w h
-tight-high z xs l h u w tight member each =
-    let own : IsBetween l h z = each z member in
-    let inner : IsBetween u w z = tight.inside z member in
-    let count : length w ≡ length h = sym inner.high.same_length ∙ own.high.same_length in
-    record {
-      same_length = count;
-      each = λ i small.
-          (let at = tight.high i small in
-          let is : slice_index at.0 i ≡ slice_index w i = at.2 in
-          let most = (each at.0 at.1).high in
-          let same : length at.0 ≡ length h = most.same_length in
-          let below : slice_index at.0 i ≤ slice_index h i = most.each i (omega arith) in
-          omega arith);
-    }
+tight-high z xs l h u w tight member each = record {
+  same_length = sym ((tight.inside z member).high.same_length) ∙ (each z member).high.same_length;
+  each = λ i small.
+      (let at = tight.high i small in
+      let inner = tight.inside at.0 at.1 in
+      omega (arith, at.2, (each at.0 at.1).high.each i (omega (arith, inner.high.same_length))));
+}
 
 -- and its hull
 pub hull-between : (n : ℕ) (z : List ℕ) (xs : List (List ℕ)) (l h : List ℕ) → HaveLength n xs → In z xs → ((x : List ℕ) → In x xs → IsBetween l h x)
@@ -76,20 +63,16 @@ hull-among n z xs ys lengths more member among = record {
       In-box (lows ys) (highs ys) x between.low between.high);
 }
 
--- the image of states of one length has states of one length, where the function makes states of states
-pub image-length : (caps : List ℕ) (f : List ℕ → List ℕ) (xs : List (List ℕ)) → IsClosed caps f → ((x : List ℕ) → In x xs → IsBelow x caps)
-    → HaveLength (length caps) (image f xs)
-image-length caps f xs closed within = record {
-  each = λ z member. (let found = In-of_image f z xs member in
-      let made : IsBelow (f found.0) caps = closed.each found.0 (within found.0 found.1) in
-      ap (λ (y : List ℕ). length y) found.2 ∙ made.same_length);
-}
-
+-- the image of states within the capacities is within them, where the function makes states of states
 pub image-within : (caps : List ℕ) (f : List ℕ → List ℕ) (xs : List (List ℕ)) → IsClosed caps f → ((x : List ℕ) → In x xs → IsBelow x caps)
     → (z : List ℕ) → In z (image f xs) → IsBelow z caps
 image-within caps f xs closed within z member =
     let found = In-of_image f z xs member in
     subst (λ (y : List ℕ). IsBelow y caps) (sym found.2) (closed.each found.0 (within found.0 found.1))
+
+pub image-length : (caps : List ℕ) (f : List ℕ → List ℕ) (xs : List (List ℕ)) → IsClosed caps f → ((x : List ℕ) → In x xs → IsBelow x caps)
+    → HaveLength (length caps) (image f xs)
+image-length caps f xs closed within = record { each = λ z member. (image-within caps f xs closed within z member).same_length }
 
 pub image-among : (f : List ℕ → List ℕ) (xs ys : List (List ℕ)) → AreAmong xs ys → AreAmong (image f xs) (image f ys)
 image-among f xs ys among = record {

@@ -1,6 +1,5 @@
 -- What the two ways in which a region is held say of its states.
-use Rattle.std.proofs.Common.{◌≡◌, ◌≢◌, ℕ, ◌≤◌, List, [], ◌∷◌, ◌++◌, length, Some, None, Bool, true, false, refl, inl, inr, ap, sym, ◌∙◌, subst, arith, append_assoc, nat_eq}
-use Rattle.std.specs.Cmp.Lexicographic.{pointwise}
+use Rattle.std.proofs.Common.{◌≡◌, ℕ, ◌≤◌, List, [], ◌∷◌, ◌++◌, length, Option, Some, None, Bool, true, false, refl, inl, inr, ap, sym, ◌∙◌, subst, arith, append_assoc}
 use Rattle.std.specs.Ordering.{match_ordering, ordering_reverse}
 use Rattle.std.specs.declared.cmp.Ordering.TheVariants.{Less, Greater}
 use Rattle.std.proofs.lemmas.Bool.{true≢false}
@@ -11,14 +10,15 @@ use Rattle.psi_state.proofs.MembersLemmas.{In-append_right}
 use Rattle.psi_state.specs.Sets.{state_cmp, insert_state, single, image}
 use Rattle.psi_state.proofs.SetsLemmas.{In-image}
 use Rattle.psi_state.proofs.BoxesLemmas.{In-low, In-high, below-through}
-use Rattle.psi_state.proofs.StatesLemmas.{single-box, single-box_apart, hull-box, same-from_eq, apart-from_eq}
+use Rattle.psi_state.proofs.StatesLemmas.{single-box, single-box_apart, hull-box}
 use Rattle.psi_state.specs.Ascending.{IsRising}
 use Rattle.psi_state.proofs.AscendingLemmas.{box-rising, image-rising}
 use Rattle.psi_state.specs.Hull.{corners, hull, IsTight}
 use Rattle.psi_pool.specs.Pooled.{Pooled}
-use Rattle.psi_region.specs.Region.{Area, Regional, splits, settled, step}
+use Rattle.psi_region.specs.Region.{Area, Regional, settled, next, step}
+use Rattle.psi_region.specs.Followed.{IsOne}
 use Rattle.psi_region.specs.Inner.RegionKept.{area_of, IsHeld}
-use Rattle.psi_region.proofs.RegionLemmas.{step-split, step-box, rested}
+use Rattle.psi_region.proofs.RegionLemmas.{rested}
 
 -- the states of an unsplit region are those of its box
 pub states-unsplit : (split : ℕ) (is_split : Bool) (b : Corners) (xs : List (List ℕ)) (now : Regional) → record { split = split; area = area_of is_split b xs } ≡ now
@@ -26,26 +26,14 @@ pub states-unsplit : (split : ℕ) (is_split : Bool) (b : Corners) (xs : List (L
 states-unsplit split is_split b xs now is no_split =
     ap (λ (r : Regional). r.area.states) (sym is) ∙ ap (λ s. (area_of s b xs).states) no_split
 
-pub states-split : (split : ℕ) (is_split : Bool) (b : Corners) (xs : List (List ℕ)) (now : Regional) → record { split = split; area = area_of is_split b xs } ≡ now
-    → is_split ≡ true → now.area.states ≡ xs
-states-split split is_split b xs now is split_is =
-    ap (λ (r : Regional). r.area.states) (sym is) ∙ ap (λ s. (area_of s b xs).states) split_is
-
 -- an unsplit region has one state exactly where its corners are one
-pub single-same : (b : Corners) (lo hi : List ℕ) (xs : List (List ℕ)) (same : Bool) → xs ≡ box b.lo b.hi → lo ≡ b.lo → hi ≡ b.hi → same ≡ pointwise nat_eq lo hi
-    → same ≡ true → Some lo ≡ single xs
-single-same b lo hi xs same is low high test together =
-    let e : lo ≡ hi = same-from_eq lo hi (sym test ∙ together) in
-    let at : box b.lo b.hi ≡ box lo lo = ap (λ (y : List ℕ). box b.lo y) (sym high ∙ sym e) ∙ ap (λ (y : List ℕ). box y lo) (sym low) in
-    sym (ap (λ (ys : List (List ℕ)). single ys) (is ∙ at) ∙ single-box lo)
-
-corners-apart : (b : Corners) (lo hi : List ℕ) (same : Bool) → lo ≡ b.lo → hi ≡ b.hi → same ≡ pointwise nat_eq lo hi → same ≡ false → b.lo ≢ b.hi
-corners-apart b lo hi same low high test apart = λ e. apart-from_eq lo hi (sym test ∙ apart) (low ∙ (e ∙ sym high))
-
-pub single-two : (b : Corners) (lo hi : List ℕ) (xs : List (List ℕ)) (same : Bool) → IsBelow b.lo b.hi → xs ≡ box b.lo b.hi → lo ≡ b.lo → hi ≡ b.hi
-    → same ≡ pointwise nat_eq lo hi → same ≡ false → None ≡ single xs
-single-two b lo hi xs same ordered is low high test apart =
-    sym (ap (λ (ys : List (List ℕ)). single ys) is ∙ single-box_apart b.lo b.hi ordered (corners-apart b lo hi same low high test apart))
+pub single-one : (b : Corners) (lo hi : List ℕ) (xs : List (List ℕ)) (o : Option (List ℕ)) → IsBelow b.lo b.hi → xs ≡ box b.lo b.hi → lo ≡ b.lo → hi ≡ b.hi
+    → IsOne lo hi o → o ≡ single xs
+single-one b lo hi xs None ordered is low high apart =
+    sym (ap (λ (ys : List (List ℕ)). single ys) is ∙ single-box_apart b.lo b.hi ordered (λ e. apart (low ∙ (e ∙ sym high))))
+single-one b lo hi xs (Some s) ordered is low high met =
+    let at : box b.lo b.hi ≡ box s s = ap (λ (y : List ℕ). box y b.hi) (sym (met.0 ∙ low)) ∙ ap (λ (y : List ℕ). box s y) (sym (met.1 ∙ high)) in
+    sym (ap (λ (ys : List (List ℕ)). single ys) (is ∙ at) ∙ single-box s)
 
 -- a list with two different members has at least two
 pub length-apart : {A : Type 0} (xs : List A) (x y : A) → In x xs → In y xs → (x ≡ y → ⊥) → 2 ≤ length xs
@@ -54,12 +42,12 @@ length-apart (z ∷ []) x y first second apart =
     elim first [ inl e ↦ elim second [ inl d ↦ absurd (apart (e ∙ sym d)) | inr none ↦ absurd none ] | inr none ↦ absurd none ]
 length-apart (z ∷ w ∷ xs) x y first second apart = omega arith
 
-pub two-unsplit : (b : Corners) (lo hi : List ℕ) (xs : List (List ℕ)) (same : Bool) → IsBelow b.lo b.hi → xs ≡ box b.lo b.hi → lo ≡ b.lo → hi ≡ b.hi
-    → same ≡ pointwise nat_eq lo hi → same ≡ false → 2 ≤ length xs
-two-unsplit b lo hi xs same ordered is low high test apart =
-    let two : 2 ≤ length (box b.lo b.hi) =
-    length-apart (box b.lo b.hi) b.lo b.hi (In-low b.lo b.hi ordered) (In-high b.lo b.hi ordered) (corners-apart b lo hi same low high test apart) in
-    subst (λ (ys : List (List ℕ)). 2 ≤ length ys) (sym is) two
+pub two-unsplit : (b : Corners) (lo hi : List ℕ) (xs : List (List ℕ)) (o : Option (List ℕ)) → IsBelow b.lo b.hi → xs ≡ box b.lo b.hi → lo ≡ b.lo → hi ≡ b.hi
+    → IsOne lo hi o → o ≡ None → 2 ≤ length xs
+two-unsplit b lo hi xs None ordered is low high apart none =
+    subst (λ (ys : List (List ℕ)). 2 ≤ length ys) (sym is)
+    (length-apart (box b.lo b.hi) b.lo b.hi (In-low b.lo b.hi ordered) (In-high b.lo b.hi ordered) (λ e. apart (low ∙ (e ∙ sym high))))
+two-unsplit b lo hi xs (Some s) ordered is low high met none = absurd cc
 
 cmp-turned : (x y : List ℕ) → state_cmp y x ≡ Less → state_cmp x y ≡ Greater
 cmp-turned x y less = nat_list_cmp_total.antisymm x y ∙ ap ordering_reverse less
@@ -113,47 +101,35 @@ held-box split is_split old new pool f held tight =
       rising = held.rising;
     }
 
+-- a region is settled as it is held
+settled-as : (old now : Regional) (split : ℕ) (is_split s : Bool) (b : Corners) (xs : List (List ℕ)) → now.area ≡ settled old.split old.area
+    → record { split = split; area = area_of is_split b xs } ≡ now → is_split ≡ s → settled old.split old.area ≡ area_of s b xs
+settled-as old now split is_split s b xs settles held is = sym settles ∙ (ap (λ (r : Regional). r.area) (sym held) ∙ ap (λ t. area_of t b xs) is)
+
 -- a step of a region that is held as a set
 pub stepped-split : (f : List ℕ → List ℕ) (old now : Regional) (split : ℕ) (is_split : Bool) (b : Corners) (xs ys : List (List ℕ))
     → now.area ≡ settled old.split old.area → record { split = split; area = area_of is_split b xs } ≡ now → is_split ≡ true → ys ≡ image f xs
     → area_of is_split b ys ≡ step old.split f old.area
+unfolding step
 stepped-split f old now split is_split b xs ys settles held is made =
-    let flag : splits old.split old.area ≡ true =
-    ap (λ (a : Area). a.is_split) (sym settles) ∙ (ap (λ (r : Regional). r.area.is_split) (sym held) ∙ ap (λ s. (area_of s b xs).is_split) is) in
-    let states : old.area.states ≡ xs =
-    ap (λ (a : Area). a.states) (sym settles) ∙ states-split split is_split b xs now held is in
-    let image_is : image f old.area.states ≡ ys = ap (λ (zs : List (List ℕ)). image f zs) states ∙ sym made in
-    ap (λ s. area_of s b ys) is
-    ∙ sym (step-split old.split f old.area flag ∙ ap (λ (zs : List (List ℕ)). area_split zs) image_is)
-  where
-    area_split : List (List ℕ) → Area
-    area_split zs = record { is_split = true; states = zs }
+    ap (λ s. area_of s b ys) is ∙ (ap (λ (zs : List (List ℕ)). area_of true b zs) made
+    ∙ sym (ap (λ (a : Area). next a.is_split f a.states) (settled-as old now split is_split true b xs settles held is)))
 
 -- and of one that is held as a box
 pub stepped-box : (f : List ℕ → List ℕ) (old now : Regional) (split : ℕ) (is_split : Bool) (b made : Corners) (xs : List (List ℕ))
     → now.area ≡ settled old.split old.area → record { split = split; area = area_of is_split b xs } ≡ now → is_split ≡ false → made ≡ corners (image f (box b.lo b.hi))
     → area_of is_split made xs ≡ step old.split f old.area
-unfolding hull
+unfolding step hull
 stepped-box f old now split is_split b made xs settles held is envelope =
-    let flag : splits old.split old.area ≡ false =
-    ap (λ (a : Area). a.is_split) (sym settles) ∙ (ap (λ (r : Regional). r.area.is_split) (sym held) ∙ ap (λ s. (area_of s b xs).is_split) is) in
-    let states : old.area.states ≡ box b.lo b.hi =
-    ap (λ (a : Area). a.states) (sym settles) ∙ states-unsplit split is_split b xs now held is in
-    let hull_is : hull (image f old.area.states) ≡ box made.lo made.hi =
-    ap (λ (zs : List (List ℕ)). hull (image f zs)) states ∙ ap (λ (c : Corners). box c.lo c.hi) (sym envelope) in
-    ap (λ s. area_of s made xs) is
-    ∙ sym (step-box old.split f old.area flag ∙ ap (λ (zs : List (List ℕ)). area_whole zs) hull_is)
-  where
-    area_whole : List (List ℕ) → Area
-    area_whole zs = record { is_split = false; states = zs }
+    ap (λ s. area_of s made xs) is ∙ (ap (λ (c : Corners). area_of false c xs) envelope
+    ∙ sym (ap (λ (a : Area). next a.is_split f a.states) (settled-as old now split is_split false b xs settles held is)))
 
 -- the greatest state of a box that the region has is within the capacities
 pub high-within : (caps : List ℕ) (old now : Regional) (split : ℕ) (is_split : Bool) (b : Corners) (xs : List (List ℕ)) → ((x : List ℕ) → In x old.area.states → IsBelow x caps)
     → now.area ≡ settled old.split old.area → record { split = split; area = area_of is_split b xs } ≡ now → is_split ≡ false → IsBelow b.lo b.hi → IsBelow b.hi caps
 high-within caps old now split is_split b xs within settles held is ordered =
-    let states : old.area.states ≡ box b.lo b.hi =
-    ap (λ (a : Area). a.states) (sym settles) ∙ states-unsplit split is_split b xs now held is in
-    within b.hi (subst (λ (zs : List (List ℕ)). In b.hi zs) (sym states) (In-high b.lo b.hi ordered))
+    within b.hi (subst (λ (zs : List (List ℕ)). In b.hi zs) (sym (ap (λ (a : Area). a.states) (settled-as old now split is_split false b xs settles held is)))
+    (In-high b.lo b.hi ordered))
 
 -- a step that changes no state only splits a region that is held so
 pub rested-held : (split m : ℕ) (is_split : Bool) (b : Corners) (xs : List (List ℕ)) (now : Regional) → record { split = m; area = area_of is_split b xs } ≡ now → IsRising xs → IsBelow b.lo b.hi

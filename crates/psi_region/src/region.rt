@@ -11,6 +11,7 @@ ghost use Rattle.psi_region.specs.Region.{start, settled, step, ShowsBox};
 ghost use Rattle.psi_region.specs.contracts.region.Region.{the_row};
 
 use crate::OutOfMemory;
+use crate::follower::one_of;
 use psi_event::EventLaw;
 use psi_pool::Pool;
 use psi_state::{Bounds, State};
@@ -112,12 +113,7 @@ impl Region {
         if self.is_split {
             return self.pool.only();
         }
-        let lo = self.bounds.lo();
-        if lo == self.bounds.hi() {
-            Some(lo)
-        } else {
-            None
-        }
+        one_of(self.bounds.lo(), self.bounds.hi())
     }
 
     /// Returns the box, exactly where the region isn't split.
