@@ -16,7 +16,7 @@ pub record AreUnits (n : ℕ) (t : ℕ → ℕ) : Type 0 where
 later-units : (n : ℕ) (t : ℕ → ℕ) → AreUnits (suc n) t → AreUnits n (λ j. t (suc j))
 later-units n t units = record { each = λ j small. units.each (suc j) (omega arith) }
 
-two-most : (bits : ℕ) → 1 ≤ bits → 2 ≤ 2 ^ bits
+pub two-most : (bits : ℕ) → 1 ≤ bits → 2 ≤ 2 ^ bits
 two-most bits some =
     let e : bits ≡ suc (bits - 1) = omega arith in
     let twice : 2 ^ bits ≡ 2 ^ (bits - 1) * 2 = ap (λ k. 2 ^ k) e ∙ pow-suc 2 (bits - 1) in

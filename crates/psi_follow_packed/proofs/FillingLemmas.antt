@@ -1,32 +1,28 @@
 -- Lists of packed states that are made by repeating their front with one customer more.
 use Rattle.std.specs.Prelude.{◌≡◌, ℕ, zero, suc, ◌+◌, ◌-◌, ◌*◌, ◌^◌, ◌<◌, ◌≤◌, List, [], ◌∷◌, ◌++◌, length, map, take, drop, replicate, get_or, slice_index, slice_set}
 use Rattle.std.specs.List.{flat_map}
-use Rattle.std.proofs.Common.{inl, inr, refl, ap, ap₂, sym, subst, ◌∙◌, arith, append_assoc, take-append-drop, get_or-drop, get_or-set_same, get_or-set_other, length-drop}
-use Rattle.std.proofs.Math.Nat.{suc-mul, zero-mul}
+use Rattle.std.proofs.Common.{inl, inr, refl, ap, ap₂, sym, subst, ◌∙◌, arith, append_assoc, append-nil, get_or-drop, get_or-set_same, get_or-set_other, length-drop}
+use Rattle.std.proofs.Math.Nat.{suc-mul, zero-mul, le-mul_of_pos_right}
+use Rattle.std.proofs.lemmas.Simd.{map-map}
 use Rattle.std.proofs.Math.ListN.{get_or-map}
-use Rattle.std.proofs.Math.Seq.{drop-cons, take-suc, get_or-append_seam, take-length, drop-length}
-use Rattle.std.proofs.lemmas.Bool.{cases_eq, cases_lt}
-use Rattle.std.proofs.lemmas.List.{drop-take, take-map, take-append-le, map-append, get_or-take, get_or-replicate, get_or_past, length-take-le, length-map, length-replicate}
+use Rattle.std.proofs.Math.Seq.{drop-cons, take-suc, take-add, get_or-append_seam, take-length, drop-length}
+use Rattle.std.proofs.lemmas.Bool.{cases_eq}
+use Rattle.std.proofs.lemmas.List.{take-map, map-append, get_or-take, length-take-le, length-map, length-replicate}
 use Rattle.std.proofs.lemmas.Grind.{same_number_lists}
 use Rattle.psi_state.specs.State.{IsBelow, box, numbers_from, zeros}
 use Rattle.psi_state.specs.Members.{In}
 use Rattle.psi_state.specs.Volume.{volume, layers}
+use Rattle.psi_state.proofs.ArraysLemmas.{slice_index-zeros}
 use Rattle.psi_state.proofs.BoxesLemmas.{below-head, below-tail, below-cons, below-through, set-below, zeros-below, In-of_box}
 use Rattle.psi_state.proofs.VolumeLemmas.{length-box, volume-some, volume-drop, volume-drop-some}
 use Rattle.psi_follow_packed.specs.Packed.{Packing, IsPacking, packed}
 use Rattle.psi_follow_packed.specs.declared.layout.Packed.{Packed}
 use Rattle.psi_follow_packed.specs.Inner.FillingKept.{words_at, words_in, AreSums, AreRepeated, AreBehind}
 use Rattle.psi_follow_packed.proofs.DigitsLemmas.{digits-same, digits-add}
+use Rattle.psi_follow_packed.proofs.WidthsLemmas.{below-take, volume-split}
 use Rattle.psi_follow_packed.proofs.WordsLemmas.{fields_of, packed-at, packed-lt, length-packed, below-fit}
 
 -- ---- lists
-
-take-more : {A : Type 0} (n m : ℕ) (xs : List A) → n + m ≤ length xs → take (n + m) xs ≡ take n xs ++ take m (drop n xs)
-take-more {A} n m xs enough =
-    let front : take n (take (n + m) xs) ≡ take n xs =
-    sym (take-append-le n (take (n + m) xs) (drop (n + m) xs) (let long = length-take-le (n + m) xs enough in omega (arith, long)))
-    ∙ ap (λ (ys : List A). take n ys) (take-append-drop (n + m) xs) in
-    sym (take-append-drop n (take (n + m) xs)) ∙ ap₂ (λ (ys zs : List A). ys ++ zs) front (drop-take n m xs)
 
 map-alike : {X A : Type 0} (f g : X → A) (xs : List X) → ((x : X) → In x xs → f x ≡ g x) → map f xs ≡ map g xs
 map-alike f g [] alike = refl
@@ -38,11 +34,7 @@ map-layers : {A : Type 0} (f : List ℕ → A) (inner : List (List ℕ)) (first 
 map-layers f inner first zero = refl
 map-layers {A} f inner first (suc n) =
     map-append f (map (λ (x : List ℕ). first ∷ x) inner) (layers inner (suc first) n)
-    ∙ ap₂ (λ (ys zs : List A). ys ++ zs) (twice inner) (map-layers f inner (suc first) n)
-  where
-    twice : (xs : List (List ℕ)) → map f (map (λ (x : List ℕ). first ∷ x) xs) ≡ map (λ (x : List ℕ). f (first ∷ x)) xs
-    twice [] = refl
-    twice (x ∷ xs) = ap (λ (ys : List A). f (first ∷ x) ∷ ys) (twice xs)
+    ∙ ap₂ (λ (ys zs : List A). ys ++ zs) (map-map f (λ (x : List ℕ). first ∷ x) inner) (map-layers f inner (suc first) n)
 
 -- ---- lists that repeat their front
 
@@ -88,7 +80,7 @@ module _ {X A : Type 0} (made : ℕ → X → A) (Raised : A → A → Type 0) (
       (let e : m + i - m ≡ m + (i - m) = omega arith in
       subst (λ k. Raised (get_or list k none) (get_or list (m + i) none)) e (each (m + i) (omega arith) (omega arith)))) in
       ap (λ k. take k list) more
-      ∙ take-more m (n * m) list (omega arith)
+      ∙ take-add m (n * m) list
       ∙ ap₂ (λ (ys zs : List A). ys ++ zs) own
       (layers-made inner n (suc first) rest (omega arith) second below (λ v x b member past small raised. next v x b member (omega arith) (omega arith) raised))
     where
@@ -109,12 +101,6 @@ off-seam (y ∷ front) v w x (suc q) other = off-seam front v w x q (λ e. other
 one-at : (n place q : ℕ) → place < n → slice_index (slice_set (replicate n 0) place 1) place ≡ 1
 one-at n place q within = get_or-set_same (replicate n 0) place 1 0 (let long = length-replicate {A = ℕ} n 0 in omega (arith, long))
 
-none-at : (n q : ℕ) → slice_index (replicate n 0) q ≡ 0
-none-at n q = elim (cases_lt q n) [
-  | inl small ↦ get_or-replicate n q 0 0 small
-  | inr past ↦ get_or_past (replicate n 0) q 0 (let long = length-replicate {A = ℕ} n 0 in omega (arith, long))
-]
-
 one-more : (front : List ℕ) (v : ℕ) (x : List ℕ) (n place : ℕ) → length front ≡ place → place < n → (q : ℕ)
     → slice_index (front ++ suc v ∷ x) q ≡ slice_index (front ++ v ∷ x) q + slice_index (slice_set (replicate n 0) place 1) q
 one-more front v x n place same within q = elim (cases_eq q place) [
@@ -124,7 +110,7 @@ one-more front v x n place same within q = elim (cases_eq q place) [
       let there : q ≡ length front = e ∙ sym same in
       ap (λ k. slice_index (front ++ suc v ∷ x) k) there ∙ first
       ∙ sym (ap₂ ◌+◌ (ap (λ k. slice_index (front ++ v ∷ x) k) there ∙ second) (ap (λ k. slice_index (slice_set (replicate n 0) place 1) k) e ∙ third) ∙ omega arith))
-  | inr other ↦ (let none : slice_index (slice_set (replicate n 0) place 1) q ≡ 0 = get_or-set_other (replicate n 0) place q 1 0 other ∙ none-at n q in
+  | inr other ↦ (let none : slice_index (slice_set (replicate n 0) place 1) q ≡ 0 = get_or-set_other (replicate n 0) place q 1 0 other ∙ slice_index-zeros n q in
       let alike : slice_index (front ++ suc v ∷ x) q ≡ slice_index (front ++ v ∷ x) q = off-seam front (suc v) v x q (λ e. other (e ∙ same)) in
       omega (arith, none, alike))
 ]
@@ -157,16 +143,9 @@ below-behind (l ∷ lo) (h ∷ hi) (suc place) v x ordered within small below =
 -- ---- the states of a box
 
 volume-drop-most : (lo hi : List ℕ) (place : ℕ) → IsBelow lo hi → volume (drop place lo) (drop place hi) ≤ volume lo hi
-volume-drop-most lo hi zero ordered = omega arith
-volume-drop-most [] [] (suc place) ordered = omega arith
-volume-drop-most [] (h ∷ hi) (suc place) ordered = absurd (let e : 0 ≡ suc (length hi) = ordered.same_length in omega arith)
-volume-drop-most (l ∷ lo) [] (suc place) ordered = absurd (let e : suc (length lo) ≡ 0 = ordered.same_length in omega arith)
-volume-drop-most (l ∷ lo) (h ∷ hi) (suc place) ordered =
-    let rest = volume-drop-most lo hi place (below-tail l lo h hi ordered) in
-    let some = below-head l lo h hi ordered in
-    let one : suc h - l ≡ suc (h - l) = omega arith in
-    let more : (suc h - l) * volume lo hi ≡ (h - l) * volume lo hi + volume lo hi = ap (λ n. n * volume lo hi) one ∙ suc-mul (h - l) (volume lo hi) in
-    omega (arith, rest, more)
+volume-drop-most lo hi place ordered =
+    let some = volume-some (take place lo) (take place hi) (below-take place lo hi ordered) in
+    omega (arith, volume-split place lo hi, le-mul_of_pos_right (volume (drop place lo) (drop place hi)) some)
 
 -- a box between ordered corners has a state
 pub box-some : (lo hi : List ℕ) → IsBelow lo hi → 1 ≤ length (box lo hi)
@@ -197,16 +176,12 @@ behind-none {K} p lo hi (y ∷ list) x same some own =
     let none : drop (length lo) lo ≡ [] = drop-length lo in
     let end : drop (length lo) hi ≡ [] = ap (λ n. drop n hi) same ∙ drop-length hi in
     let is : box (drop (length lo) lo) (drop (length lo) hi) ≡ [] ∷ [] = ap₂ box none end in
-    let all : take (length lo) lo ++ [] ≡ lo = append-none (take (length lo) lo) ∙ take-length lo in
+    let all : take (length lo) lo ++ [] ≡ lo = append-nil (take (length lo) lo) ∙ take-length lo in
     record {
       count = sym (ap (λ (xs : List (List ℕ)). length xs) is);
       words = ap (λ (w : List ℕ). w ∷ []) (own ∙ ap (packed K p) (sym all))
           ∙ sym (ap (λ (xs : List (List ℕ)). map (λ (z : List ℕ). packed K p (take (length lo) lo ++ z)) xs) is);
     }
-  where
-    append-none : (xs : List ℕ) → xs ++ [] ≡ xs
-    append-none [] = refl
-    append-none (z ∷ xs) = ap (λ (ys : List ℕ). z ∷ ys) (append-none xs)
 
 -- the states of a box with one queue more
 pub behind-more : {K : ℕ} (p : Packing) (lo hi : List ℕ) (place first all : ℕ) (old new : List (Packed K)) → IsPacking K p → IsBelow lo hi → IsBelow hi p.caps → place < length lo

@@ -1,13 +1,13 @@
 -- Runs over numbers of events, from the last number on.
-use Rattle.std.specs.Prelude.{◌≡◌, ℕ, ◌-◌, ◌<◌, ◌≤◌, List, [], ◌∷◌, length, map, slice_index, slice_index_or}
-use Rattle.std.proofs.Common.{inl, inr, ap, sym, ◌∙◌, subst, drop, arith}
-use Rattle.std.proofs.lemmas.Bool.{cases_lt}
-use Rattle.std.proofs.lemmas.List.{get_or_past, get_or-map, length-map}
+use Rattle.std.specs.Prelude.{◌≡◌, ℕ, ◌-◌, ◌<◌, ◌≤◌, List, length, map, slice_index, slice_index_or}
+use Rattle.std.proofs.Common.{ap, sym, ◌∙◌, subst, drop, arith}
+use Rattle.std.proofs.lemmas.List.{get_or_default, get_or-map, length-map}
 use Rattle.std.proofs.Math.Seq.{drop-length}
 use Rattle.psi_state.specs.State.{IsBelow}
-use Rattle.psi_event.specs.Law.{Function}
+use Rattle.psi_event.specs.Law.{Function, IsClosed}
 use Rattle.psi_event.specs.Numbers.{follow_numbers}
 use Rattle.psi_event.proofs.NumbersLemmas.{follow_numbers-drop}
+use Rattle.psi_region.proofs.FollowedLemmas.{follow_numbers-closed}
 use Rattle.psi_follow_packed.specs.Packed.{packed}
 use Rattle.psi_follow_packed.specs.Moves.{Moving, IsMoved, no_move}
 use Rattle.psi_follow_packed.specs.Programs.{Prepared, Prepares, Follows}
@@ -17,15 +17,11 @@ use Rattle.psi_follow_packed.proofs.MovingLemmas.{program-moves}
 -- a run stays within the capacities
 pub follow_numbers-within : (count : ℕ) (caps : List ℕ) (functions : List Function) (p : Prepared) → Prepares count caps functions p → (numbers : List ℕ) (x : List ℕ)
     → IsBelow x caps → IsBelow (follow_numbers functions numbers x) caps
-follow_numbers-within count caps functions p prepared [] x below = below
-follow_numbers-within count caps functions p prepared (n ∷ numbers) x below =
-    let rest = follow_numbers-within count caps functions p prepared numbers x below in
-    elim (cases_lt n (length functions)) [
-      | inl small ↦ subst (λ (cs : List ℕ). IsBelow (slice_index_or functions n (λ y. y) (follow_numbers functions numbers x)) cs) prepared.same_caps
-          ((prepared.each n small).closed.each (follow_numbers functions numbers x)
-          (subst (λ (cs : List ℕ). IsBelow (follow_numbers functions numbers x) cs) (sym prepared.same_caps) rest))
-      | inr past ↦ subst (λ (f : List ℕ → List ℕ). IsBelow (f (follow_numbers functions numbers x)) caps) (sym (get_or_past functions n (λ y. y) past)) rest
-    ]
+follow_numbers-within count caps functions p prepared numbers x below =
+    follow_numbers-closed caps functions numbers x
+    (λ k d small. subst (λ (f : Function). IsClosed caps f) (get_or_default functions k (λ y. y) d small)
+    (subst (λ (cs : List ℕ). IsClosed cs (slice_index_or functions k (λ y. y))) prepared.same_caps ((prepared.each k small).closed)))
+    below
 
 -- no number is left after the last
 pub follows-none : (count : ℕ) (p : Prepared) (numbers before : List ℕ) → Follows count p (drop (length numbers) numbers) before before

@@ -1,6 +1,6 @@
 -- The tests of all words are the tests of all numbers.
 use Rattle.std.specs.Prelude.{◌≡◌, ℕ, zero, suc, ◌+◌, ◌-◌, ◌*◌, ◌%◌, ◌^◌, ◌<◌, ◌≤◌, Bool, ◌&&◌, List, length, map, slice_index, slice_index_or, nat_eq, bit_and}
-use Rattle.std.proofs.Common.{ap, ap₂, sym, ◌∙◌, arith, pow_mono, ⊎_elim}
+use Rattle.std.proofs.Common.{ap, ap₂, sym, ◌∙◌, arith, ⊎_elim}
 use Rattle.std.proofs.lemmas.Bool.{cases_lt}
 use Rattle.std.proofs.lemmas.List.{get_or_past}
 use Rattle.std.proofs.Math.Nat.{mod-eq_of_lt}
@@ -13,8 +13,8 @@ use Rattle.psi_event.specs.declared.piecewise.Piece.{Piece}
 use Rattle.psi_event.specs.Piecewise.{is_on, all_on, IsPiece}
 use Rattle.psi_follow_packed.specs.Packed.{Packing, IsPacking, packed}
 use Rattle.psi_follow_packed.specs.Moves.{Masks, holds, guard, guard_of, wanted_of, AreMasksOf}
-use Rattle.psi_follow_packed.proofs.DigitsLemmas.{digits, all_below, AreDigits, digits-add, digits-lt, digits-and, digits-test}
-use Rattle.psi_follow_packed.proofs.WordsLemmas.{fields_of, Fit, AreDigits-fields, packed-at, below-guard, twice-guard}
+use Rattle.psi_follow_packed.proofs.DigitsLemmas.{digits, all_below, AreDigits, digits-add, digits-and, digits-test}
+use Rattle.psi_follow_packed.proofs.WordsLemmas.{fields_of, Fit, AreDigits-fields, digits-word, packed-at, below-guard, twice-guard}
 use Rattle.psi_follow_packed.proofs.TestingLemmas.{all_below-add, all_on-is, test_at, field-test, mark_of-lt, mapped-at, mapped-past, sided-at, sided-fit}
 
 -- the numbers of four packed lists in one field: the second raises the first so that, of the guards of the third, those of the
@@ -32,11 +32,8 @@ module _ (count : ℕ) (p : Packing) (x o g w : List ℕ) (t : ℕ → Bool) (is
   raised-word : (at : ℕ) → (digits p.bits p.fields (fields_of p.fields x at) + digits p.bits p.fields (fields_of p.fields o at)) % 2 ^ 64
       ≡ digits p.bits p.fields (λ j. fields_of p.fields x at j + fields_of p.fields o at j)
   raised-word at =
-      let e : p.bits * p.fields ≤ 64 = omega (arith, is.fit) in
-      let most : 2 ^ (p.bits * p.fields) ≤ 2 ^ 64 = pow_mono e in
-      let small : digits p.bits p.fields (λ j. fields_of p.fields x at j + fields_of p.fields o at j) < 2 ^ 64
-      = omega (arith, digits-lt p.bits p.fields (λ j. fields_of p.fields x at j + fields_of p.fields o at j) (raised-digits at)) in
-      ap (λ n. n % 2 ^ 64) (sym (digits-add p.bits p.fields (fields_of p.fields x at) (fields_of p.fields o at))) ∙ mod-eq_of_lt small
+      ap (λ n. n % 2 ^ 64) (sym (digits-add p.bits p.fields (fields_of p.fields x at) (fields_of p.fields o at)))
+      ∙ mod-eq_of_lt (digits-word count p (λ j. fields_of p.fields x at j + fields_of p.fields o at j) is (raised-digits at))
 
   and-digits : (at : ℕ) → AreDigits p.bits p.fields (λ j. bit_and (fields_of p.fields x at j + fields_of p.fields o at j) (fields_of p.fields g at j))
   and-digits at = record {
@@ -77,16 +74,18 @@ module _ (count : ℕ) (p : Packing) (x o g w : List ℕ) (t : ℕ → Bool) (is
 
 -- ---- the masks of a piece
 
+-- a number and what raises it to the guard at its bound fit a field
+pub raised-at : (count : ℕ) (p : Packing) (bounds x : List ℕ) → IsPacking count p → IsBelow x p.caps
+    → (q : ℕ) → slice_index x q + slice_index (map (λ v. guard p.bits - v) bounds) q < 2 ^ p.bits
+raised-at count p bounds x is below q = ⊎_elim
+    (λ small. omega (arith, mapped-at (λ v. guard p.bits - v) bounds q small, below-guard count p x is below q, twice-guard p.bits (omega (arith, is.least))))
+    (λ past. omega (arith, mapped-past (λ v. guard p.bits - v) bounds q past, below-guard count p x is below q, twice-guard p.bits (omega (arith, is.least))))
+    (cases_lt q (length bounds))
+
 module _ (count : ℕ) (p : Packing) (sides : List Side) (bounds x : List ℕ) (is : IsPacking count p)
     (along : length sides ≡ length p.caps) (bounded : IsBelow bounds p.caps) (below : IsBelow x p.caps) where
   some : 1 ≤ p.bits
   some = omega (arith, is.least)
-
-  raised-at : (q : ℕ) → slice_index x q + slice_index (map (λ v. guard p.bits - v) bounds) q < 2 ^ p.bits
-  raised-at q = ⊎_elim
-      (λ small. omega (arith, mapped-at (λ v. guard p.bits - v) bounds q small, below-guard count p x is below q, below-guard count p bounds is bounded q, twice-guard p.bits some))
-      (λ past. omega (arith, mapped-past (λ v. guard p.bits - v) bounds q past, below-guard count p x is below q, twice-guard p.bits some))
-      (cases_lt q (length bounds))
 
   test-at : (q : ℕ) → nat_eq (bit_and (slice_index x q + slice_index (map (λ v. guard p.bits - v) bounds) q) (slice_index (map (guard_of p.bits) sides) q))
       (slice_index (map (wanted_of p.bits) sides) q) ≡ test_at sides bounds x q
@@ -106,7 +105,7 @@ module _ (count : ℕ) (p : Packing) (sides : List Side) (bounds x : List ℕ) (
 
   masks-tested : AreTested p.bits x (map (λ v. guard p.bits - v) bounds) (map (guard_of p.bits) sides) (map (wanted_of p.bits) sides) (test_at sides bounds x)
   masks-tested = record {
-    raised = raised-at;
+    raised = raised-at count p bounds x is below;
     guards = sided-fit p.bits (guard_of p.bits) sides (λ side. mark_of-lt p.bits (guard p.bits) side some (omega arith));
     wanted = sided-fit p.bits (wanted_of p.bits) sides (λ side. mark_of-lt p.bits 0 side some (omega arith));
     test = test-at;

@@ -1,17 +1,16 @@
 -- The loops over words.
-use Rattle.std.specs.Prelude.{◌≡◌, ℕ, ◌+◌, ◌-◌, ◌%◌, ◌^◌, ◌<◌, ◌≤◌, Bool, true, false, ◌&&◌, List, [], ◌∷◌, ◌++◌, length, map, slice_index, slice_set, slice_index_or, bit_and, if◌then◌else◌}
-use Rattle.std.proofs.Common.{refl, ap, ap₂, sym, subst, ◌∙◌, arith, length-set, get_or-set_same, get_or-set_other, below_more}
-use Rattle.std.proofs.lemmas.Bool.{true≢false}
+use Rattle.std.specs.Prelude.{◌≡◌, ℕ, ◌+◌, ◌-◌, ◌%◌, ◌^◌, ◌<◌, ◌≤◌, Bool, true, false, List, [], ◌∷◌, ◌++◌, length, map, slice_index, slice_set, slice_index_or, bit_and, if◌then◌else◌}
+use Rattle.std.proofs.Common.{ap, ap₂, sym, subst, ◌∙◌, arith, length-set, get_or-set_same, get_or-set_other, below_more}
 use Rattle.std.specs.Int.Bits.{and_zero_l}
 use Rattle.std.proofs.lemmas.Nat.{and_comm, and_mask}
 use Rattle.psi_state.specs.State.{IsBelow}
 use Rattle.psi_event.specs.Law.{Function}
 use Rattle.psi_event.specs.Piecewise.{if_on}
 use Rattle.std.proofs.lemmas.List.{get_or_append_left, get_or_push, map_push, length_push}
-use Rattle.psi_follow_packed.specs.Packed.{Packing, packed}
+use Rattle.psi_follow_packed.specs.Packed.{packed}
 use Rattle.psi_follow_packed.specs.Moves.{Moving, IsMoved, no_move}
 use Rattle.psi_follow_packed.specs.declared.moves.PackedEvent.{PackedEvent}
-use Rattle.psi_follow_packed.specs.Programs.{Prepared, Prepares, IsMoveFor}
+use Rattle.psi_follow_packed.specs.Programs.{Prepared, Prepares}
 use Rattle.psi_follow_packed.proofs.ChangesLemmas.{moved-is}
 
 -- a mask of all ones where a test holds, and of none otherwise
@@ -55,32 +54,13 @@ changed-more count at a b first second c d x y small one two changed = record {
       ∙ ap (λ v. ((v + if_on a (slice_index c at)) % 2 ^ 64 + if_on b (slice_index d at)) % 2 ^ 64) (changed.later at (omega arith)));
 }
 
--- one more move is that of the next function
-pub moves-more : (count : ℕ) (p : Packing) (functions : List Function) (moves : List Moving) (k : ℕ) (m : Moving) → length moves ≡ k
-    → ((i : ℕ) → i < k → IsMoveFor count p (slice_index_or functions i (λ x. x)) (slice_index_or moves i no_move))
-    → IsMoveFor count p (slice_index_or functions k (λ x. x)) m
-    → (i : ℕ) → i < k + 1 → IsMoveFor count p (slice_index_or functions i (λ x. x)) (slice_index_or (moves ++ m ∷ []) i no_move)
-moves-more count p functions moves k m long each own =
-    below_more (λ i. IsMoveFor count p (slice_index_or functions i (λ x. x)) (slice_index_or (moves ++ m ∷ []) i no_move)) k
-    (λ i under. subst (λ (n : Moving). IsMoveFor count p (slice_index_or functions i (λ x. x)) n) (sym (get_or_append_left moves (m ∷ []) no_move i (omega arith))) (each i under))
-    (subst (λ (n : Moving). IsMoveFor count p (slice_index_or functions k (λ x. x)) n) (sym (get_or_push moves m no_move k long)) own)
-
--- both of two tests hold
-pub and-first : (a b : Bool) → (a && b) ≡ true → a ≡ true
-and-first true b both = refl
-and-first false b both = both
-
-pub and-second : (a b : Bool) → (a && b) ≡ true → b ≡ true
-and-second true b both = both
-and-second false b both = absurd (true≢false (sym both))
-
 -- what holds for each move holds for one more
-pub each-more : (P : Moving → Type 0) (moves : List Moving) (k : ℕ) (m : Moving) → length moves ≡ k → ((i : ℕ) → i < k → P (slice_index_or moves i no_move)) → P m
-    → (i : ℕ) → i < k + 1 → P (slice_index_or (moves ++ m ∷ []) i no_move)
+pub each-more : (P : ℕ → Moving → Type 0) (moves : List Moving) (k : ℕ) (m : Moving) → length moves ≡ k → ((i : ℕ) → i < k → P i (slice_index_or moves i no_move)) → P k m
+    → (i : ℕ) → i < k + 1 → P i (slice_index_or (moves ++ m ∷ []) i no_move)
 each-more P moves k m long each own =
-    below_more (λ i. P (slice_index_or (moves ++ m ∷ []) i no_move)) k
-    (λ i under. subst P (sym (get_or_append_left moves (m ∷ []) no_move i (omega arith))) (each i under))
-    (subst P (sym (get_or_push moves m no_move k long)) own)
+    below_more (λ i. P i (slice_index_or (moves ++ m ∷ []) i no_move)) k
+    (λ i under. subst (P i) (sym (get_or_append_left moves (m ∷ []) no_move i (omega arith))) (each i under))
+    (subst (P k) (sym (get_or_push moves m no_move k long)) own)
 
 pub length-more : {X : Type 0} (xs more : List X) (x : X) (n : ℕ) → length xs ≡ n → more ≡ xs ++ x ∷ [] → length more ≡ n + 1
 length-more {X} xs more x n long same = ap (λ (ys : List X). length ys) same ∙ length_push xs x ∙ ap (λ k. k + 1) long

@@ -1,6 +1,6 @@
 -- The fields of the words that an event of single customers makes of packed states.
 use Rattle.std.specs.Prelude.{◌≡◌, ℕ, ◌+◌, ◌-◌, ◌*◌, ◌/◌, ◌%◌, ◌^◌, ◌<◌, ◌≤◌, min, List, length, slice_index, bit_and}
-use Rattle.std.proofs.Common.{inl, inr, ap, ap₂, sym, ◌∙◌, arith, pow_pos, pow_mono, mod-lt}
+use Rattle.std.proofs.Common.{inl, inr, ap, ap₂, sym, ◌∙◌, arith, pow_pos, mod-lt}
 use Rattle.std.proofs.Math.Nat.{div-eq_of_lt, div-eq_of_lt-le, mod-eq_of_lt, div-add-mod'}
 use Rattle.std.proofs.lemmas.Bool.{cases_lt, cases_eq}
 use Rattle.std.proofs.lemmas.Nat.{and_mask, same_from_place}
@@ -10,44 +10,42 @@ use Rattle.psi_event.specs.declared.sides.Side.TheVariants.{Any, AtLeast, Below}
 use Rattle.psi_follow_packed.specs.Packed.{Packing, IsPacking}
 use Rattle.psi_follow_packed.specs.UnitEvents.{IsUnitAt}
 use Rattle.psi_follow_packed.specs.Inner.BitsKept.{HasNone, HasOne, HasTwoIn, HasTwoOf, HasSeveral, AreEach, ChoosesAlone}
-use Rattle.psi_follow_packed.proofs.DigitsLemmas.{digits, digits-same, digits-zero, digits-and, digits-lt}
-use Rattle.psi_follow_packed.proofs.WordsLemmas.{twice-guard}
+use Rattle.psi_follow_packed.proofs.DigitsLemmas.{digits, digits-same, digits-zero, digits-and}
+use Rattle.psi_follow_packed.proofs.WordsLemmas.{digits-word}
 use Rattle.psi_follow_packed.proofs.LoweringLemmas.{and-same}
-use Rattle.psi_follow_packed.proofs.BitsLemmas.{AreUnits, IsLone, units-digits, digits-none, units-some, units-lone, units-two, unit-and}
+use Rattle.psi_follow_packed.proofs.BitsLemmas.{AreUnits, IsLone, two-most, units-digits, digits-none, units-some, units-lone, units-two, unit-and}
 
 -- ---- one field
+
+-- the guard of a number that is raised is up from the bound on
+raised-guard : (bits bound v : ℕ) → bound < 2 ^ (bits - 1) → v < 2 ^ (bits - 1) + bound → bit_and ((v + (2 ^ (bits - 1) - bound)) / 2 ^ (bits - 1)) 1 ≡ 1 - (bound - v)
+raised-guard bits bound v bounded small = elim (cases_lt v bound) [
+  | inl under ↦ (let none : (v + (2 ^ (bits - 1) - bound)) / 2 ^ (bits - 1) ≡ 0 = div-eq_of_lt (omega arith) in
+      ap (λ g. bit_and g 1) none ∙ unit-and 0 1 (omega arith) (omega arith) ∙ omega arith)
+  | inr over ↦ (let low : 1 * 2 ^ (bits - 1) ≤ v + (2 ^ (bits - 1) - bound) = omega arith in
+      let high : v + (2 ^ (bits - 1) - bound) < (1 + 1) * 2 ^ (bits - 1) = omega arith in
+      ap (λ g. bit_and g 1) (div-eq_of_lt-le (2 ^ (bits - 1)) low high) ∙ and-same 1 ∙ omega arith)
+]
+
+-- no bit of zero
+none-of : (g n : ℕ) → n ≡ 0 → bit_and g n ≡ 0
+none-of g n none = ap (bit_and g) none ∙ and_zero_r g
 
 -- a queue that gains a customer has its guard up where it is full
 pub up-field : (bits : ℕ) (side : Side) (bound cap up down v : ℕ) → v ≤ cap → bound < 2 ^ (bits - 1) → IsUnitAt side bound cap up down
     → bit_and ((v + (2 ^ (bits - 1) - bound)) / 2 ^ (bits - 1)) up ≡ up - (cap - v)
-up-field bits Any bound cap up down v small bounded unit =
-    ap (bit_and ((v + (2 ^ (bits - 1) - bound)) / 2 ^ (bits - 1))) unit.0 ∙ and_zero_r ((v + (2 ^ (bits - 1) - bound)) / 2 ^ (bits - 1)) ∙ omega (arith, unit.0)
-up-field bits AtLeast bound cap up down v small bounded unit =
-    ap (bit_and ((v + (2 ^ (bits - 1) - bound)) / 2 ^ (bits - 1))) unit.1 ∙ and_zero_r ((v + (2 ^ (bits - 1) - bound)) / 2 ^ (bits - 1)) ∙ omega (arith, unit.1)
-up-field bits Below bound cap up down v small bounded unit = elim (cases_lt v cap) [
-  | inl room ↦ (let none : (v + (2 ^ (bits - 1) - bound)) / 2 ^ (bits - 1) ≡ 0 = div-eq_of_lt (omega (arith, room, bounded, unit.0)) in
-      ap₂ bit_and none unit.1 ∙ unit-and 0 1 (omega arith) (omega arith) ∙ omega (arith, room, unit.1))
-  | inr full ↦ (let low : 1 * 2 ^ (bits - 1) ≤ v + (2 ^ (bits - 1) - bound) = omega (arith, full, small, bounded, unit.0) in
-      let high : v + (2 ^ (bits - 1) - bound) < (1 + 1) * 2 ^ (bits - 1) = omega (arith, full, small, bounded, unit.0, pow_pos (bits - 1)) in
-      let one : (v + (2 ^ (bits - 1) - bound)) / 2 ^ (bits - 1) ≡ 1 = div-eq_of_lt-le (2 ^ (bits - 1)) low high in
-      ap₂ bit_and one unit.1 ∙ and-same 1 ∙ omega (arith, full, unit.1))
-]
+up-field bits Any bound cap up down v small bounded unit = none-of ((v + (2 ^ (bits - 1) - bound)) / 2 ^ (bits - 1)) up unit.0 ∙ omega (arith, unit.0)
+up-field bits AtLeast bound cap up down v small bounded unit = none-of ((v + (2 ^ (bits - 1) - bound)) / 2 ^ (bits - 1)) up unit.1 ∙ omega (arith, unit.1)
+up-field bits Below bound cap up down v small bounded unit =
+    ap (bit_and ((v + (2 ^ (bits - 1) - bound)) / 2 ^ (bits - 1))) unit.1 ∙ raised-guard bits bound v bounded (omega (arith, unit.0, pow_pos (bits - 1))) ∙ omega (arith, unit.0, unit.1)
 
 -- and one that loses a customer where it has one
 pub down-field : (bits : ℕ) (side : Side) (bound cap up down v : ℕ) → v < 2 ^ (bits - 1) → bound < 2 ^ (bits - 1) → IsUnitAt side bound cap up down
     → bit_and ((v + (2 ^ (bits - 1) - bound)) / 2 ^ (bits - 1)) down ≡ min down v
-down-field bits Any bound cap up down v small bounded unit =
-    ap (bit_and ((v + (2 ^ (bits - 1) - bound)) / 2 ^ (bits - 1))) unit.1 ∙ and_zero_r ((v + (2 ^ (bits - 1) - bound)) / 2 ^ (bits - 1)) ∙ omega (arith, unit.1)
-down-field bits Below bound cap up down v small bounded unit =
-    ap (bit_and ((v + (2 ^ (bits - 1) - bound)) / 2 ^ (bits - 1))) unit.2 ∙ and_zero_r ((v + (2 ^ (bits - 1) - bound)) / 2 ^ (bits - 1)) ∙ omega (arith, unit.2)
-down-field bits AtLeast bound cap up down v small bounded unit = elim (cases_lt v 1) [
-  | inl empty ↦ (let none : (v + (2 ^ (bits - 1) - bound)) / 2 ^ (bits - 1) ≡ 0 = div-eq_of_lt (omega (arith, empty, bounded, unit.0)) in
-      ap₂ bit_and none unit.2 ∙ unit-and 0 1 (omega arith) (omega arith) ∙ omega (arith, empty, unit.2))
-  | inr some ↦ (let low : 1 * 2 ^ (bits - 1) ≤ v + (2 ^ (bits - 1) - bound) = omega (arith, some, bounded, unit.0) in
-      let high : v + (2 ^ (bits - 1) - bound) < (1 + 1) * 2 ^ (bits - 1) = omega (arith, some, small, unit.0) in
-      let one : (v + (2 ^ (bits - 1) - bound)) / 2 ^ (bits - 1) ≡ 1 = div-eq_of_lt-le (2 ^ (bits - 1)) low high in
-      ap₂ bit_and one unit.2 ∙ and-same 1 ∙ omega (arith, some, unit.2))
-]
+down-field bits Any bound cap up down v small bounded unit = none-of ((v + (2 ^ (bits - 1) - bound)) / 2 ^ (bits - 1)) down unit.1 ∙ omega (arith, unit.1)
+down-field bits Below bound cap up down v small bounded unit = none-of ((v + (2 ^ (bits - 1) - bound)) / 2 ^ (bits - 1)) down unit.2 ∙ omega (arith, unit.2)
+down-field bits AtLeast bound cap up down v small bounded unit =
+    ap (bit_and ((v + (2 ^ (bits - 1) - bound)) / 2 ^ (bits - 1))) unit.2 ∙ raised-guard bits bound v bounded (omega arith) ∙ omega (arith, unit.0, unit.2)
 
 -- ---- all fields
 
@@ -68,10 +66,7 @@ module _ (count : ℕ) (p : Packing) (is : IsPacking count p) where
   some = omega (arith, is.least)
 
   pub fields-lt : (f : ℕ → ℕ) (w : ℕ) → ((q : ℕ) → f q < 2 ^ p.bits) → digits p.bits p.fields (λ j. f (w * p.fields + j)) < 2 ^ 64
-  fields-lt f w fit =
-      let e : p.bits * p.fields ≤ 64 = omega (arith, is.fit) in
-      let most : 2 ^ (p.bits * p.fields) ≤ 2 ^ 64 = pow_mono e in
-      omega (arith, most, digits-lt p.bits p.fields (λ j. f (w * p.fields + j)) (record { each = λ j small. fit (w * p.fields + j) }))
+  fields-lt f w fit = digits-word count p (λ j. f (w * p.fields + j)) is (record { each = λ j small. fit (w * p.fields + j) })
 
   -- the place of a queue's field
   pub field-place : (q : ℕ) → q < length p.caps → (w : ℕ) × (w < count) × ((j : ℕ) × (j < p.fields) × (w * p.fields + j ≡ q))
@@ -126,9 +121,6 @@ module _ (count : ℕ) (p : Packing) (is : IsPacking count p) where
       alone = λ q small one i inside other. fields-none t words units fields none i inside;
       other = λ q small zero_is. absurd (omega (arith, zero_is));
     }
-      where
-        two-most : (bits : ℕ) → 1 ≤ bits → 2 ≤ 2 ^ bits
-        two-most bits some = omega (arith, twice-guard bits some, pow_pos (bits - 1))
 
     lone-at : (one : HasOne count words) → IsLone p.fields (λ j. t (one.word * p.fields + j))
     lone-at one =

@@ -27,8 +27,9 @@ use Rattle.psi_follow_packed.specs.Inner.BitsKept.{ChoosesAlone}
 use Rattle.psi_follow_packed.specs.Inner.FillingKept.{AreSums}
 use Rattle.psi_follow_packed.proofs.DigitsLemmas.{digits, digits-same, digits-zero, digits-add}
 use Rattle.psi_follow_packed.proofs.WordsLemmas.{fields_of, packed-at, length-packed, below-guard, twice-guard}
-use Rattle.psi_follow_packed.proofs.TestingLemmas.{mapped-at, mapped-past}
-use Rattle.psi_follow_packed.proofs.BitsLemmas.{digits-guards, digits-one}
+use Rattle.psi_follow_packed.proofs.TestingLemmas.{mapped-at}
+use Rattle.psi_follow_packed.proofs.BitsLemmas.{two-most, digits-guards, digits-one}
+use Rattle.psi_follow_packed.proofs.HoldingLemmas.{raised-at}
 use Rattle.psi_follow_packed.proofs.UnitRulesLemmas.{unit_rule, unit-rule_of, queue-at, low-missed, high-missed, low-alone, high-alone, low-kept, high-kept}
 use Rattle.psi_follow_packed.proofs.UnitFieldsLemmas.{up-field, down-field, AreFields, AreUnitFields, fields-lt, fields-none, field-place, AreChosen, chosen-is}
 
@@ -97,27 +98,11 @@ module _ (count : ℕ) (p : Packing) (f : Function) (m : UnitMasks) (unit : IsUn
   downs-fields : AreFields count p d m.downs
   downs-fields = record { each = λ w small. ap (λ (l : List ℕ). slice_index l w) unit.downs ∙ packed-at count p unit.pieces.first.downs w small }
 
-  two-most : 2 ≤ 2 ^ p.bits
-  two-most = omega (arith, twice-guard p.bits some, pow_pos (p.bits - 1))
-
   -- ---- what is full, and what has a customer
 
   module _ (x : List ℕ) (below : IsBelow x p.caps) where
     raised-lt : (q : ℕ) → slice_index x q + off q < 2 ^ p.bits
-    raised-lt q = elim (cases_lt q (length p.caps)) [
-      | inl small ↦ omega (
-        arith,
-        mapped-at (λ v. guard p.bits - v) unit.pieces.bounds q (omega (arith, small, unit.does.valid.bounds.same_length)),
-        below-guard count p x unit.packing below q,
-        twice-guard p.bits some,
-      )
-      | inr past ↦ omega (
-        arith,
-        mapped-past (λ v. guard p.bits - v) unit.pieces.bounds q (omega (arith, past, unit.does.valid.bounds.same_length)),
-        below-guard count p x unit.packing below q,
-        twice-guard p.bits some,
-      )
-    ]
+    raised-lt = raised-at count p unit.pieces.bounds x unit.packing below
 
     raised-word : (words : List ℕ) → words ≡ packed count p x → (w : ℕ) → w < count
         → (slice_index words w + slice_index m.offsets w) % 2 ^ 64 ≡ digits p.bits p.fields (λ j. slice_index x (w * p.fields + j) + off (w * p.fields + j))
@@ -242,7 +227,7 @@ module _ (count : ℕ) (p : Packing) (f : Function) (m : UnitMasks) (unit : IsUn
           sym ((busy-fields hi corners.within high busy_words corners.high downs).each w place.1) ∙ ap (λ (l : List ℕ). slice_index l w) passes.1 ∙ downs-fields.each w place.1 in
           let one : busy hi (w * p.fields + j) ≡ d (w * p.fields + j) =
           digits-one p.bits p.fields (λ i. busy hi (w * p.fields + i)) (λ i. d (w * p.fields + i)) j
-          (record { each = λ i inside. omega (arith, one-most (w * p.fields + i), two-most) }) (record { each = λ i inside. omega (arith, one-most (w * p.fields + i), two-most) }) same place.2.1 in
+          (record { each = λ i inside. omega (arith, one-most (w * p.fields + i), two-most p.bits some) }) (record { each = λ i inside. omega (arith, one-most (w * p.fields + i), two-most p.bits some) }) same place.2.1 in
           let here : busy hi q ≡ d q = subst (λ i. busy hi i ≡ d i) place.2.2 one in
           omega (arith, here, empty))
       | inr filled ↦
@@ -288,27 +273,37 @@ module _ (count : ℕ) (p : Packing) (f : Function) (m : UnitMasks) (unit : IsUn
 
     -- ---- where the event can happen
 
-    -- words less words, and their sums, field by field
+    -- sums of numbers, words less words, and their sums, field by field
+    sum-word : (x y z : ℕ → ℕ) (w : ℕ) → ((q : ℕ) → z q ≡ x q + y q)
+        → digits p.bits p.fields (λ j. z (w * p.fields + j)) ≡ digits p.bits p.fields (λ j. x (w * p.fields + j)) + digits p.bits p.fields (λ j. y (w * p.fields + j))
+    sum-word x y z w same =
+        digits-same p.bits p.fields (λ j. z (w * p.fields + j)) (λ j. x (w * p.fields + j) + y (w * p.fields + j)) (λ j inside. same (w * p.fields + j))
+        ∙ digits-add p.bits p.fields (λ j. x (w * p.fields + j)) (λ j. y (w * p.fields + j))
+
     less-fields : (x y z : ℕ → ℕ) (xs ys words : List ℕ) → AreFields count p x xs → AreFields count p y ys → ((q : ℕ) → x q < 2 ^ p.bits) → ((q : ℕ) → z q + y q ≡ x q)
         → AreLess count xs ys words → AreFields count p z words
     less-fields x y z xs ys words first second fit same less = record {
-      each = λ w small.
-          (let whole : digits p.bits p.fields (λ j. z (w * p.fields + j)) + digits p.bits p.fields (λ j. y (w * p.fields + j)) ≡ digits p.bits p.fields (λ j. x (w * p.fields + j)) =
-          sym (digits-add p.bits p.fields (λ j. z (w * p.fields + j)) (λ j. y (w * p.fields + j)))
-          ∙ digits-same p.bits p.fields (λ j. z (w * p.fields + j) + y (w * p.fields + j)) (λ j. x (w * p.fields + j)) (λ j inside. same (w * p.fields + j)) in
-          let few = fields-lt count p unit.packing x w fit in
-          omega (arith, less w small, first.each w small, second.each w small, whole, few));
+      each = λ w small. omega (
+        arith,
+        less w small,
+        first.each w small,
+        second.each w small,
+        sum-word z y x w (λ q. sym (same q)),
+        fields-lt count p unit.packing x w fit,
+      );
     }
 
     sum-fields : (x y z : ℕ → ℕ) (xs ys words : List ℕ) → AreFields count p x xs → AreFields count p y ys → ((q : ℕ) → z q < 2 ^ p.bits) → ((q : ℕ) → z q ≡ x q + y q)
         → AreSums count xs ys words → AreFields count p z words
     sum-fields x y z xs ys words first second fit same sums = record {
-      each = λ w small.
-          (let whole : digits p.bits p.fields (λ j. z (w * p.fields + j)) ≡ digits p.bits p.fields (λ j. x (w * p.fields + j)) + digits p.bits p.fields (λ j. y (w * p.fields + j)) =
-          digits-same p.bits p.fields (λ j. z (w * p.fields + j)) (λ j. x (w * p.fields + j) + y (w * p.fields + j)) (λ j inside. same (w * p.fields + j))
-          ∙ digits-add p.bits p.fields (λ j. x (w * p.fields + j)) (λ j. y (w * p.fields + j)) in
-          let few = fields-lt count p unit.packing z w fit in
-          omega (arith, sums.each w small, first.each w small, second.each w small, whole, few));
+      each = λ w small. omega (
+        arith,
+        sums.each w small,
+        first.each w small,
+        second.each w small,
+        sum-word x y z w same,
+        fields-lt count p unit.packing z w fit,
+      );
     }
 
     -- numbers of queues as a state, whose words are those with these fields
@@ -356,7 +351,7 @@ module _ (count : ℕ) (p : Packing) (f : Function) (m : UnitMasks) (unit : IsUn
       units = record { small = λ q. omega (arith, one-most q); past = λ q past. omega (arith, past-up q past, past-down q past) }
 
       bit-lt : (v : ℕ) → v ≤ 1 → v < 2 ^ p.bits
-      bit-lt v one = omega (arith, one, two-most)
+      bit-lt v one = omega (arith, one, two-most p.bits some)
 
       full-is : AreFields count p (full hi) full_high
       full-is = full-fields hi begun.within high full_high begun.high ups

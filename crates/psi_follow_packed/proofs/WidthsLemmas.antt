@@ -1,39 +1,24 @@
 -- The widths of a box by the fields of its corners' words.
 use Rattle.std.specs.Prelude.{◌≡◌, ℕ, zero, suc, ◌+◌, ◌-◌, ◌*◌, ◌/◌, ◌%◌, ◌^◌, ◌<◌, ◌≤◌, ◌↔◌, List, [], ◌∷◌, length, take, drop, slice_index, bit_and, IsTrue, EachIndex, nat_le}
-use Rattle.std.proofs.Common.{inl, inr, refl, ap, ap₂, sym, subst, ◌∙◌, arith, pow_pos, pow_mono, drop-drop}
-use Rattle.std.proofs.Math.Nat.{mul_assoc, mul-pos, le-mul_of_pos_right, div-lt_self}
+use Rattle.std.proofs.Common.{inl, inr, refl, ap, ap₂, sym, subst, ◌∙◌, arith, pow_pos, pow_mono, drop-drop, get_or-drop}
+use Rattle.std.proofs.lemmas.List.{length-take, get_or-take, drop_all}
+use Rattle.std.proofs.Math.Nat.{mul_assoc, zero-mul, mul-pos, le-mul_of_pos_right, div-lt_self}
 use Rattle.std.proofs.lemmas.Bool.{cases_lt, le-leb}
 use Rattle.std.proofs.lemmas.Bool.Decides.{leb_tells}
 use Rattle.std.proofs.lemmas.Nat.{mod_low, shr_high, and_mask, one_shl}
 use Rattle.psi_state.specs.State.{IsBelow, box}
 use Rattle.psi_state.specs.Volume.{volume}
-use Rattle.psi_state.proofs.BoxesLemmas.{below-head, below-tail, below-cons}
-use Rattle.psi_state.proofs.VolumeLemmas.{length-box}
+use Rattle.psi_state.proofs.BoxesLemmas.{below-induction, below-drop}
+use Rattle.psi_state.proofs.VolumeLemmas.{length-box, volume-drop-some}
 use Rattle.psi_follow_packed.specs.Packed.{word_of, words_of, Packing, IsPacking, packed}
 use Rattle.psi_follow_packed.specs.Boxes.{widths, IsCount, AreCorners}
-use Rattle.psi_follow_packed.proofs.WordsLemmas.{Fit, below-fit, packed-lt}
+use Rattle.psi_follow_packed.proofs.WordsLemmas.{below-fit, packed-lt}
 
 -- how far the numbers of one list are above those of another
 abbrev pub differences : List ℕ → List ℕ → List ℕ
 differences [] y = []
 differences (v ∷ x) [] = []
 differences (v ∷ x) (w ∷ y) = (w - v) ∷ differences x y
-
-differences-none : (x : List ℕ) → differences x [] ≡ []
-differences-none [] = refl
-differences-none (v ∷ x) = refl
-
-differences-take : (n : ℕ) (x y : List ℕ) → differences (take n x) (take n y) ≡ take n (differences x y)
-differences-take zero x y = refl
-differences-take (suc n) [] y = refl
-differences-take (suc n) (v ∷ x) [] = refl
-differences-take (suc n) (v ∷ x) (w ∷ y) = ap (λ (l : List ℕ). (w - v) ∷ l) (differences-take n x y)
-
-differences-drop : (n : ℕ) (x y : List ℕ) → differences (drop n x) (drop n y) ≡ drop n (differences x y)
-differences-drop zero x y = refl
-differences-drop (suc n) [] y = refl
-differences-drop (suc n) (v ∷ x) [] = differences-none (drop n x)
-differences-drop (suc n) (v ∷ x) (w ∷ y) = differences-drop n x y
 
 differences-small : (x y : List ℕ) (q : ℕ) → slice_index (differences x y) q ≤ slice_index y q
 differences-small [] y q = omega arith
@@ -47,68 +32,37 @@ take-small (suc n) [] q = omega arith
 take-small (suc n) (v ∷ x) zero = omega arith
 take-small (suc n) (v ∷ x) (suc q) = take-small n x q
 
-drop-fit : (bits n : ℕ) (x : List ℕ) → Fit bits x → Fit bits (drop n x)
-drop-fit bits zero x fit = fit
-drop-fit bits (suc n) [] fit = fit
-drop-fit bits (suc n) (v ∷ x) fit = drop-fit bits n x (record { each = λ q. fit.each (suc q) })
-
-below-take : (n : ℕ) (x y : List ℕ) → IsBelow x y → IsBelow (take n x) (take n y)
-below-take zero x y below = record { same_length = refl; each = λ i small. absurd (omega arith) }
-below-take (suc n) [] [] below = below
-below-take (suc n) [] (w ∷ y) below = absurd (let e : 0 ≡ suc (length y) = below.same_length in omega arith)
-below-take (suc n) (v ∷ x) [] below = absurd (let e : suc (length x) ≡ 0 = below.same_length in omega arith)
-below-take (suc n) (v ∷ x) (w ∷ y) below = below-cons v (take n x) w (take n y) (below-head v x w y below) (below-take n x y (below-tail v x w y below))
-
-below-drop : (n : ℕ) (x y : List ℕ) → IsBelow x y → IsBelow (drop n x) (drop n y)
-below-drop zero x y below = below
-below-drop (suc n) [] [] below = below
-below-drop (suc n) [] (w ∷ y) below = absurd (let e : 0 ≡ suc (length y) = below.same_length in omega arith)
-below-drop (suc n) (v ∷ x) [] below = absurd (let e : suc (length x) ≡ 0 = below.same_length in omega arith)
-below-drop (suc n) (v ∷ x) (w ∷ y) below = below-drop n x y (below-tail v x w y below)
+pub below-take : (n : ℕ) (x y : List ℕ) → IsBelow x y → IsBelow (take n x) (take n y)
+below-take n x y below = record {
+  same_length = omega (arith, length-take {A = ℕ} n x, length-take {A = ℕ} n y, below.same_length);
+  each = λ i small. (let inside : i < n = omega (arith, length-take {A = ℕ} n x) in
+      rw (get_or-take {A = ℕ} n x i 0 inside, get_or-take {A = ℕ} n y i 0 inside) (below.each i (omega (arith, length-take {A = ℕ} n x))));
+}
 
 -- the widths of a box are those of what its upper corner is above the lower one
 widths-volume : (x y : List ℕ) → IsBelow x y → widths (differences x y) ≡ volume x y
-widths-volume [] [] below = refl
-widths-volume [] (w ∷ y) below = absurd (let e : 0 ≡ suc (length y) = below.same_length in omega arith)
-widths-volume (v ∷ x) [] below = absurd (let e : suc (length x) ≡ 0 = below.same_length in omega arith)
-widths-volume (v ∷ x) (w ∷ y) below =
-    let first : v ≤ w = below-head v x w y below in
-    let width : suc (w - v) ≡ suc w - v = omega arith in
-    ap₂ ◌*◌ width (widths-volume x y (below-tail v x w y below))
-
-widths-box : (x y : List ℕ) → IsBelow x y → widths (differences x y) ≡ length (box x y)
-widths-box x y below = widths-volume x y below ∙ sym (length-box x y)
+widths-volume =
+    below-induction (λ x y. widths (differences x y) ≡ volume x y) refl
+    (λ v w x y first below rest. (let width : suc (w - v) ≡ suc w - v = omega arith in ap₂ ◌*◌ width rest))
 
 widths-some : (x : List ℕ) → 1 ≤ widths x
 widths-some [] = omega arith
 widths-some (v ∷ x) = let some : 1 ≤ suc v = omega arith in mul-pos some (widths-some x)
 
-widths-split : (n : ℕ) (x : List ℕ) → widths x ≡ widths (take n x) * widths (drop n x)
-widths-split zero x = omega arith
-widths-split (suc n) [] = refl
-widths-split (suc n) (v ∷ x) = ap (λ m. suc v * m) (widths-split n x) ∙ sym (mul_assoc (suc v) (widths (take n x)) (widths (drop n x)))
-
-drop-past : (n : ℕ) (x : List ℕ) → length x ≤ n → drop n x ≡ []
-drop-past zero [] short = refl
-drop-past zero (v ∷ x) short = absurd (omega arith)
-drop-past (suc n) [] short = refl
-drop-past (suc n) (v ∷ x) short = drop-past n x (omega arith)
-
-length-differences : (x y : List ℕ) → IsBelow x y → length (differences x y) ≡ length y
-length-differences [] [] below = refl
-length-differences [] (w ∷ y) below = absurd (let e : 0 ≡ suc (length y) = below.same_length in omega arith)
-length-differences (v ∷ x) [] below = absurd (let e : suc (length x) ≡ 0 = below.same_length in omega arith)
-length-differences (v ∷ x) (w ∷ y) below = ap suc (length-differences x y (below-tail v x w y below))
+-- the states of a box by the first queues and the others
+pub volume-split : (n : ℕ) (x y : List ℕ) → volume x y ≡ volume (take n x) (take n y) * volume (drop n x) (drop n y)
+volume-split zero x y = omega arith
+volume-split (suc n) [] [] = refl
+volume-split (suc n) [] (w ∷ y) = sym (zero-mul (volume [] (drop n y)))
+volume-split (suc n) (v ∷ x) [] = sym (zero-mul (volume (drop n x) []))
+volume-split (suc n) (v ∷ x) (w ∷ y) =
+    ap (λ m. (suc w - v) * m) (volume-split n x y) ∙ sym (mul_assoc (suc w - v) (volume (take n x) (take n y)) (volume (drop n x) (drop n y)))
 
 -- no field borrows from the next
 word_of-differences : (bits : ℕ) (x y : List ℕ) → IsBelow x y → word_of bits (differences x y) + word_of bits x ≡ word_of bits y
-word_of-differences bits [] [] below = refl
-word_of-differences bits [] (w ∷ y) below = absurd (let e : 0 ≡ suc (length y) = below.same_length in omega arith)
-word_of-differences bits (v ∷ x) [] below = absurd (let e : suc (length x) ≡ 0 = below.same_length in omega arith)
-word_of-differences bits (v ∷ x) (w ∷ y) below =
-    let first : v ≤ w = below-head v x w y below in
-    let rest = ap (λ d. 2 ^ bits * d) (word_of-differences bits x y (below-tail v x w y below)) in
-    omega (arith, rest)
+word_of-differences bits =
+    below-induction (λ x y. word_of bits (differences x y) + word_of bits x ≡ word_of bits y) refl
+    (λ v w x y first below rest. (let more = ap (λ d. 2 ^ bits * d) rest in omega (arith, more)))
 
 words_of-part : (count fields bits : ℕ) (x : List ℕ) (w : ℕ) → w < count → slice_index (words_of count fields bits x) w ≡ word_of bits (take fields (drop (w * fields) x))
 words_of-part zero fields bits x w small = absurd (omega arith)
@@ -213,64 +167,68 @@ so_far-more most count own next rest left all some other split so_far counted =
 
 -- the words of the corners of a box
 module _ (count : ℕ) (p : Packing) (low high lo hi : List ℕ) (is : IsPacking count p) (corners : AreCorners count p low high lo hi) where
-  -- the fields of a word, from what the upper corner is above the lower one
-  abbrev part_at : ℕ → List ℕ
-  part_at w = take p.fields (drop (w * p.fields) (differences lo hi))
+  -- the corners by the fields of a word, and what the upper one is above the lower one there
+  abbrev own_of : ℕ → List ℕ → List ℕ
+  own_of w x = take p.fields (drop (w * p.fields) x)
 
-  part-is : (w : ℕ) → differences (take p.fields (drop (w * p.fields) lo)) (take p.fields (drop (w * p.fields) hi)) ≡ part_at w
-  part-is w = differences-take p.fields (drop (w * p.fields) lo) (drop (w * p.fields) hi) ∙ ap (λ (l : List ℕ). take p.fields l) (differences-drop (w * p.fields) lo hi)
+  abbrev part_at : ℕ → List ℕ
+  part_at w = differences (own_of w lo) (own_of w hi)
+
+  own-below : (w : ℕ) → IsBelow (own_of w lo) (own_of w hi)
+  own-below w = below-take p.fields (drop (w * p.fields) lo) (drop (w * p.fields) hi) (below-drop lo hi (w * p.fields) corners.ordered)
 
   part-word : (w : ℕ) → w < count → (slice_index high w + (2 ^ 64 - slice_index low w)) % 2 ^ 64 ≡ word_of p.bits (part_at w)
   part-word w small =
-      let lower : slice_index low w ≡ word_of p.bits (take p.fields (drop (w * p.fields) lo)) = ap (λ (l : List ℕ). slice_index l w) corners.low ∙ packed-part count p lo w small in
-      let upper : slice_index high w ≡ word_of p.bits (take p.fields (drop (w * p.fields) hi)) = ap (λ (l : List ℕ). slice_index l w) corners.high ∙ packed-part count p hi w small in
+      let lower : slice_index low w ≡ word_of p.bits (own_of w lo) = ap (λ (l : List ℕ). slice_index l w) corners.low ∙ packed-part count p lo w small in
+      let upper : slice_index high w ≡ word_of p.bits (own_of w hi) = ap (λ (l : List ℕ). slice_index l w) corners.high ∙ packed-part count p hi w small in
       let fits : slice_index (packed count p hi) w < 2 ^ 64 = packed-lt count p hi is (below-fit count p hi is corners.within) w in
       let same : slice_index high w ≡ slice_index (packed count p hi) w = ap (λ (l : List ℕ). slice_index l w) corners.high in
-      let sum = word_of-differences p.bits (take p.fields (drop (w * p.fields) lo)) (take p.fields (drop (w * p.fields) hi))
-      (below-take p.fields (drop (w * p.fields) lo) (drop (w * p.fields) hi) (below-drop (w * p.fields) lo hi corners.ordered)) in
-      let own : word_of p.bits (differences (take p.fields (drop (w * p.fields) lo)) (take p.fields (drop (w * p.fields) hi))) ≡ word_of p.bits (part_at w)
-      = ap (word_of p.bits) (part-is w) in
-      omega (arith, lower, upper, fits, same, sum, own)
+      omega (arith, lower, upper, fits, same, word_of-differences p.bits (own_of w lo) (own_of w hi) (own-below w))
 
-  part-fit : (w q : ℕ) → q < length (part_at w) → slice_index (part_at w) q < 2 ^ p.bits
-  part-fit w q small =
-      let all : Fit p.bits (differences lo hi) = record { each = λ r. omega (arith, differences-small lo hi r, (below-fit count p hi is corners.within).each r) } in
-      omega (arith, take-small p.fields (drop (w * p.fields) (differences lo hi)) q, (drop-fit p.bits (w * p.fields) (differences lo hi) all).each q)
+  part-fit : (w q : ℕ) → slice_index (part_at w) q < 2 ^ p.bits
+  part-fit w q =
+      omega (
+        arith,
+        differences-small (own_of w lo) (own_of w hi) q,
+        take-small p.fields (drop (w * p.fields) hi) q,
+        get_or-drop (w * p.fields) hi q 0,
+        (below-fit count p hi is corners.within).each (w * p.fields + q),
+      )
 
-  pub words-first : (most : ℕ) → IsSoFar most 1 (widths (drop (0 * p.fields) (differences lo hi))) (length (box lo hi))
+  -- the states of the box by the queues from a word on
+  abbrev pub later : ℕ → ℕ
+  later w = volume (drop (w * p.fields) lo) (drop (w * p.fields) hi)
+
+  pub words-first : (most : ℕ) → IsSoFar most 1 (later 0) (length (box lo hi))
   words-first most =
       let none : 0 * p.fields ≡ 0 = omega arith in
-      let all : widths (drop (0 * p.fields) (differences lo hi)) ≡ length (box lo hi) = ap (λ n. widths (drop n (differences lo hi))) none ∙ widths-box lo hi corners.ordered in
-      record {
-        exact = λ few. omega (arith, all);
-        above = λ many. omega (arith, all, widths-some (drop (0 * p.fields) (differences lo hi)));
-      }
+      let all : later 0 ≡ length (box lo hi) = rw none (sym (length-box lo hi)) in
+      record { exact = λ few. omega (arith, all); above = λ many. omega (arith, all, volume-drop-some lo hi (0 * p.fields) corners.ordered) }
 
-  words-more : (most so_far next w : ℕ) → IsSoFar most so_far (widths (drop (w * p.fields) (differences lo hi))) (length (box lo hi)) → IsCount most (so_far * widths (part_at w)) next
-      → IsSoFar most next (widths (drop ((w + 1) * p.fields) (differences lo hi))) (length (box lo hi))
+  words-more : (most so_far next w : ℕ) → IsSoFar most so_far (later w) (length (box lo hi)) → IsCount most (so_far * widths (part_at w)) next
+      → IsSoFar most next (later (w + 1)) (length (box lo hi))
   words-more most so_far next w before counted =
-      let later : w * p.fields + p.fields ≡ (w + 1) * p.fields = omega arith in
-      let rest : drop p.fields (drop (w * p.fields) (differences lo hi)) ≡ drop ((w + 1) * p.fields) (differences lo hi)
-      = drop-drop p.fields (w * p.fields) (differences lo hi) ∙ ap (λ n. drop n (differences lo hi)) later in
-      so_far-more most so_far (widths (part_at w)) next (widths (drop ((w + 1) * p.fields) (differences lo hi))) (widths (drop (w * p.fields) (differences lo hi))) (length (box lo hi))
-      (widths-some (part_at w)) (widths-some (drop ((w + 1) * p.fields) (differences lo hi)))
-      (widths-split p.fields (drop (w * p.fields) (differences lo hi)) ∙ ap (λ (l : List ℕ). widths (part_at w) * widths l) rest)
+      let on : w * p.fields + p.fields ≡ (w + 1) * p.fields = omega arith in
+      so_far-more most so_far (widths (part_at w)) next (later (w + 1)) (later w) (length (box lo hi))
+      (widths-some (part_at w)) (volume-drop-some lo hi ((w + 1) * p.fields) corners.ordered)
+      (volume-split p.fields (drop (w * p.fields) lo) (drop (w * p.fields) hi)
+      ∙ ap₂ ◌*◌ (sym (widths-volume (own_of w lo) (own_of w hi) (own-below w)))
+      (rw (drop-drop p.fields (w * p.fields) lo, drop-drop p.fields (w * p.fields) hi, on) refl))
       before counted
 
   pub words-step : (most so_far next w word bits : ℕ) → w < count → p.bits ≡ bits → word ≡ (slice_index high w + (2 ^ 64 - slice_index low w)) % 2 ^ 64
       → ((x : List ℕ) → EachIndex x (λ q. slice_index x q < 2 ^ bits) → word ≡ word_of bits x → IsCount most (so_far * widths x) next)
-      → IsSoFar most so_far (widths (drop (w * p.fields) (differences lo hi))) (length (box lo hi))
-      → IsSoFar most next (widths (drop ((w + 1) * p.fields) (differences lo hi))) (length (box lo hi))
+      → IsSoFar most so_far (later w) (length (box lo hi)) → IsSoFar most next (later (w + 1)) (length (box lo hi))
   words-step most so_far next w word bits small same own counted before =
       words-more most so_far next w before
-      (counted (part_at w) (λ q within. subst (λ b. slice_index (part_at w) q < 2 ^ b) same (part-fit w q within))
+      (counted (part_at w) (λ q within. subst (λ b. slice_index (part_at w) q < 2 ^ b) same (part-fit w q))
       (own ∙ part-word w small ∙ ap (λ b. word_of b (part_at w)) same))
 
-  pub words-all : (most so_far w : ℕ) → w ≡ count → IsSoFar most so_far (widths (drop (w * p.fields) (differences lo hi))) (length (box lo hi)) → IsCount most (length (box lo hi)) so_far
+  pub words-all : (most so_far w : ℕ) → w ≡ count → IsSoFar most so_far (later w) (length (box lo hi)) → IsCount most (length (box lo hi)) so_far
   words-all most so_far w end before =
       let enough : length p.caps ≤ w * p.fields = subst (λ n. length p.caps ≤ n * p.fields) (sym end) is.enough in
-      let none : widths (drop (w * p.fields) (differences lo hi)) ≡ 1 = ap widths (drop-past (w * p.fields) (differences lo hi)
-      (omega (arith, length-differences lo hi corners.ordered, corners.within.same_length, enough))) in
+      let none : later w ≡ 1 =
+      rw (drop_all (w * p.fields) lo (omega (arith, corners.ordered.same_length, corners.within.same_length)), drop_all (w * p.fields) hi (omega (arith, corners.within.same_length))) refl in
       record {
         exact = λ few. (let all : so_far * 1 ≡ length (box lo hi) = ap (λ n. so_far * n) (sym none) ∙ before.exact few in omega (arith, all));
         above = before.above;

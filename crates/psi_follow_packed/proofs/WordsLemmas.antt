@@ -41,6 +41,13 @@ pub record Fit (bits : ℕ) (x : List ℕ) : Type 0 where
 pub AreDigits-fields : (bits fields : ℕ) (x : List ℕ) (w : ℕ) → Fit bits x → AreDigits bits fields (fields_of fields x w)
 AreDigits-fields bits fields x w fit = record { each = λ j small. fit.each (w * fields + j) }
 
+-- a word of fields that fit is a word of 64 bits
+pub digits-word : (count : ℕ) (p : Packing) (f : ℕ → ℕ) → IsPacking count p → AreDigits p.bits p.fields f → digits p.bits p.fields f < 2 ^ 64
+digits-word count p f is fit =
+    let e : p.bits * p.fields ≤ 64 = omega (arith, is.fit) in
+    let most : 2 ^ (p.bits * p.fields) ≤ 2 ^ 64 = pow_mono e in
+    omega (arith, most, digits-lt p.bits p.fields f fit)
+
 module _ (count : ℕ) (p : Packing) (x : List ℕ) where
   pub length-packed : length (packed count p x) ≡ count
   unfolding packed
@@ -50,12 +57,8 @@ module _ (count : ℕ) (p : Packing) (x : List ℕ) where
   unfolding packed
   packed-at w small = words_of-at count p.fields p.bits x w small
 
-  -- a word of fields that fit is a word of 64 bits
   pub word-lt : IsPacking count p → Fit p.bits x → (w : ℕ) → digits p.bits p.fields (fields_of p.fields x w) < 2 ^ 64
-  word-lt is fit w =
-      let e : p.bits * p.fields ≤ 64 = omega (arith, is.fit) in
-      let most : 2 ^ (p.bits * p.fields) ≤ 2 ^ 64 = pow_mono e in
-      omega (arith, digits-lt p.bits p.fields (fields_of p.fields x w) (AreDigits-fields p.bits p.fields x w fit))
+  word-lt is fit w = digits-word count p (fields_of p.fields x w) is (AreDigits-fields p.bits p.fields x w fit)
 
   pub packed-lt : IsPacking count p → Fit p.bits x → (w : ℕ) → slice_index (packed count p x) w < 2 ^ 64
   packed-lt is fit w = ⊎_elim
