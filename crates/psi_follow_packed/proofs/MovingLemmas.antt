@@ -6,7 +6,7 @@ use Rattle.std.proofs.lemmas.Nat.{and_comm, and_mask}
 use Rattle.psi_state.specs.State.{IsBelow}
 use Rattle.psi_event.specs.Law.{Function}
 use Rattle.psi_event.specs.Piecewise.{if_on}
-use Rattle.std.proofs.lemmas.List.{get_or_append_left, get_or_push, map_push, length_push}
+use Rattle.std.proofs.lemmas.List.{map_push, length_push}
 use Rattle.psi_follow_packed.specs.Packed.{packed}
 use Rattle.psi_follow_packed.specs.Moves.{Moving, IsMoved, no_move}
 use Rattle.psi_follow_packed.specs.declared.moves.PackedEvent.{PackedEvent}
@@ -53,14 +53,6 @@ changed-more count at a b first second c d x y small one two changed = record {
       ∙ masked-twice a b first second (slice_index y at) (slice_index c at) (slice_index d at) one two
       ∙ ap (λ v. ((v + if_on a (slice_index c at)) % 2 ^ 64 + if_on b (slice_index d at)) % 2 ^ 64) (changed.later at (omega arith)));
 }
-
--- what holds for each move holds for one more
-pub each-more : (P : ℕ → Moving → Type 0) (moves : List Moving) (k : ℕ) (m : Moving) → length moves ≡ k → ((i : ℕ) → i < k → P i (slice_index_or moves i no_move)) → P k m
-    → (i : ℕ) → i < k + 1 → P i (slice_index_or (moves ++ m ∷ []) i no_move)
-each-more P moves k m long each own =
-    below_more (λ i. P i (slice_index_or (moves ++ m ∷ []) i no_move)) k
-    (λ i under. subst (P i) (sym (get_or_append_left moves (m ∷ []) no_move i (omega arith))) (each i under))
-    (subst (P k) (sym (get_or_push moves m no_move k long)) own)
 
 pub length-more : {X : Type 0} (xs more : List X) (x : X) (n : ℕ) → length xs ≡ n → more ≡ xs ++ x ∷ [] → length more ≡ n + 1
 length-more {X} xs more x n long same = ap (λ (ys : List X). length ys) same ∙ length_push xs x ∙ ap (λ k. k + 1) long

@@ -1,8 +1,8 @@
 -- A region that is followed through the events of numbers, and the two states between which it stays in a monotone network.
-use Rattle.std.specs.Prelude.{◌≡◌, ℕ, suc, ◌-◌, ◌<◌, ◌≤◌, List, [], ◌∷◌, ◌++◌, length, map, slice_index, slice_index_or, All, Bool, true, false, Option, Some, None, refl}
-use Rattle.std.proofs.Common.{inl, inr, ap, sym, ◌∙◌, subst, take, arith}
+use Rattle.std.specs.Prelude.{◌≡◌, ℕ, suc, ◌+◌, ◌-◌, ◌<◌, ◌≤◌, List, [], ◌∷◌, ◌++◌, length, map, slice_index, slice_index_or, All, Bool, true, false, Option, Some, None, refl}
+use Rattle.std.proofs.Common.{inl, inr, ap, sym, ◌∙◌, subst, take, arith, below_more}
 use Rattle.std.proofs.lemmas.Bool.{cases_lt}
-use Rattle.std.proofs.lemmas.List.{get_or_past}
+use Rattle.std.proofs.lemmas.List.{get_or_past, get_or_append_left, get_or_push}
 use Rattle.std.proofs.lemmas.List.Elements.{All-map}
 use Rattle.std.proofs.Math.Seq.{take-suc}
 use Rattle.psi_state.specs.State.{IsBelow, zeros}
@@ -47,6 +47,15 @@ pub events-closed : {E : Type 0} (capacities : E → List ℕ) (function : E →
 events-closed {E} capacities function caps events closed same =
     All-map (IsClosed caps) function events
     (λ k d small. subst (λ (cs : List ℕ). IsClosed cs (function (slice_index_or events k d))) (same k d small) (closed (slice_index_or events k d)))
+
+-- what each of the first elements has at its place, and one that is put after them at its own, each of all has
+pub each-pushed : {A : Type 0} (P : ℕ → A → Type 0) (d : A) (xs more : List A) (n : ℕ) (x : A) → length xs ≡ n → more ≡ xs ++ x ∷ []
+    → ((i : ℕ) → i < n → P i (slice_index_or xs i d)) → P n x → (i : ℕ) → i < n + 1 → P i (slice_index_or more i d)
+each-pushed {A} P d xs more n x long is each own =
+    subst (λ (ys : List A). (i : ℕ) → i < n + 1 → P i (slice_index_or ys i d)) (sym is)
+    (below_more (λ i. P i (slice_index_or (xs ++ x ∷ []) i d)) n
+    (λ i under. subst (P i) (sym (get_or_append_left xs (x ∷ []) d i (omega arith))) (each i under))
+    (subst (P n) (sym (get_or_push xs x d n long)) own))
 
 -- what each function of a list has, that of a number has, which changes nothing where it is past the last
 number-each : (P : Function → Type 0) (functions : List Function) (number : ℕ) → All P functions → P (λ x. x) → P (slice_index_or functions number (λ x. x))

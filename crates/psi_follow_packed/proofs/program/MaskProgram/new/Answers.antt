@@ -1,4 +1,4 @@
-use Rattle.std.proofs.Common.{◌≡◌, ◌<◌, ◌+◌, ℕ, List, [], ◌∷◌, ◌++◌, length, get_or, map, rules, slice_index_or, refl, ap, ap₂, sym, subst, ◌∙◌, arith}
+use Rattle.std.proofs.Common.{◌≡◌, ◌<◌, ℕ, List, [], ◌∷◌, ◌++◌, length, get_or, map, rules, slice_index_or, refl, ap, ap₂, sym, subst, ◌∙◌, arith}
 use Rattle.std.proofs.lemmas.Bool.{and_parts}
 use Rattle.std.proofs.lemmas.List.{get_or-map, length-map}
 use Rattle.std.proofs.lemmas.List.Elements.{All-get_or}
@@ -7,7 +7,8 @@ use Rattle.psi_event.specs.Piecewise.{Does}
 use Rattle.psi_follow_packed.specs.Views.{low_word, high_word, moving_by}
 use Rattle.psi_follow_packed.specs.Moves.{Moving, IsLowered, ChangesNothing, no_move}
 use Rattle.psi_follow_packed.specs.Programs.{IsMoveFor}
-use Rattle.psi_follow_packed.proofs.MovingLemmas.{moving-push, length-more, each-more}
+use Rattle.psi_follow_packed.proofs.MovingLemmas.{moving-push, length-more}
+use Rattle.psi_region.proofs.FollowedLemmas.{each-pushed}
 use Rattle.psi_follow_packed.specs.declared.moves.PackedEvent.{PackedEvent}
 use Rattle.psi_follow_packed.proofs.program.MaskProgram.new.Goals as goal
 
@@ -39,16 +40,14 @@ loop-event-preserved g c =
     record {
       long = length-more moves c.push_reserved.new.self.items own_move k c.loop-event.invariant.long c.push_reserved.ensures.items;
       room = omega (arith, c.push_reserved.ensures.capacity, c.loop-event.invariant.room);
-      each = subst (λ (ms : List Moving). (i : ℕ) → i < k + 1 → IsMoveFor g.row.K layout (slice_index_or (map g.E.EventLaw.function events) i (λ x. x)) (slice_index_or ms i no_move)) (sym pushed)
-          (each-more (λ (i : ℕ) (m : Moving). IsMoveFor g.row.K layout (slice_index_or (map g.E.EventLaw.function events) i (λ x. x)) m) (map low moves) k (low own_move) long c.loop-event.invariant.each
-          (subst (λ (f : Function). IsMoveFor g.row.K layout f (low own_move)) (sym function) own));
+      each = each-pushed (λ (i : ℕ) (m : Moving). IsMoveFor g.row.K layout (slice_index_or (map g.E.EventLaw.function events) i (λ x. x)) m) no_move (map low moves) _ k (low own_move) long pushed
+          c.loop-event.invariant.each (subst (λ (f : Function). IsMoveFor g.row.K layout f (low own_move)) (sym function) own);
       same = pushed_high ∙ ap₂ (λ (ms : List Moving) (m : Moving). ms ++ m ∷ []) c.loop-event.invariant.same c.of-own.ensures.twice ∙ sym pushed;
-      lowered = subst (λ (ms : List Moving). (i : ℕ) → i < k + 1 → IsLowered g.row.K (slice_index_or ms i no_move)) (sym pushed)
-          (each-more (λ (_ : ℕ) (m : Moving). IsLowered g.row.K m) (map low moves) k (low own_move) long c.loop-event.invariant.lowered c.of-own.ensures.lowered);
-      alone = λ both. subst (λ (ms : List Moving). (i : ℕ) → i < k + 1 → ChangesNothing g.row.K (slice_index_or ms i no_move).second) (sym pushed)
-          (each-more (λ (_ : ℕ) (m : Moving). ChangesNothing g.row.K m.second) (map low moves) k (low own_move) long
-          (c.loop-event.invariant.alone (and_parts c.loop-event.first_alone c.is_of_one_piece-first_alone.result both).0)
-          (c.is_of_one_piece-first_alone.ensures.0 (and_parts c.loop-event.first_alone c.is_of_one_piece-first_alone.result both).1));
+      lowered = each-pushed (λ (_ : ℕ) (m : Moving). IsLowered g.row.K m) no_move (map low moves) _ k (low own_move) long pushed c.loop-event.invariant.lowered c.of-own.ensures.lowered;
+      alone = λ both.
+          (let parts = and_parts c.loop-event.first_alone c.is_of_one_piece-first_alone.result both in
+          each-pushed (λ (_ : ℕ) (m : Moving). ChangesNothing g.row.K m.second) no_move (map low moves) _ k (low own_move) long pushed
+          (c.loop-event.invariant.alone parts.0) (c.is_of_one_piece-first_alone.ensures.0 parts.1));
     }
 
 pub loop-event-init : goal.loop-event-init
