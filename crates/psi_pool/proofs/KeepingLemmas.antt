@@ -55,12 +55,11 @@ table-linked t {now} nodes heads xs ok nodes_are heads_are nodes_same heads_same
     let nodes_long = ap (λ (ns : List Node). length ns) nodes_are in
     let heads_long = ap (λ (hs : List ℕ). length hs) heads_are in
     table-counted now (omega arith, omega arith, omega arith, omega arith, omega arith)
-    (λ yes. subst (λ (ns : List Node). AreLinked now.used ns now.heads.items now.len) (sym nodes_are)
-    (subst (λ (hs : List ℕ). AreLinked now.used nodes hs now.len) (sym heads_are) (record {
+    (λ yes. rw (nodes_are, heads_are) (record {
       linked = holds.linked;
       chained = chained-linked now.used nodes heads now.len (omega arith) (omega arith) holds.linked;
       distinct = holds.distinct;
-    })))
+    }))
 
 -- a node more, whose state is new, comes to its bucket
 module _ (nodes : List Node) (heads : List ℕ) (used len : ℕ) (limit : length nodes ≤ 4096) (room : used ≤ length heads) (some : 1 ≤ used)
@@ -121,12 +120,8 @@ table-inserted t {now} x home next ok linked nodes_are heads_are used_is len_is 
     let nodes_long = ap (λ (ns : List Node). length ns) nodes_are ∙ length-set t.nodes.items t.len (record { state = x; next = next }) in
     let heads_long = ap (λ (hs : List ℕ). length hs) heads_are ∙ length-set t.heads.items home t.len in
     table-counted now (omega arith, omega arith, omega arith, omega arith, omega arith)
-    (λ yes.
-    subst (λ (ns : List Node). AreLinked now.used ns now.heads.items now.len) (sym nodes_are)
-    (subst (λ (hs : List ℕ). AreLinked now.used (slice_set t.nodes.items t.len (record { state = x; next = next })) hs now.len) (sym heads_are)
-    (subst (λ k. AreLinked k (slice_set t.nodes.items t.len (record { state = x; next = next })) (slice_set t.heads.items home t.len) now.len) (sym used_is)
-    (subst (λ k. AreLinked t.used (slice_set t.nodes.items t.len (record { state = x; next = next })) (slice_set t.heads.items home t.len) k) (sym len_is)
-    (links-inserted t.nodes.items t.heads.items t.used t.len limit few some (ok.links linked) x home next own inside read free absent)))))
+    (λ yes. rw (nodes_are, heads_are, used_is, len_is)
+    (links-inserted t.nodes.items t.heads.items t.used t.len limit few some (ok.links linked) x home next own inside read free absent))
 
 -- one state more at the end is one more among them
 pub members-inserted : (nodes : List Node) (len : ℕ) (m : Node) → len < length nodes → HaveSame (states (slice_set nodes len m) (len + 1)) (m.state ∷ states nodes len)

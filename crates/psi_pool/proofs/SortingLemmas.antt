@@ -13,9 +13,9 @@ use Rattle.std.proofs.lemmas.List.Sorted.{sorted_far, length_permutation, IsPerm
 use Rattle.std.proofs.lemmas.List.MinMax.{ranks_by}
 use Rattle.psi_state.specs.Members.{In}
 use Rattle.psi_state.specs.Sets.{state_cmp, insert_state, ascending}
-use Rattle.psi_state.proofs.SetsLemmas.{same-from_cmp, In-ascending}
+use Rattle.psi_state.proofs.SetsLemmas.{same-from_cmp, same-insert_state, same-ascending, In-ascending}
 use Rattle.psi_state.specs.Ascending.{IsRising, IsDistinct, HaveSame}
-use Rattle.psi_state.proofs.AscendingLemmas.{cmp-back, insert_state-there, ascending-rising, ascending-own, ascending-members, length-ascending}
+use Rattle.psi_state.proofs.AscendingLemmas.{cmp-back, insert_state-there, insert_state-rising, rising-distinct, length-among, ascending-rising, ascending-own, ascending-members, length-ascending}
 
 -- the member at a place
 pub In-got : (xs : List (List ℕ)) (k : ℕ) (d : List ℕ) → k < length xs → In (get_or xs k d) xs
@@ -36,19 +36,12 @@ In-permuted z xs ys permutation member =
     let there : Contains ys z = Contains-permutation xs ys z permutation (found.0, found.1, get_or_default xs found.0 z [] found.1 ∙ found.2) in
     subst (λ (y : List ℕ). In y ys) there.2 (In-got ys there.0 z there.1)
 
-insert-match : (x y : List ℕ) (ys more : List (List ℕ)) (o : Ordering) → length more ≤ suc (length ys)
-    → length (match_ordering o (x ∷ y ∷ ys) (y ∷ ys) (y ∷ more)) ≤ suc (suc (length ys))
-insert-match x y ys more Less short = omega arith
-insert-match x y ys more Equal short = omega arith
-insert-match x y ys more Greater short = omega arith
-
-insert-short : (x : List ℕ) (ys : List (List ℕ)) → length (insert_state x ys) ≤ suc (length ys)
-insert-short x [] = omega arith
-insert-short x (y ∷ ys) = insert-match x y ys (insert_state x ys) (state_cmp x y) (insert-short x ys)
+insert-short : (x : List ℕ) (ys : List (List ℕ)) → IsRising ys → length (insert_state x ys) ≤ suc (length ys)
+insert-short x ys rising =
+    length-among (insert_state x ys) (x ∷ ys) (rising-distinct (insert_state x ys) (insert_state-rising x ys rising)) (record { each = (same-insert_state x ys).there })
 
 pub ascending-short : (xs : List (List ℕ)) → length (ascending xs) ≤ length xs
-ascending-short [] = omega arith
-ascending-short (x ∷ xs) = (let rest = ascending-short xs in let more = insert-short x (ascending xs) in omega arith)
+ascending-short xs = length-among (ascending xs) xs (rising-distinct (ascending xs) (ascending-rising xs)) (record { each = (same-ascending xs).there })
 
 -- a list that is as long as its set has no repeats
 distinct-long : (xs : List (List ℕ)) → length (ascending xs) ≡ length xs → IsDistinct xs
@@ -59,7 +52,7 @@ distinct-long (x ∷ xs) same = (
       let shorter = ap (λ (ys : List (List ℕ)). length ys) there in
       let rest = ascending-short xs in
       omega arith),
-  distinct-long xs (let rest = ascending-short xs in let more = insert-short x (ascending xs) in omega arith),
+  distinct-long xs (let rest = ascending-short xs in let more = insert-short x (ascending xs) (ascending-rising xs) in omega arith),
 )
 
 rising-far : (xs : List (List ℕ)) → ((i j : ℕ) → i < j → j < length xs → state_cmp (get_or xs i []) (get_or xs j []) ≡ Less) → IsRising xs
