@@ -1,7 +1,7 @@
 -- Numbers of digits that are zero or one: which of them is one.
 use Rattle.std.specs.Prelude.{◌≡◌, ℕ, zero, suc, ◌+◌, ◌-◌, ◌*◌, ◌/◌, ◌%◌, ◌^◌, ◌<◌, ◌≤◌, min, bit_and, refl}
-use Rattle.std.proofs.Common.{inl, inr, ap, ap₂, sym, ◌∙◌, arith, pow_pos, mul-pos, mod-lt}
-use Rattle.std.proofs.Math.Nat.{pow-suc, div-add-mod'}
+use Rattle.std.proofs.Common.{inl, inr, ap, ap₂, sym, ◌∙◌, arith, pow_pos, mod-lt}
+use Rattle.std.proofs.Math.Nat.{pow-suc, div-add-mod', le-mul_of_pos_right}
 use Rattle.std.proofs.lemmas.Bool.{cases_lt, cases_eq}
 use Rattle.std.specs.Int.Bits.{and_zero_l, and_zero_r}
 use Rattle.std.proofs.lemmas.Nat.{and_block, shr_high}
@@ -91,10 +91,7 @@ units-lone bits (suc n) t some units any lone =
       | inl one ↦
           (let same : bit_and (rest * 2 ^ bits + 1) (rest * 2 ^ bits + 1 - 1) ≡ 0 = ap (λ v. bit_and (rest * 2 ^ bits + v) (rest * 2 ^ bits + v - 1)) (sym one) ∙ lone in
           let none : rest * 2 ^ bits ≡ 0 = sym (lowest-one bits rest some) ∙ same in
-          let empty : rest ≡ 0 = elim (cases_lt 0 rest) [
-            | inl more ↦ absurd (let positive = mul-pos more (pow_pos bits) in omega (arith, none, positive))
-            | inr few ↦ omega (arith, few)
-          ] in
+          let empty : rest ≡ 0 = omega (arith, none, le-mul_of_pos_right rest (pow_pos bits)) in
           record {
             place = 0;
             small = omega arith;
@@ -108,10 +105,7 @@ units-lone bits (suc n) t some units any lone =
           let positive : 1 ≤ rest = elim (cases_lt 0 rest) [ inl up ↦ omega arith | inr down ↦ absurd (more (omega (arith, down))) ] in
           let same : bit_and (rest * 2 ^ bits + 0) (rest * 2 ^ bits + 0 - 1) ≡ 0 = ap (λ v. bit_and (rest * 2 ^ bits + v) (rest * 2 ^ bits + v - 1)) (sym zero_is) ∙ lone in
           let none : bit_and rest (rest - 1) * 2 ^ bits ≡ 0 = sym (lowest-none bits rest positive) ∙ same in
-          let single : bit_and rest (rest - 1) ≡ 0 = elim (cases_lt 0 (bit_and rest (rest - 1))) [
-            | inl up ↦ absurd (let product = mul-pos up (pow_pos bits) in omega (arith, none, product))
-            | inr down ↦ omega (arith, down)
-          ] in
+          let single : bit_and rest (rest - 1) ≡ 0 = omega (arith, none, le-mul_of_pos_right (bit_and rest (rest - 1)) (pow_pos bits)) in
           let found = units-lone bits n (λ j. t (suc j)) some (later-units n t units) more single in
           record {
             place = suc found.place;

@@ -25,6 +25,10 @@ digits-sum bits n a b f g h =
     digits-add bits n (λ j. f j + if_on a (g j)) (λ j. if_on b (h j))
     ∙ ap₂ ◌+◌ (digits-add bits n f (λ j. if_on a (g j)) ∙ ap (λ d. digits bits n f + d) (digits-if_on bits n a g)) (digits-if_on bits n b h)
 
+-- sums of the same numbers
+same-sums : (a b : Bool) {k l m k' l' m' : ℕ} → k ≡ k' → l ≡ l' → m ≡ m' → k + if_on a l + if_on b m ≡ k' + if_on a l' + if_on b m'
+same-sums a b first second third = ap₂ ◌+◌ (ap₂ ◌+◌ first (ap (if_on a) second)) (ap (if_on b) third)
+
 -- what comes and leaves word by word is what comes and leaves number by number
 pub word-sum : (count : ℕ) (p : Packing) (a b : Bool) (x y u d v e : List ℕ)
     → ((q : ℕ) → slice_index y q + if_on a (slice_index d q) + if_on b (slice_index e q) ≡ slice_index x q + if_on a (slice_index u q) + if_on b (slice_index v q))
@@ -32,17 +36,14 @@ pub word-sum : (count : ℕ) (p : Packing) (a b : Bool) (x y u d v e : List ℕ)
     → slice_index (packed count p y) w + if_on a (slice_index (packed count p d) w) + if_on b (slice_index (packed count p e) w)
     ≡ slice_index (packed count p x) w + if_on a (slice_index (packed count p u) w) + if_on b (slice_index (packed count p v) w)
 word-sum count p a b x y u d v e each w small =
-    by (packed-at count p y w small) (packed-at count p d w small) (packed-at count p e w small)
+    same-sums a b (packed-at count p y w small) (packed-at count p d w small) (packed-at count p e w small)
     ∙ sym (digits-sum p.bits p.fields a b (fields_of p.fields y w) (fields_of p.fields d w) (fields_of p.fields e w))
     ∙ digits-same p.bits p.fields
     (λ j. fields_of p.fields y w j + if_on a (fields_of p.fields d w j) + if_on b (fields_of p.fields e w j))
     (λ j. fields_of p.fields x w j + if_on a (fields_of p.fields u w j) + if_on b (fields_of p.fields v w j))
     (λ j within. each (w * p.fields + j))
     ∙ digits-sum p.bits p.fields a b (fields_of p.fields x w) (fields_of p.fields u w) (fields_of p.fields v w)
-    ∙ sym (by (packed-at count p x w small) (packed-at count p u w small) (packed-at count p v w small))
-  where
-    by : {k l m k' l' m' : ℕ} → k ≡ k' → l ≡ l' → m ≡ m' → k + if_on a l + if_on b m ≡ k' + if_on a l' + if_on b m'
-    by first second third = ap₂ ◌+◌ (ap₂ ◌+◌ first (ap (if_on a) second)) (ap (if_on b) third)
+    ∙ sym (same-sums a b (packed-at count p x w small) (packed-at count p u w small) (packed-at count p v w small))
 
 -- sums that wrap around agree with sums that don't, where the result fits
 wrapping-sum : (a b : Bool) (x y u d v e : ℕ) → y < 2 ^ 64 → d < 2 ^ 64 → e < 2 ^ 64 → y + if_on a d + if_on b e ≡ x + if_on a u + if_on b v
@@ -61,13 +62,10 @@ sum-each p caps x y valid below sum q = ⊎_elim (sum.each q) past (cases_lt q (
     none : (z : List ℕ) → length z ≤ q → slice_index z q ≡ 0
     none z short = get_or_past z q 0 short
 
-    by : (a b : Bool) {k l m k' l' m' : ℕ} → k ≡ k' → l ≡ l' → m ≡ m' → k + if_on a l + if_on b m ≡ k' + if_on a l' + if_on b m'
-    by a b first second third = ap₂ ◌+◌ (ap₂ ◌+◌ first (ap (if_on a) second)) (ap (if_on b) third)
-
     past : length x ≤ q → slice_index y q + if_on (first_on p x) (slice_index p.first.downs q) + if_on (second_on p x) (slice_index p.second.downs q)
         ≡ slice_index x q + if_on (first_on p x) (slice_index p.first.ups q) + if_on (second_on p x) (slice_index p.second.ups q)
     past long =
-        by (first_on p x) (second_on p x)
+        same-sums (first_on p x) (second_on p x)
         (none y (omega (arith, sum.long)) ∙ sym (none x long))
         (none p.first.downs (omega (arith, valid.first.downs.same_length, below.same_length)) ∙ sym (none p.first.ups (omega (arith, valid.first.ups.same_length, below.same_length))))
         (none p.second.downs (omega (arith, valid.second.downs.same_length, below.same_length)) ∙ sym (none p.second.ups (omega (arith, valid.second.ups.same_length, below.same_length))))

@@ -66,27 +66,18 @@ module _ {X A : Type 0} (made : ℕ → X → A) (Raised : A → A → Type 0) (
       let own = front (omega arith) in
       let later : (i : ℕ) → get_or rest i none ≡ get_or list (m + i) none = λ i. get_or-drop m list i none in
       let second : 1 ≤ n → take m rest ≡ map (made (suc first)) inner = λ some.
-      (let enough_rest : m ≤ n * m = one-most n m some in
+      (let enough_rest : m ≤ n * m = omega (arith, le-mul_of_pos_right m some) in
       row-raised inner first (take m list) (take m rest) (length-take-le m rest (omega arith)) own
       (λ i small.
-      subst (λ (b : A). Raised (get_or (take m list) i none) b) (sym (get_or-take m rest i none small ∙ later i))
-      (subst (λ (a : A). Raised a (get_or list (m + i) none)) (sym (get_or-take m list i none small))
       (let e : m + i - m ≡ i = omega arith in
-      subst (λ k. Raised (get_or list k none) (get_or list (m + i) none)) e (each (m + i) (omega arith) (omega arith)))))
+      rw (get_or-take m rest i none small, later i, get_or-take m list i none small) (rw e at (each (m + i) (omega arith) (omega arith)))))
       (λ x b member raised. next first x b member (omega arith) (omega arith) raised)) in
       let below : (i : ℕ) → m ≤ i → i < n * m → Raised (get_or rest (i - m) none) (get_or rest i none) = λ i past small.
-      subst (λ (b : A). Raised (get_or rest (i - m) none) b) (sym (later i))
-      (subst (λ (a : A). Raised a (get_or list (m + i) none)) (sym (later (i - m)))
-      (let e : m + i - m ≡ m + (i - m) = omega arith in
-      subst (λ k. Raised (get_or list k none) (get_or list (m + i) none)) e (each (m + i) (omega arith) (omega arith)))) in
+      (let e : m + i - m ≡ m + (i - m) = omega arith in rw (later i, later (i - m)) (rw e at (each (m + i) (omega arith) (omega arith)))) in
       ap (λ k. take k list) more
       ∙ take-add m (n * m) list
       ∙ ap₂ (λ (ys zs : List A). ys ++ zs) own
       (layers-made inner n (suc first) rest (omega arith) second below (λ v x b member past small raised. next v x b member (omega arith) (omega arith) raised))
-    where
-      one-most : (n m : ℕ) → 1 ≤ n → m ≤ n * m
-      one-most zero m some = absurd (omega arith)
-      one-most (suc n) m some = let e = suc-mul n m in omega (arith, e)
 
 -- ---- one customer more
 

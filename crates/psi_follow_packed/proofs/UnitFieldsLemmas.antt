@@ -1,7 +1,7 @@
 -- The fields of the words that an event of single customers makes of packed states.
 use Rattle.std.specs.Prelude.{◌≡◌, ℕ, ◌+◌, ◌-◌, ◌*◌, ◌/◌, ◌%◌, ◌^◌, ◌<◌, ◌≤◌, min, List, length, slice_index, bit_and}
 use Rattle.std.proofs.Common.{inl, inr, ap, ap₂, sym, ◌∙◌, arith, pow_pos, mod-lt}
-use Rattle.std.proofs.Math.Nat.{div-eq_of_lt, div-eq_of_lt-le, mod-eq_of_lt, div-add-mod'}
+use Rattle.std.proofs.Math.Nat.{div-eq_of_lt, div-eq_of_lt-le, mod-eq_of_lt, div-add-mod', mul-le-mul_right}
 use Rattle.std.proofs.lemmas.Bool.{cases_lt, cases_eq}
 use Rattle.std.proofs.lemmas.Nat.{and_mask, same_from_place}
 use Rattle.std.specs.Int.Bits.{and_zero_r}
@@ -76,11 +76,8 @@ module _ (count : ℕ) (p : Packing) (is : IsPacking count p) where
       let rest : q % fields < fields = mod-lt q is.some in
       elim (cases_lt (q / fields) count) [
         | inl within ↦ (q / fields, within, (q % fields, rest, parts))
-        | inr past ↦ absurd (let more : count * fields ≤ q / fields * fields = times-more count (q / fields) fields past in omega (arith, more, parts, is.enough, small))
+        | inr past ↦ absurd (let more : count * fields ≤ q / fields * fields = mul-le-mul_right fields past in omega (arith, more, parts, is.enough, small))
       ]
-    where
-      times-more : (a b c : ℕ) → a ≤ b → a * c ≤ b * c
-      times-more a b c small = let e : b ≡ a + (b - a) = omega arith in let whole : b * c ≡ a * c + (b - a) * c = ap (λ n. n * c) e ∙ omega arith in omega (arith, whole)
 
   -- where words of units are all zero each number is
   pub fields-none : (t : ℕ → ℕ) (words : List ℕ) → AreUnitFields p.caps t → AreFields count p t words → HasNone count words → (q : ℕ) → q < length p.caps → t q ≡ 0
