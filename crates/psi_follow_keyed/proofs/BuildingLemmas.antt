@@ -24,14 +24,3 @@ leaving-for k caps targets f (Some step) same named closed found = record {
   closed = subst (λ (cs : List ℕ). IsClosed cs f) same closed;
   does = does-step k caps f step same found.does;
 }
-
--- the steps of a list with one more
-pub steps-more : (k : Keys) (functions : List Function) (steps more : List Step) (n : ℕ) (step : Step) → length steps ≡ n → more ≡ steps ++ step ∷ []
-    → ((i : ℕ) → i < n → IsStepFor k (slice_index_or functions i (λ x. x)) (slice_index_or steps i Still))
-    → IsStepFor k (slice_index_or functions n (λ x. x)) step
-    → (i : ℕ) → i < n + 1 → IsStepFor k (slice_index_or functions i (λ x. x)) (slice_index_or more i Still)
-steps-more k functions steps more n step long is each own =
-    subst (λ (ss : List Step). (i : ℕ) → i < n + 1 → IsStepFor k (slice_index_or functions i (λ x. x)) (slice_index_or ss i Still)) (sym is)
-    (below_more (λ i. IsStepFor k (slice_index_or functions i (λ x. x)) (slice_index_or (steps ++ step ∷ []) i Still)) n
-    (λ i under. subst (λ (t : Step). IsStepFor k (slice_index_or functions i (λ x. x)) t) (sym (get_or_append_left steps (step ∷ []) Still i (omega arith))) (each i under))
-    (subst (λ (t : Step). IsStepFor k (slice_index_or functions n (λ x. x)) t) (sym (get_or_push steps step Still n long)) own))

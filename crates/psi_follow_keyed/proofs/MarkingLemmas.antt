@@ -47,16 +47,20 @@ keys-beside k x keys q v are none = record {
   past = are.past;
 }
 
+-- a place without room has no key
+key-full : (k : Keys) (x : List ℕ) (i : ℕ) → AreRanked k → IsBelow x k.caps → i < length k.targets → cap_at k.caps k.targets i ≤ slice_index x (slice_index k.targets i)
+    → key_in k x i ≡ no_key
+key-full k x i ranked below small full =
+    let same : slice_index x (slice_index k.targets i) ≡ cap_at k.caps k.targets i = omega (arith, held-most k x i ranked below small) in
+    ap (λ n. key_at k i n) same ∙ ranked.full i small
+
 -- a place with a key has room
 pub key-room : (k : Keys) (x : List ℕ) (i : ℕ) → AreRanked k → IsBelow x k.caps → i < length k.targets → key_in k x i < no_key
     → slice_index x (slice_index k.targets i) < cap_at k.caps k.targets i
 key-room k x i ranked below small has =
     elim (cases_lt (slice_index x (slice_index k.targets i)) (cap_at k.caps k.targets i)) [
       | inl less ↦ less
-      | inr more ↦ (let most : slice_index x (slice_index k.targets i) ≤ cap_at k.caps k.targets i = held-most k x i ranked below small in
-          let same : slice_index x (slice_index k.targets i) ≡ cap_at k.caps k.targets i = omega arith in
-          let full : key_in k x i ≡ no_key = ap (λ n. key_at k i n) same ∙ ranked.full i small in
-          absurd (omega arith))
+      | inr more ↦ absurd (omega (arith, key-full k x i ranked below small more))
     ]
 
 -- and its key tells it
@@ -68,11 +72,8 @@ key-place k x i ranked below small has =
 pub key-most : (k : Keys) (x : List ℕ) (i : ℕ) → AreRanked k → IsBelow x k.caps → i < length k.targets → key_in k x i ≤ no_key
 key-most k x i ranked below small =
     elim (cases_lt (slice_index x (slice_index k.targets i)) (cap_at k.caps k.targets i)) [
-      | inl less ↦ (let has : key_in k x i < no_key = ranked.roomy i (slice_index x (slice_index k.targets i)) small less in omega arith)
-      | inr more ↦ (let most : slice_index x (slice_index k.targets i) ≤ cap_at k.caps k.targets i = held-most k x i ranked below small in
-          let same : slice_index x (slice_index k.targets i) ≡ cap_at k.caps k.targets i = omega arith in
-          let full : key_in k x i ≡ no_key = ap (λ n. key_at k i n) same ∙ ranked.full i small in
-          omega arith)
+      | inl less ↦ omega (arith, ranked.roomy i (slice_index x (slice_index k.targets i)) small less)
+      | inr more ↦ omega (arith, key-full k x i ranked below small more)
     ]
 
 -- the place has the least key, and room

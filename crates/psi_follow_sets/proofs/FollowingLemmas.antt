@@ -17,7 +17,8 @@ use Rattle.psi_follow_packed.specs.Views.{low_words, high_words, pair_at}
 use Rattle.psi_follow_packed.specs.declared.pairs.PackedPair.{PackedPair}
 use Rattle.psi_follow_sets.specs.Inner.HalvesKept.{halves, AreAll, AreTwo}
 use Rattle.psi_follow_sets.specs.Inner.HoldingKept.{Holds, SetFollows}
-use Rattle.psi_follow_sets.proofs.HalvingLemmas.{same-through, In-low, In-high, place-of}
+use Rattle.psi_follow_sets.proofs.HalvingLemmas.{In-low, In-high, place-of}
+use Rattle.psi_state.proofs.SameLemmas.{same-through}
 
 -- the packed states of each pair follow the numbers
 pub record EachFollow {K : ℕ} (p : Prepared) (numbers : List ℕ) (before after : List (PackedPair K)) : Type 0 where
@@ -30,15 +31,10 @@ each-from_all all = record { count = all.count; low = all.low; high = all.high }
 
 pub each-one : {K : ℕ} (p : Prepared) (numbers : List ℕ) (x y : PackedPair K) → Follows K p numbers (low_words x) (low_words y) → Follows K p numbers (high_words x) (high_words y)
     → EachFollow p numbers (x ∷ []) (y ∷ [])
-each-one {K} p numbers x y low high = record { count = refl; low = lower; high = higher }
+each-one {K} p numbers x y low high = record { count = refl; low = λ i small. rw (first i small) low; high = λ i small. rw (first i small) high }
   where
-    lower : (i : ℕ) → i < 1 → Follows K p numbers (low_words (pair_at (x ∷ []) i)) (low_words (pair_at (y ∷ []) i))
-    lower zero small = low
-    lower (suc i) small = absurd (omega arith)
-
-    higher : (i : ℕ) → i < 1 → Follows K p numbers (high_words (pair_at (x ∷ []) i)) (high_words (pair_at (y ∷ []) i))
-    higher zero small = high
-    higher (suc i) small = absurd (omega arith)
+    first : (i : ℕ) → i < 1 → i ≡ 0
+    first i small = omega arith
 
 -- a list whose pairs follow the numbers
 pub set-each : {K : ℕ} (p : Prepared) (numbers : List ℕ) (before after : List (PackedPair K)) → EachFollow p numbers before after

@@ -1,85 +1,17 @@
 -- Packed states side by side, and one after another.
 use Rattle.std.specs.Prelude.{◌≡◌, ◌⊎◌, ℕ, zero, suc, ◌+◌, ◌*◌, ◌<◌, ◌≤◌, Bool, true, false, not, ◌&&◌, nat_lt, List, [], ◌∷◌, ◌++◌, length, map, take, get_or, slice_set}
-use Rattle.std.proofs.Common.{inl, inr, ap, ap₂, sym, subst, ◌∙◌, refl, arith, take-suc, take-suc-set, take_all, append_assoc}
-use Rattle.std.proofs.lemmas.Bool.{ltb-true, true≢false}
+use Rattle.std.proofs.Common.{inl, inr, ap, ap₂, sym, subst, ◌∙◌, refl, arith, take_all, append_assoc}
+use Rattle.std.proofs.lemmas.Bool.{ltb-true, true≢false, and_parts}
 use mir.Val.{bool_byte}
-use Rattle.std.proofs.lemmas.List.{get_or_default, map-append, take-set-le}
+use Rattle.std.proofs.lemmas.List.{get_or_default, map-append, take-set-le, take_more, take_more_set}
 use Rattle.psi_state.specs.Members.{In}
-use Rattle.psi_state.proofs.MembersLemmas.{In-append, In-append_left, In-append_right}
+use Rattle.psi_state.proofs.MembersLemmas.{In-append}
+use Rattle.psi_state.proofs.SameLemmas.{same-itself, same-back, same-append, same-swap, same-last, same-there}
 use Rattle.psi_state.specs.Ascending.{HaveSame}
 use Rattle.psi_follow_packed.specs.Views.{low_words, high_words, pair_at}
 use Rattle.psi_follow_packed.specs.declared.layout.Packed.{Packed}
 use Rattle.psi_follow_packed.specs.declared.pairs.PackedPair.{PackedPair}
 use Rattle.psi_follow_sets.specs.Inner.HalvesKept.{halves, words_of_first, AreAll, AreTwo}
-
--- ---- the same members
-
-pub same-itself : {A : Type 0} (xs : List A) → HaveSame xs xs
-same-itself xs = record { there = λ x member. member; back = λ x member. member }
-
-pub same-through : {A : Type 0} {xs ys zs : List A} → HaveSame xs ys → HaveSame ys zs → HaveSame xs zs
-same-through first second = record {
-  there = λ x member. second.there x (first.there x member);
-  back = λ x member. first.back x (second.back x member);
-}
-
--- a member after the others
-pub same-behind : {A : Type 0} (xs : List A) (x : A) → HaveSame (xs ++ x ∷ []) (x ∷ xs)
-same-behind xs x = record {
-  there = λ z member. elim (In-append z xs (x ∷ []) member) [
-    | inl left ↦ inr left
-    | inr right ↦ elim right [ inl e ↦ inl e | inr none ↦ absurd none ]
-  ];
-  back = λ z member. elim member [
-    | inl e ↦ In-append_right z xs (x ∷ []) (inl e)
-    | inr there ↦ In-append_left z xs (x ∷ []) there
-  ];
-}
-
--- a member that is there already
-pub same-there : {A : Type 0} (xs : List A) (x : A) → In x xs → HaveSame xs (x ∷ xs)
-same-there {A} xs x own = record {
-  there = λ z member. inr member;
-  back = λ z member. elim member [
-    | inl e ↦ subst (λ (y : A). In y xs) (sym e) own
-    | inr there ↦ there
-  ];
-}
-
--- two members more in front and after
-pub same-two : {A : Type 0} (xs ys zs front : List A) (x y : A) → HaveSame xs front → HaveSame ys (x ∷ xs) → HaveSame zs (y ∷ ys) → HaveSame zs (front ++ x ∷ y ∷ [])
-same-two xs ys zs front x y first second third = record {
-  there = λ z member. elim (third.there z member) [
-    | inl e ↦ In-append_right z front (x ∷ y ∷ []) (inr (inl e))
-    | inr more ↦ elim (second.there z more) [
-      | inl e ↦ In-append_right z front (x ∷ y ∷ []) (inl e)
-      | inr old ↦ In-append_left z front (x ∷ y ∷ []) (first.there z old)
-    ]
-  ];
-  back = λ z member. elim (In-append z front (x ∷ y ∷ []) member) [
-    | inl old ↦ third.back z (inr (second.back z (inr (first.back z old))))
-    | inr new ↦ elim new [
-      | inl e ↦ third.back z (inr (second.back z (inl e)))
-      | inr last ↦ elim last [ inl e ↦ third.back z (inl e) | inr none ↦ absurd none ]
-    ]
-  ];
-}
-
--- the last member twice
-pub same-twice : {A : Type 0} (front : List A) (x : A) → HaveSame (front ++ x ∷ x ∷ []) (front ++ x ∷ [])
-same-twice front x = record {
-  there = λ z member. elim (In-append z front (x ∷ x ∷ []) member) [
-    | inl old ↦ In-append_left z front (x ∷ []) old
-    | inr new ↦ In-append_right z front (x ∷ []) (elim new [
-      | inl e ↦ inl e
-      | inr last ↦ last
-    ])
-  ];
-  back = λ z member. elim (In-append z front (x ∷ []) member) [
-    | inl old ↦ In-append_left z front (x ∷ x ∷ []) old
-    | inr new ↦ In-append_right z front (x ∷ x ∷ []) (inr new)
-  ];
-}
 
 -- ---- side by side
 
@@ -91,19 +23,12 @@ halves-append (q ∷ list) p = ap (λ (ws : List (List ℕ)). low_words q ∷ hi
 pub halves-next : {K : ℕ} (list : List (PackedPair K)) (n : ℕ) → n < length list
     → halves (take (n + 1) list) ≡ halves (take n list) ++ low_words (pair_at list n) ∷ high_words (pair_at list n) ∷ []
 halves-next {K} list n within =
-    let e : n + 1 ≡ suc n = omega arith in
-    ap (λ k. halves (take k list)) e
-    ∙ ap (λ (ps : List (PackedPair K)). halves ps) (take-suc list n (record { pairs = [] }) within)
-    ∙ halves-append (take n list) (pair_at list n)
+    ap (λ (ps : List (PackedPair K)). halves ps) (take_more list n (record { pairs = [] }) within) ∙ halves-append (take n list) (pair_at list n)
 
 -- one pair more that is written there
 pub halves-set : {K : ℕ} (list : List (PackedPair K)) (n : ℕ) (p : PackedPair K) → n < length list
     → halves (take (n + 1) (slice_set list n p)) ≡ halves (take n list) ++ low_words p ∷ high_words p ∷ []
-halves-set {K} list n p within =
-    let e : n + 1 ≡ suc n = omega arith in
-    ap (λ k. halves (take k (slice_set list n p))) e
-    ∙ ap (λ (ps : List (PackedPair K)). halves ps) (take-suc-set list n p within)
-    ∙ halves-append (take n list) p
+halves-set {K} list n p within = ap (λ (ps : List (PackedPair K)). halves ps) (take_more_set list n p within) ∙ halves-append (take n list) p
 
 pub In-low : {K : ℕ} (list : List (PackedPair K)) (i : ℕ) → i < length list → In (low_words (pair_at list i)) (halves list)
 In-low [] i within = absurd (omega arith)
@@ -133,18 +58,14 @@ place-of (p ∷ list) w member = elim member [
 pub words-next : {K : ℕ} (states : List (Packed K)) (n : ℕ) (x : Packed K) → n < length states
     → words_of_first (n + 1) states ≡ words_of_first n states ++ (get_or states n x).words ∷ []
 words-next {K} states n x within =
-    let e : n + 1 ≡ suc n = omega arith in
-    ap (λ k. words_of_first k states) e
-    ∙ ap (λ (ws : List (Packed K)). map (λ (y : Packed K). y.words) ws) (take-suc states n x within)
+    ap (λ (ws : List (Packed K)). map (λ (y : Packed K). y.words) ws) (take_more states n x within)
     ∙ map-append (λ (y : Packed K). y.words) (take n states) (get_or states n x ∷ [])
 
 -- one state more that is written there
 pub words-set : {K : ℕ} (states : List (Packed K)) (n : ℕ) (x : Packed K) → n < length states
     → words_of_first (n + 1) (slice_set states n x) ≡ words_of_first n states ++ x.words ∷ []
 words-set {K} states n x within =
-    let e : n + 1 ≡ suc n = omega arith in
-    ap (λ k. words_of_first k (slice_set states n x)) e
-    ∙ ap (λ (ws : List (Packed K)). map (λ (y : Packed K). y.words) ws) (take-suc-set states n x within)
+    ap (λ (ws : List (Packed K)). map (λ (y : Packed K). y.words) ws) (take_more_set states n x within)
     ∙ map-append (λ (y : Packed K). y.words) (take n states) (x ∷ [])
 
 -- the first states, where one after them is written
@@ -169,7 +90,7 @@ pub kept-new : {K : ℕ} (states : List (Packed K)) (n : ℕ) (x : Packed K) →
     → HaveSame (words_of_first (n + 1) (slice_set states n x)) (x.words ∷ words_of_first n states)
 kept-new {K} states n x within =
     subst (λ (ws : List (List ℕ)). HaveSame ws (x.words ∷ words_of_first n states)) (sym (words-set states n x within))
-    (same-behind (words_of_first n states) x.words)
+    (same-swap (words_of_first n states) (x.words ∷ []))
 
 kept-by : {K : ℕ} (states : List (Packed K)) (n i : ℕ) (x z : Packed K) (before same : Bool) → n < length states → (before ≡ true → i < n)
     → (same ≡ true → (get_or states i z).words ≡ x.words)
@@ -196,17 +117,13 @@ pub gather-more : {K : ℕ} (list : List (PackedPair K)) (n : ℕ) (p : PackedPa
     → u ≡ low_words (get_or list n p) → v ≡ high_words (get_or list n p) → HaveSame xs (halves (take n list)) → HaveSame ys (u ∷ xs) → HaveSame zs (v ∷ ys) → HaveSame zs (halves (take (n + 1) list))
 gather-more {K} list n p xs ys zs u v within low high first second third =
     let own = pair-read list n p within in
-    let made : halves (take n list) ++ u ∷ v ∷ [] ≡ halves (take (n + 1) list) =
-    ap₂ (λ (a b : List ℕ). halves (take n list) ++ a ∷ b ∷ []) (low ∙ ap (λ (q : PackedPair K). low_words q) own) (high ∙ ap (λ (q : PackedPair K). high_words q) own)
+    let made : (halves (take n list) ++ u ∷ []) ++ v ∷ [] ≡ halves (take (n + 1) list) =
+    append_assoc (halves (take n list)) (u ∷ []) (v ∷ [])
+    ∙ ap₂ (λ (a b : List ℕ). halves (take n list) ++ a ∷ b ∷ []) (low ∙ ap (λ (q : PackedPair K). low_words q) own) (high ∙ ap (λ (q : PackedPair K). high_words q) own)
     ∙ sym (halves-next list n within) in
-    subst (λ (ws : List (List ℕ)). HaveSame zs ws) made (same-two xs ys zs (halves (take n list)) u v first second third)
+    subst (λ (ws : List (List ℕ)). HaveSame zs ws) made (same-last v third (same-last u second first))
 
 -- ---- whether all are one
-
-both-true : (a b : Bool) → (a && b) ≡ true → (a ≡ true) × (b ≡ true)
-both-true true true e = (refl, refl)
-both-true true false e = absurd cc
-both-true false b e = absurd cc
 
 -- one pair more is the first state
 pub all-more : {K : ℕ} (list : List (PackedPair K)) (n : ℕ) (p : PackedPair K) (first u v : List ℕ) (a b : Bool) → n < length list
@@ -214,7 +131,7 @@ pub all-more : {K : ℕ} (list : List (PackedPair K)) (n : ℕ) (p : PackedPair 
     → ((w : List ℕ) → In w (halves (take n list)) → w ≡ first) → (w : List ℕ) → In w (halves (take (n + 1) list)) → w ≡ first
 all-more {K} list n p first u v a b within low high one other test each w member =
     let own = pair-read list n p within in
-    let are = both-true a b test in
+    let are = and_parts a b test in
     elim (In-append w (halves (take n list)) (low_words (pair_at list n) ∷ high_words (pair_at list n) ∷ []) (subst (λ (ws : List (List ℕ)). In w ws) (halves-next list n within) member)) [
       | inl old ↦ each w old
       | inr new ↦ elim new [
@@ -286,7 +203,7 @@ pairs-last {K} states list n p x within odd low high before =
     let all : front ++ own ∷ [] ≡ words_of_first (length states) states =
     sym (words-next states (2 * n) x (omega arith)) ∙ ap (λ k. words_of_first k states) (sym odd) in
     subst (λ (ws : List (List ℕ)). HaveSame ws (words_of_first (length states) states)) (sym pairs)
-    (subst (λ (ws : List (List ℕ)). HaveSame (front ++ own ∷ own ∷ []) ws) all (same-twice front own))
+    (subst (λ (ws : List (List ℕ)). HaveSame (front ++ own ∷ own ∷ []) ws) all (same-append (same-itself front) (same-back (same-there (own ∷ []) own (inl refl)))))
 
 -- ---- lists that hold the same
 

@@ -1,7 +1,7 @@
 -- A box whose tight boxes come to a single state meets in what becomes of that state.
 use Rattle.std.specs.Prelude.{◌≡◌, ℕ, zero, suc, ◌+◌, ◌-◌, ◌<◌, ◌≤◌, List, [], ◌∷◌, ◌++◌, length, take, drop, All, Bool, true, false, not, Option, Some, None, refl}
 use Rattle.std.proofs.Common.{inl, inr, ap, sym, ◌∙◌, subst, arith, take-append-drop, length-drop}
-use Rattle.std.proofs.Math.Seq.{take-length}
+use Rattle.std.proofs.Math.Seq.{take-length, take-add}
 use Rattle.std.proofs.lemmas.Bool.{cases_lt, le-leb, true≢false}
 use Rattle.psi_state.specs.State.{Corners, IsBelow, box, zeros}
 use Rattle.psi_state.specs.Members.{In}
@@ -29,18 +29,6 @@ few-one (z ∷ []) x y few (inl e) (inl d) = d ∙ sym e
 few-one (z ∷ []) x y few (inl e) (inr there) = absurd there
 few-one (z ∷ []) x y few (inr here) there = absurd here
 few-one (z ∷ w ∷ xs) x y few here there = absurd (omega arith)
-
-take-none : (n : ℕ) → take {A = ℕ} n [] ≡ []
-take-none zero = refl
-take-none (suc n) = refl
-
--- the first numbers, and those after them up to a place
-take-behind : (stop place : ℕ) (xs : List ℕ) → take (stop + place) xs ≡ take stop xs ++ take place (drop stop xs)
-take-behind zero place xs = (let e : 0 + place ≡ place = omega arith in ap (λ n. take n xs) e)
-take-behind (suc stop) place [] = take-none (suc stop + place) ∙ sym (take-none place)
-take-behind (suc stop) place (x ∷ xs) =
-    let e : suc stop + place ≡ suc (stop + place) = omega arith in
-    ap (λ n. take n (x ∷ xs)) e ∙ ap (λ (ys : List ℕ). x ∷ ys) (take-behind stop place xs)
 
 pub behind-all : (xs : List ℕ) (stop : ℕ) → take (length xs - stop) (drop stop xs) ≡ drop stop xs
 behind-all xs stop = ap (λ n. take n (drop stop xs)) (sym (length-drop stop xs)) ∙ take-length (drop stop xs)
@@ -89,7 +77,7 @@ module _ (count : ℕ) (p : Prepared) (caps : List ℕ) (functions : List Functi
       ∙ follow_numbers-append functions (take stop numbers) (drop stop numbers) x
       ∙ ap (follow_numbers functions (take stop numbers)) (run-meets (drop stop numbers) run few x member)
       ∙ sym (follow_numbers-append functions (take stop numbers) (take place (drop stop numbers)) t)
-      ∙ ap (λ (ns : List ℕ). follow_numbers functions ns t) (sym (take-behind stop place numbers))
+      ∙ ap (λ (ns : List ℕ). follow_numbers functions ns t) (sym (take-add stop place numbers))
       ∙ sym is)
 
 -- what a box tells where it has few states and where it has many

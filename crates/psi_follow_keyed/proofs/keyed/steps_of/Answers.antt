@@ -4,7 +4,8 @@ use Rattle.std.proofs.lemmas.List.{get_or-map, length-map, length_push}
 use Rattle.psi_event.specs.Law.{Function}
 use Rattle.psi_follow_keyed.specs.Keyed.{IsStepFor}
 use Rattle.psi_follow_keyed.specs.declared.step.Step.{Step}
-use Rattle.psi_follow_keyed.proofs.BuildingLemmas.{steps-more}
+use Rattle.psi_follow_keyed.specs.declared.step.Step.TheVariants.{Still}
+use Rattle.psi_region.proofs.FollowedLemmas.{each-pushed}
 use Rattle.psi_follow_keyed.proofs.keyed.steps_of.Goals as goal
 
 pub loop-at-preserved : goal.loop-at-preserved
@@ -21,8 +22,9 @@ loop-at-preserved g c =
     record {
       long = omega (arith, long, c.loop-at.invariant.long);
       room = omega (arith, c.push_reserved.ensures.capacity, c.loop-at.invariant.room);
-      each = steps-more c.args.board.now (map g.E.EventLaw.function events) steps more at c.in-Some.step c.loop-at.invariant.long c.push_reserved.ensures.items
-          c.loop-at.invariant.each (subst (λ (f : Function). IsStepFor c.args.board.now f c.in-Some.step) (sym function) c.in-Some.ensures);
+      each = each-pushed (λ i step. IsStepFor c.args.board.now (slice_index_or (map g.E.EventLaw.function events) i (λ x. x)) step) Still steps more at c.in-Some.step
+          c.loop-at.invariant.long c.push_reserved.ensures.items c.loop-at.invariant.each
+          (subst (λ (f : Function). IsStepFor c.args.board.now f c.in-Some.step) (sym function) c.in-Some.ensures);
     }
 
 pub loop-at-init : goal.loop-at-init

@@ -1,9 +1,10 @@
 -- Answers in the proof of `halts_of`.
-use Rattle.std.proofs.Common.{◌≡◌, ◌<◌, ℕ, ◌+◌, List, [], ◌∷◌, ◌++◌, length, map, All, get_or, slice_index_or, Bool, false, not, ap, sym, subst, ◌∙◌, arith}
+use Rattle.std.proofs.Common.{◌≡◌, ◌<◌, ℕ, List, [], ◌∷◌, ◌++◌, length, map, All, get_or, slice_index_or, Bool, false, not, ap, sym, subst, ◌∙◌, arith}
 use Rattle.std.proofs.lemmas.List.{get_or-map, length-map, length_push}
 use Rattle.std.proofs.lemmas.List.Elements.{All-get_or}
 use Rattle.psi_event.specs.Law.{Function, IsMonotone}
-use Rattle.psi_follow_sets.proofs.HaltsLemmas.{halts-more}
+use Rattle.psi_follow_sets.proofs.HaltsLemmas.{passed}
+use Rattle.psi_region.proofs.FollowedLemmas.{each-pushed}
 use Rattle.psi_follow_sets.proofs.boxes.halts_of.Goals as goal
 
 pub loop-number-init : goal.loop-number-init
@@ -31,10 +32,10 @@ loop-number-preserved g c =
     record {
       count = omega (arith, ap (λ (hs : List Bool). length hs) pushed, length_push halts (not c.monotone.result), c.loop-number.invariant.count);
       room = omega (arith, c.push_reserved.ensures.capacity, c.loop-number.invariant.room);
-      monotone = subst (λ (hs : List Bool). (i : ℕ) → i < number + 1 → slice_index_or hs i false ≡ false → IsMonotone course.caps (slice_index_or functions i (λ x. x))) (sym pushed)
-          (halts-more course.caps functions halts number c.monotone.result c.loop-number.invariant.count
-          (λ yes. subst (λ (f : Function). IsMonotone course.caps f) (sym function) (subst (λ (cs : List ℕ). IsMonotone cs (g.E.EventLaw.function event)) caps (c.monotone.ensures.0 yes)))
-          c.loop-number.invariant.monotone);
+      monotone = each-pushed (λ q h. h ≡ false → IsMonotone course.caps (slice_index_or functions q (λ x. x))) false halts more number (not c.monotone.result) c.loop-number.invariant.count
+          pushed c.loop-number.invariant.monotone
+          (λ unhalted. subst (λ (f : Function). IsMonotone course.caps f) (sym function)
+          (subst (λ (cs : List ℕ). IsMonotone cs (g.E.EventLaw.function event)) caps (c.monotone.ensures.0 (passed c.monotone.result unhalted))));
     }
 
 pub returns-clause-count : goal.returns-clause-count

@@ -1,10 +1,10 @@
 -- Answers in the proof of `units_of`.
-use Rattle.std.proofs.Common.{◌≡◌, ◌<◌, ℕ, ◌+◌, List, [], ◌∷◌, ◌++◌, length, map, get_or, slice_index_or, Option, None, IfSome, ap, sym, subst, ◌∙◌, arith}
+use Rattle.std.proofs.Common.{◌≡◌, ◌<◌, ℕ, List, [], ◌∷◌, ◌++◌, length, map, get_or, slice_index_or, Option, None, IfSome, ap, sym, subst, ◌∙◌, arith}
 use Rattle.std.proofs.lemmas.List.{get_or-map, length_push}
 use Rattle.psi_event.specs.Law.{Function}
 use Rattle.psi_follow_packed.specs.UnitEvents.{IsUnitFor, unit_masks}
 use Rattle.psi_follow_packed.specs.declared.unit_events.UnitEvent.{UnitEvent}
-use Rattle.psi_follow_sets.proofs.HaltsLemmas.{units-more}
+use Rattle.psi_region.proofs.FollowedLemmas.{each-pushed}
 use Rattle.psi_follow_sets.proofs.boxes.units_of.Goals as goal
 
 pub loop-number-preserved : goal.loop-number-preserved
@@ -24,8 +24,7 @@ loop-number-preserved g c =
     record {
       count = omega (arith, ap (λ (us : List (Option (UnitEvent g.row.K))). length us) pushed, length_push units one, c.loop-number.invariant.count);
       room = omega (arith, c.push_reserved.ensures.capacity, c.loop-number.invariant.room);
-      known = subst (λ (us : List (Option (UnitEvent g.row.K))). (i : ℕ) → i < number + 1 → IfSome (slice_index_or us i None) (λ unit. IsUnitFor g.row.K p (slice_index_or functions i (λ x. x)) (unit_masks unit)))
-          (sym pushed)
-          (units-more p functions units number one c.loop-number.invariant.count c.loop-number.invariant.known
-          (subst (λ (f : Function). IfSome one (λ unit. IsUnitFor g.row.K p f (unit_masks unit))) (sym function) c.unit_event.ensures));
+      known = each-pushed (λ (i : ℕ) (o : Option (UnitEvent g.row.K)). IfSome o (λ unit. IsUnitFor g.row.K p (slice_index_or functions i (λ x. x)) (unit_masks unit))) None units more number one
+          c.loop-number.invariant.count pushed c.loop-number.invariant.known
+          (subst (λ (f : Function). IfSome one (λ unit. IsUnitFor g.row.K p f (unit_masks unit))) (sym function) c.unit_event.ensures);
     }

@@ -1,7 +1,7 @@
 use Rattle.std.proofs.Common.{length, drop, refl, ◌∙◌, arith}
 use Rattle.std.proofs.Math.Seq.{drop-length}
 use Rattle.psi_follow_sets.specs.Room.{held}
-use Rattle.psi_follow_sets.proofs.HalvingLemmas.{same-itself}
+use Rattle.psi_state.proofs.SameLemmas.{same-itself}
 use Rattle.psi_follow_sets.proofs.FollowingLemmas.{set-none, set-more}
 use Rattle.psi_follow_sets.proofs.lists.Lists.follow_apart.Goals as goal
 

@@ -4,7 +4,8 @@ use Rattle.psi_state.specs.Ascending.{HaveSame}
 use Rattle.psi_follow_packed.specs.declared.layout.Packed.{Packed}
 use Rattle.psi_follow_packed.specs.declared.pairs.PackedPair.{PackedPair}
 use Rattle.psi_follow_sets.specs.Inner.HalvesKept.{halves, words_of_first}
-use Rattle.psi_follow_sets.proofs.HalvingLemmas.{same-again, same-through, some-left}
+use Rattle.psi_follow_sets.proofs.HalvingLemmas.{same-again, some-left}
+use Rattle.psi_state.proofs.SameLemmas.{same-through}
 use Rattle.psi_follow_sets.proofs.lists.Lists.thin.Goals as goal
 
 pub returns-clause-members : goal.returns-clause-members
