@@ -3,7 +3,7 @@
 //! A list of states with repeats stands for its set as well, so an event moves each state. Repeats
 //! are taken out now and then.
 
-ghost use Rattle.std.specs.Prelude.{◌≡◌, ◌*◌, ◌<◌, ◌≤◌, ◌⊎◌, ◌∷◌, [], IfOk, MatchOption, length, drop, slice_index, EachIndex};
+ghost use Rattle.std.specs.Prelude.{◌≡◌, ◌*◌, ◌<◌, ◌≤◌, ◌⊎◌, ◌∷◌, [], ℕ, IfOk, MatchOption, length, drop, slice_index, slice_index_or, EachIndex};
 ghost use Rattle.psi_state.specs.State.{IsBelow, box};
 ghost use Rattle.psi_state.specs.Ascending.{HaveSame};
 ghost use Rattle.psi_follow_packed.specs.Packed.{packed};
@@ -44,11 +44,12 @@ impl<const K: usize> Lists<K> {
         }
         let bits = bits_for(most);
         let pairs = (most + 1) / 2;
+        let zero = Packed::zero();
         Ok(Lists {
-            pairs: free_pairs(alloc, pairs)?,
+            pairs: filled(alloc, PackedPair::of(&zero, &zero), pairs)?,
             used: 0,
-            states: free_states(alloc, 2 * pairs)?,
-            seen: free_slots(alloc, 1 << bits)?,
+            states: filled(alloc, zero, 2 * pairs)?,
+            seen: filled(alloc, 0, 1 << bits)?,
             shift: 64 - bits,
         })
     }
@@ -166,37 +167,14 @@ fn bits_for(most: u16) -> u8
     16 - (2 * most - 1).leading_zeros() as u8
 }
 
-// As many pairs of states without customers as `count`.
-fn free_pairs<const K: usize>(alloc: Global, count: u16) -> Result<Vec<PackedPair<K>>, AllocError>
-    ensures { IfOk result (λ pairs. length pairs.items ≡ count) }
+// As many elements as `count`, each of them this one.
+fn filled<T: Copy>(alloc: Global, element: T, count: u16) -> Result<Vec<T>, AllocError>
+    ensures count { IfOk result (λ elements. length elements.items ≡ count) }
+    ensures each { IfOk result (λ elements. (i : ℕ) → i < count → slice_index_or elements.items i element ≡ element) }
 {
-    let zero = Packed::zero();
-    let mut pairs = Vec::with_capacity(alloc, count as usize)?;
+    let mut elements = Vec::with_capacity(alloc, count as usize)?;
     for _place in 0..count {
-        pairs.push_reserved(PackedPair::of(&zero, &zero));
+        elements.push_reserved(element);
     }
-    Ok(pairs)
-}
-
-// As many packed states without customers as `count`.
-fn free_states<const K: usize>(alloc: Global, count: u16) -> Result<Vec<Packed<K>>, AllocError>
-    ensures { IfOk result (λ states. length states.items ≡ count) }
-{
-    let mut states = Vec::with_capacity(alloc, count as usize)?;
-    for _place in 0..count {
-        states.push_reserved(Packed::zero());
-    }
-    Ok(states)
-}
-
-// As many slots as `count`, each of which names the first place.
-fn free_slots(alloc: Global, count: u16) -> Result<Vec<u16>, AllocError>
-    ensures count { IfOk result (λ slots. length slots.items ≡ count) }
-    ensures first { IfOk result (λ slots. EachIndex slots.items (λ i. slice_index slots.items i ≡ 0)) }
-{
-    let mut slots = Vec::with_capacity(alloc, count as usize)?;
-    for _slot in 0..count {
-        slots.push_reserved(0);
-    }
-    Ok(slots)
+    Ok(elements)
 }
