@@ -1,7 +1,6 @@
 -- Steps that are put one after another.
-use Rattle.std.specs.Prelude.{◌≡◌, ℕ, ◌+◌, ◌<◌, List, [], ◌∷◌, ◌++◌, length, slice_index_or, Option, Some, None, IfSome}
-use Rattle.std.proofs.Common.{sym, subst, arith, below_more}
-use Rattle.std.proofs.lemmas.List.{get_or_append_left, get_or_push}
+use Rattle.std.specs.Prelude.{◌≡◌, ℕ, List, Option, Some, None, IfSome}
+use Rattle.std.proofs.Common.{sym, subst}
 use Rattle.psi_state.specs.State.{IsBelow}
 use Rattle.psi_event.specs.Law.{Function, IsClosed}
 use Rattle.psi_follow_keyed.specs.Keys.{Keys}
