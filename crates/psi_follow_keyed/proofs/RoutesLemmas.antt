@@ -1,5 +1,5 @@
 -- What routes do, by keys: one by which customers from outside join, and one by which customers leave.
-use Rattle.std.specs.Prelude.{◌≡◌, ◌≢◌, ℕ, ◌+◌, ◌-◌, ◌*◌, ◌%◌, ◌^◌, ◌<◌, ◌≤◌, List, length, slice_index, slice_set, Option, Some, None, is_some, nat_eq, ◌||◌, Bool, true, false, if◌then◌else◌, refl}
+use Rattle.std.specs.Prelude.{◌≡◌, ◌≢◌, ℕ, ◌+◌, ◌-◌, ◌*◌, ◌^◌, ◌<◌, ◌≤◌, List, length, slice_index, slice_set, Option, Some, None, is_some, nat_eq, ◌||◌, Bool, true, false, if◌then◌else◌, refl}
 use Rattle.std.proofs.Common.{inl, inr, ap, sym, ◌∙◌, subst, arith}
 use Rattle.std.proofs.lemmas.Bool.{cases_lt, lt-leb, le-leb}
 use Rattle.psi_state.specs.State.{IsBelow}
@@ -17,9 +17,6 @@ use Rattle.psi_follow_keyed.proofs.MarkingLemmas.{key-room}
 abbrev pub keys_of : Shape → List ℕ → List ℕ → Keys
 keys_of s bases entries = record { caps = s.caps; targets = s.targets; bases = bases; entries = entries }
 
-place-told : (w i : ℕ) → i < 32 → (32 * w + i) % 32 ≡ i
-place-told w i small = omega arith
-
 pub rows-ranked : (s : Shape) (bases entries : List ℕ) → IsRouteShape s → AreRowsOf s (length s.targets) bases entries → AreRanked (keys_of s bases entries)
 rows-ranked s bases entries is rows = record {
   few = is.few;
@@ -31,8 +28,7 @@ rows-ranked s bases entries is rows = record {
       let value : weight s i v ≤ 2 ^ 27 - 2 = row.values v room in
       let few : length s.targets ≤ 32 = is.few in
       omega arith);
-  placed = λ i v small room. (let few : length s.targets ≤ 32 = is.few in
-      ap (λ n. n % 32) ((rows.each i small).keys v room) ∙ place-told (weight s i v) i (omega arith));
+  placed = λ i v small room. (let few : length s.targets ≤ 32 = is.few in omega (arith, (rows.each i small).keys v room));
   full = λ i small. (rows.each i small).full;
 }
 
@@ -129,7 +125,5 @@ pub board-for : (s : Shape) (caps targets bases entries : List ℕ) → IsRouteS
     → caps ≡ s.caps → targets ≡ s.targets → IsBoardFor s.caps (routed s) (record { caps = caps; targets = targets; bases = bases; entries = entries })
 board-for s caps targets bases entries is none one rows same_caps same = record {
   same_caps = same_caps;
-  joins = subst (λ (cs : List ℕ). Joins (record { caps = cs; targets = targets; bases = bases; entries = entries }) (routed s)) (sym same_caps)
-      (subst (λ (ts : List ℕ). Joins (record { caps = s.caps; targets = ts; bases = bases; entries = entries }) (routed s)) (sym same)
-      (routed-joins s bases entries is none one rows));
+  joins = rw (same_caps, same) (routed-joins s bases entries is none one rows);
 }

@@ -43,14 +43,7 @@ module _ (count : ℕ) (p : Prepared) (caps : List ℕ) (functions : List Functi
   same-first : IsBelow lo hi → IsBelow hi caps → IsSameAt (length numbers)
   same-first ordered within =
       let none : drop (length numbers) numbers ≡ [] = drop-length numbers in
-      let from : (x : List ℕ) → follow_numbers functions (drop (length numbers) numbers) x ≡ x = λ x. ap (λ (ns : List ℕ). follow_numbers functions ns x) none in
-      record {
-        ordered = subst (λ (x : List ℕ). IsBelow x (follow_numbers functions (drop (length numbers) numbers) hi)) (sym (from lo))
-            (subst (λ (x : List ℕ). IsBelow lo x) (sym (from hi)) ordered);
-        within = subst (λ (x : List ℕ). IsBelow x caps) (sym (from hi)) within;
-        same = ap₂ (λ (ns : List ℕ) (c : Corners). follow_areas split functions ns (unsplit c)) (take-length numbers)
-            (ap₂ (λ (x y : List ℕ). record { lo = x; hi = y }) (from lo) (from hi));
-      }
+      record { ordered = rw none ordered; within = rw none within; same = rw (none, take-length numbers) refl }
 
   same-next : (i : ℕ) → place ≤ i → i < length numbers → IsSameAt (suc i) → IsSameAt i
   same-next i after small is =
@@ -69,9 +62,8 @@ module _ (count : ℕ) (p : Prepared) (caps : List ℕ) (functions : List Functi
       λ x below. subst (λ (cs : List ℕ). IsBelow (f x) cs) prepared.same_caps
       ((prepared.each number here).closed.each x (subst (λ (cs : List ℕ). IsBelow x cs) (sym prepared.same_caps) below)) in
       record {
-        ordered = subst (λ (x : List ℕ). IsBelow x (corners_at i).hi) (sym (from lo))
-            (subst (λ (x : List ℕ). IsBelow (f before.lo) x) (sym (from hi)) (own.each before.lo before.hi is.within is.ordered));
-        within = subst (λ (x : List ℕ). IsBelow x caps) (sym (from hi)) (closed before.hi is.within);
+        ordered = rw (from lo, from hi) (own.each before.lo before.hi is.within is.ordered);
+        within = rw (from hi) (closed before.hi is.within);
         same = subst (λ k. follow_areas split functions (take k numbers) (unsplit (corners_at i)) ≡ end) e
             (follow_areas-take split functions numbers (suc i) (unsplit before) (unsplit (corners_at i)) end (omega arith) (omega arith)
             (subst (λ k. unsplit (corners_at i) ≡ step split (slice_index_or functions (slice_index numbers k) (λ z. z)) (unsplit before)) (sym e)
