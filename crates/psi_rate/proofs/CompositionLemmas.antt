@@ -1,6 +1,8 @@
 -- What the functions of the last steps make of the states of a set that they keep.
 use Rattle.std.specs.Prelude.{◌≡◌, ℕ, zero, suc, ◌+◌, ◌-◌, List, Some, None}
-use Rattle.std.proofs.Common.{ap, sym, ◌∙◌, subst, arith}
+use Rattle.std.proofs.Common.{rules, subst, arith}
+use Rattle.std.proofs.Math.Nat.{zero-add, suc-add, sub-add_cancel}
+use Rattle.std.proofs.lemmas.Grind.{common_steps}
 use Rattle.psi_state.specs.State.{IsBelow, zeros, all_states}
 use Rattle.psi_state.proofs.BoxesLemmas.{In-of_all_states, below-itself, zeros-below, same-from_below}
 use Rattle.psi_state.specs.Sets.{single}
@@ -16,9 +18,7 @@ compose-monotone caps f closed mono (suc t) x y within below =
 
 -- functions that make states of states keep the states within the capacities
 pub closed-keeping : (caps : List ℕ) (f : ℕ → List ℕ → List ℕ) → AreClosed caps f → AreKeeping (Below caps) f
-closed-keeping caps f closed = record {
-  each = λ t. record { each = λ x within. (closed.each t).each x within };
-}
+closed-keeping caps f closed = search rules
 
 -- so do all steps together
 pub compose-keeps : (S : List ℕ → Type 0) (f : ℕ → List ℕ → List ℕ) → AreKeeping S f → (t : ℕ) (x : List ℕ) → S x → S (compose f t x)
@@ -28,18 +28,15 @@ compose-keeps S f keeps (suc t) x member = compose-keeps S f keeps t (f (suc t) 
 -- states of the set that are one after the last t steps are so whatever steps came before these
 pub compose-more : (S : List ℕ → Type 0) (f : ℕ → List ℕ → List ℕ) (t : ℕ) (s : List ℕ) → AreKeeping S f
     → ((x : List ℕ) → S x → compose f t x ≡ s) → (d : ℕ) (x : List ℕ) → S x → compose f (d + t) x ≡ s
-compose-more S f t s keeps met zero x member = (let e : 0 + t ≡ t = omega arith in ap (λ n. compose f n x) e ∙ met x member)
+compose-more S f t s keeps met zero x member = rw zero-add (met x member)
 compose-more S f t s keeps met (suc d) x member =
-    let e : suc d + t ≡ suc (d + t) = omega arith in
-    ap (λ n. compose f n x) e ∙ compose-more S f t s keeps met d (f (suc (d + t)) x) ((keeps.each (suc (d + t))).each x member)
+    rw suc-add (compose-more S f t s keeps met d (f (suc (d + t)) x) ((keeps.each (suc (d + t))).each x member))
 
 -- where all states of a set meet at a horizon, they meet in the same state at every longer one
 pub reached_from-later : (S : List ℕ → Type 0) (f : ℕ → List ℕ → List ℕ) (t : ℕ) (s : List ℕ) → AreKeeping S f
     → ((x : List ℕ) → S x → compose f t x ≡ s) → IsReachedFrom S f t s
 reached_from-later S f t s keeps met = record {
-  each = λ x earlier member later.
-      (let e : (earlier - t) + t ≡ earlier = omega arith in
-      ap (λ n. compose f n x) (sym e) ∙ compose-more S f t s keeps met (earlier - t) x member);
+  each = λ x earlier member later. rw (← sub-add_cancel later) (compose-more S f t s keeps met (earlier - t) x member);
 }
 
 -- so do all states
@@ -59,6 +56,4 @@ corners-meet caps f t s closed mono low high = single-image (compose f t) s caps
 -- and they haven't where those two are apart
 pub corners-apart : (caps : List ℕ) (f : ℕ → List ℕ → List ℕ) (t : ℕ)
     → (compose f t (zeros caps) ≡ compose f t caps → ⊥) → single (image_at f caps t) ≡ None
-corners-apart caps f t apart = single-apart (image_at f caps t) (compose f t (zeros caps)) (compose f t caps)
-    (In-image (compose f t) (zeros caps) (all_states caps) (In-zeros caps))
-    (In-image (compose f t) caps (all_states caps) (In-caps caps)) apart
+corners-apart caps f t apart = grind (arith, common_steps, single-apart, In-image, In-zeros, In-caps)

@@ -7,7 +7,7 @@ pub mod DoublingLemmas
 pub mod LeastLemmas
 pub mod FunctionsLemmas
 pub mod OutcomesLemmas
-pub mod TableLemmas
+pub mod EventTableLemmas
 mod MarksLemmas
 pub mod NumbersLemmas
 mod DealtLemmas

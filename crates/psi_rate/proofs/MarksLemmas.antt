@@ -1,6 +1,6 @@
 -- The marks rise, so each place has one number of marks up to it, and the counts at marks are kept.
 use Rattle.std.specs.Prelude.{◌≡◌, ℕ, zero, suc, ◌-◌, ◌<◌, ◌≤◌, List, [], ◌∷◌, ◌++◌, length, slice_index}
-use Rattle.std.proofs.Common.{inl, inr, ap, ap₂, sym, ◌∙◌, arith}
+use Rattle.std.proofs.Common.{rules, inl, inr, ap, ap₂, sym, ◌∙◌, arith}
 use Rattle.std.proofs.lemmas.Bool.{cases_lt}
 use Rattle.std.proofs.lemmas.List.{length-append}
 use Rattle.std.proofs.Math.ListN.{get_or-append}
@@ -18,22 +18,14 @@ mark-rises (suc (suc (suc (suc (suc n))))) = omega arith
 
 pub mark-order : (i j : ℕ) → i ≤ j → mark i ≤ mark j
 mark-order i zero order = (let e : i ≡ 0 = omega arith in let same : mark i ≡ mark 0 = ap (λ n. mark n) e in omega arith)
-mark-order i (suc j) order = elim (cases_lt i (suc j)) [
-  | inl less ↦ (let before = mark-order i j (omega arith) in let more = mark-rises j in omega arith)
-  | inr past ↦ (let e : i ≡ suc j = omega arith in let same : mark i ≡ mark (suc j) = ap (λ n. mark n) e in omega arith)
-]
+mark-order i (suc j) order = search rules
 
 -- a mark up to a place has a number below that of the first one above it
 pub mark-below : (i n place : ℕ) → mark i ≤ place → place < mark n → i < n
-mark-below i n place up above = elim (cases_lt i n) [
-  | inl less ↦ less
-  | inr past ↦ (let order = mark-order n i past in absurd (omega arith))
-]
+mark-below i n place up above = search rules
 
 pub marks-only : (m n place : ℕ) → 1 ≤ m → 1 ≤ n → mark (m - 1) ≤ place → place < mark m → mark (n - 1) ≤ place → place < mark n → m ≡ n
-marks-only m n place some any last next own other =
-    let less = mark-below (m - 1) n place last other in
-    let more = mark-below (n - 1) m place own next in omega arith
+marks-only m n place some any last next own other = search rules
 
 -- the count of the next mark is counted too
 pub counted-more : (rates : List ℕ) (words : ℕ → ℕ) (counts more : List ℕ) (number count : ℕ) → length counts ≡ number → more ≡ counts ++ count ∷ []

@@ -1,10 +1,10 @@
 -- The numbers that are kept are those of the places, and how many there are.
-use Rattle.std.specs.Prelude.{◌≡◌, ℕ, zero, suc, ◌-◌, ◌+◌, ◌<◌, ◌≤◌, List, [], ◌∷◌, ◌++◌, length, slice_index, All, Bool, true, false, nat_lt, if◌then◌else◌, refl}
-use Rattle.std.proofs.Common.{ap, ap₂, sym, ◌∙◌, subst, take, arith}
+use Rattle.std.specs.Prelude.{◌≡◌, ℕ, zero, suc, ◌-◌, ◌+◌, ◌<◌, ◌≤◌, List, [], ◌∷◌, ◌++◌, length, slice_index, All, Bool, true, false, nat_lt, if◌then◌else◌}
+use Rattle.std.proofs.Common.{rules, ap, ap₂, sym, ◌∙◌, subst, take, arith}
 use Rattle.std.proofs.lemmas.Bool.{ltb-true}
-use Rattle.std.proofs.lemmas.List.{length-append, append-nil, append_assoc, take-append-le}
+use Rattle.std.proofs.lemmas.List.{length-append, append_assoc, take-append-le}
 use Rattle.std.proofs.lemmas.List.Elements.{All-nil, All-cons, All-append}
-use Rattle.std.proofs.Math.Seq.{take-length}
+use Rattle.std.proofs.lemmas.Grind.{common_steps}
 use Rattle.psi_past.specs.Filled.{AreWordsFrom}
 use Rattle.psi_rate.specs.Rates.{event_of}
 use Rattle.psi_rate.specs.declared.numbers.EventNumbers.{EventNumbers}
@@ -18,19 +18,12 @@ one_if-length false n = omega arith
 
 pub numbers-length : (rates : List ℕ) (words : ℕ → ℕ) (t : ℕ) → length (numbers_below rates words t) ≤ t
 numbers-length rates words zero = omega arith
-numbers-length rates words (suc t) =
-    let number = event_of rates (words t) in
-    let before = numbers-length rates words t in
-    let last = one_if-length (nat_lt number (length rates)) number in
-    let sum = length-append (numbers_below rates words t) (unless_idle (length rates) number) in
-    omega arith
+numbers-length rates words (suc t) = grind (arith, common_steps, one_if-length, length-append, (numbers-length rates words t))
 
 -- the numbers of a list of words stand after those of the places before it
 numbers-behind : (rates : List ℕ) (words : ℕ → ℕ) (first n : ℕ) (drawn : List ℕ) → ((i : ℕ) → i < n → slice_index drawn i ≡ words (first + i))
     → numbers_below rates words first ++ numbers_below rates (slice_index drawn) n ≡ numbers_below rates words (first + n)
-numbers-behind rates words first zero drawn are =
-    let e : first ≡ first + 0 = omega arith in
-    append-nil (numbers_below rates words first) ∙ ap (numbers_below rates words) e
+numbers-behind rates words first zero drawn are = search rules
 numbers-behind rates words first (suc n) drawn are =
     let e : suc (first + n) ≡ first + suc n = omega arith in
     let last = unless_idle (length rates) (event_of rates (slice_index drawn n)) in
@@ -42,10 +35,7 @@ numbers-behind rates words first (suc n) drawn are =
 pub numbers-window : (rates : List ℕ) (words : ℕ → ℕ) (first end count : ℕ) (drawn numbers : List ℕ) → first ≤ end → length drawn ≡ end - first
     → AreWordsFrom words first drawn → take count numbers ≡ numbers_below rates (slice_index drawn) (length drawn)
     → numbers_below rates words first ++ take count numbers ≡ numbers_below rates words end
-numbers-window rates words first end count drawn numbers order long are picked =
-    let e : first + length drawn ≡ end = omega arith in
-    ap (λ (ns : List ℕ). numbers_below rates words first ++ ns) picked
-    ∙ numbers-behind rates words first (length drawn) drawn are.each ∙ ap (numbers_below rates words) e
+numbers-window rates words first end count drawn numbers order long are picked = grind (arith, common_steps, numbers-behind)
 
 -- the numbers of a window fit where there is room for those of the places up to its end
 pub window-room : (rates : List ℕ) (words : ℕ → ℕ) (first end : ℕ) (list more : List ℕ) → list ≡ numbers_below rates words first
@@ -63,10 +53,7 @@ one_if-all false n count is = All-nil (λ k. k < count)
 
 pub numbers-all : (rates : List ℕ) (words : ℕ → ℕ) (t : ℕ) → All (λ k. k < length rates) (numbers_below rates words t)
 numbers-all rates words zero = All-nil (λ k. k < length rates)
-numbers-all rates words (suc t) =
-    let number = event_of rates (words t) in
-    All-append (λ k. k < length rates) (numbers_below rates words t) (unless_idle (length rates) number) (numbers-all rates words t)
-    (one_if-all (nat_lt number (length rates)) number (length rates) refl)
+numbers-all rates words (suc t) = grind (arith, common_steps, All-append, one_if-all, (numbers-all rates words t))
 
 -- the numbers of fewer places are the first of those of more
 numbers-more : (rates : List ℕ) (words : ℕ → ℕ) (t more : ℕ) → length (numbers_below rates words t) ≤ length (numbers_below rates words (more + t))
@@ -79,9 +66,7 @@ numbers-more rates words t (suc more) =
 
 pub numbers-take : (rates : List ℕ) (words : ℕ → ℕ) (t more : ℕ)
     → take (length (numbers_below rates words t)) (numbers_below rates words (more + t)) ≡ numbers_below rates words t
-numbers-take rates words t zero =
-    let e : 0 + t ≡ t = omega arith in
-    ap (λ n. take (length (numbers_below rates words t)) (numbers_below rates words n)) e ∙ take-length (numbers_below rates words t)
+numbers-take rates words t zero = grind (arith, common_steps)
 numbers-take rates words t (suc more) =
     let e : suc more + t ≡ suc (more + t) = omega arith in
     let few = numbers-more rates words t more in
@@ -97,14 +82,4 @@ numbers-prefix rates words horizon reached count items order kept counted =
 
 -- numbers with room for more places have room for fewer
 pub keeps-fewer : (rates : List ℕ) (words : ℕ → ℕ) (most few : ℕ) (numbers : EventNumbers) → KeepsNumbers rates words most numbers → few ≤ most → KeepsNumbers rates words few numbers
-keeps-fewer rates words most few numbers keeps less =
-    let room = keeps.room in
-    let count_room = keeps.count_room in
-    record {
-      kept = keeps.kept;
-      counted = keeps.counted;
-      last = keeps.last;
-      next = keeps.next;
-      room = omega arith;
-      count_room = omega arith;
-    }
+keeps-fewer rates words most few numbers keeps less = search rules

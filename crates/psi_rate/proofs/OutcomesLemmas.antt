@@ -1,11 +1,12 @@
 -- A run has one outcome, and runs that agree have the same.
 use Rattle.std.specs.Prelude.{◌≡◌, ℕ, suc, ◌≤◌, List, Option, Some, None, refl}
-use Rattle.std.proofs.Common.{ap, sym, ◌∙◌}
+use Rattle.std.proofs.Common.{arith, ap, sym, ◌∙◌}
+use Rattle.std.proofs.lemmas.Grind.{common_steps}
 use Rattle.psi_state.specs.declared.Outcome.{Outcome}
 use Rattle.psi_state.specs.declared.Outcome.TheVariants.{Met, NotMet}
 use Rattle.psi_state.specs.Members.{In}
 use Rattle.psi_state.proofs.SetsLemmas.{single-each, In-image}
-use Rattle.psi_rate.specs.Composition.{compose, image_from, AreKeeping, IsReachedFrom}
+use Rattle.psi_rate.specs.Composition.{AreKeeping, IsReachedFrom}
 use Rattle.psi_rate.specs.Doubling.{first_answer, IsFirst, HasNone, TellsFirst}
 use Rattle.psi_rate.specs.Outcomes.{meeting_from, outcome_of, outcome_within, IsOutcome}
 use Rattle.psi_rate.proofs.CompositionLemmas.{reached_from-later}
@@ -42,5 +43,4 @@ outcome_within-is run limit = outcome_of-is run limit (first_answer run limit) (
 -- where the states of a list that has all of a set have met, every state of the set that starts there or earlier is in the one that they met in
 pub meeting-reached : (S : List ℕ → Type 0) (f : ℕ → List ℕ → List ℕ) (xs : List (List ℕ)) (t : ℕ) (s : List ℕ) → AreKeeping S f
     → ((x : List ℕ) → S x → In x xs) → meeting_from f xs t ≡ Some s → IsReachedFrom S f t s
-meeting-reached S f xs t s keeps among met = reached_from-later S f t s keeps
-    (λ x member. single-each (image_from f xs t) s (compose f t x) met (In-image (compose f t) x xs (among x member)))
+meeting-reached S f xs t s keeps among met = grind (arith, common_steps, reached_from-later, single-each, In-image)

@@ -4,6 +4,7 @@ use Rattle.std.specs.Int.{IsPowerOfTwo}
 use Rattle.std.proofs.Common.{inl, inr, ap, subst, arith}
 use Rattle.std.proofs.Math.Nat.{pow-succ', pow-le-pow_right}
 use Rattle.std.proofs.lemmas.Bool.{cases_lt, le-leb, lt-leb}
+use Rattle.std.proofs.lemmas.Grind.{common_steps}
 use Rattle.psi_rate.specs.Rates.{IsLeastPower, power_from, least_power}
 
 pub pow-double : (k : ℕ) → 2 ^ suc k ≡ 2 * 2 ^ k
@@ -17,21 +18,10 @@ below-pow zero = omega arith
 below-pow (suc n) = (let rest = below-pow n in let e = pow-double n in omega arith)
 
 power_from-stops : (n p k : ℕ) → p ≡ 2 ^ k → ((j : ℕ) → j < k → 2 ^ j < n) → n ≤ p → IsLeastPower n p
-power_from-stops n p k is below enough = record {
-  exponent = k;
-  power = is;
-  enough = enough;
-  least = λ j reaches. elim (cases_lt j k) [
-    | inl less ↦ (let small : 2 ^ j < n = below j less in absurd (omega arith))
-    | inr more ↦ (let order : 2 ^ k ≤ 2 ^ j = pow-order k j more in omega arith)
-  ];
-}
+power_from-stops n p k is below enough = grind (arith, common_steps, pow-order)
 
 power_from-is : (more n p k : ℕ) → p ≡ 2 ^ k → ((j : ℕ) → j < k → 2 ^ j < n) → n ≤ 2 ^ (more + k) → IsLeastPower n (power_from more n p)
-power_from-is zero n p k is below enough =
-    let e : 0 + k ≡ k = omega arith in
-    let last : 2 ^ (0 + k) ≡ 2 ^ k = ap (λ i. 2 ^ i) e in
-    power_from-stops n p k is below (omega arith)
+power_from-is zero n p k is below enough = grind (arith, common_steps, power_from-stops)
 power_from-is (suc more) n p k is below enough =
     elim (cases_lt p n) [
       | inl less ↦ (let step : power_from more n (2 * p) ≡ power_from (suc more) n p = rw (lt-leb n p less) refl in
@@ -39,10 +29,7 @@ power_from-is (suc more) n p k is below enough =
           let e : suc more + k ≡ more + suc k = omega arith in
           let last : 2 ^ (suc more + k) ≡ 2 ^ (more + suc k) = ap (λ i. 2 ^ i) e in
           subst (λ m. IsLeastPower n m) step (power_from-is more n (2 * p) (suc k) next
-          (λ j small. elim (cases_lt j k) [
-            | inl h ↦ below j h
-            | inr h ↦ (let same : j ≡ k = omega arith in let s : 2 ^ j ≡ 2 ^ k = ap (λ i. 2 ^ i) same in omega arith)
-          ]) (omega arith)))
+          (λ j small. grind (arith, common_steps)) (omega arith)))
       | inr done ↦ (let stop : p ≡ power_from (suc more) n p = rw (le-leb n p done) refl in
           subst (λ m. IsLeastPower n m) stop (power_from-stops n p k is below done))
     ]

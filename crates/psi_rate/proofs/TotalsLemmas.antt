@@ -1,10 +1,11 @@
 -- Running totals are at most the whole, and the event of a number is the place of the first one above it.
 use Rattle.std.specs.Prelude.{◌≡◌, ℕ, zero, suc, ◌+◌, ◌<◌, ◌≤◌, List, [], ◌∷◌, ◌++◌, length, take, slice_index, refl}
-use Rattle.std.proofs.Common.{ap, ◌∙◌, arith}
+use Rattle.std.proofs.Common.{ap, arith}
 use Rattle.psi_rate.specs.Rates.{total, HasNumber}
 use Rattle.std.proofs.lemmas.List.{take_all}
+use Rattle.std.proofs.lemmas.Grind.{common_steps}
 use Rattle.psi_rate.specs.Inner.TotalsKept.{totals_from}
-use Rattle.psi_rate.specs.Inner.TableKept.{IsFirstAbove}
+use Rattle.psi_rate.specs.Inner.EventTableKept.{IsFirstAbove}
 
 pub total-more : (xs : List ℕ) (x : ℕ) → total (xs ++ x ∷ []) ≡ total xs + x
 total-more [] x = omega arith
@@ -12,10 +13,7 @@ total-more (y ∷ xs) x = (let rest = total-more xs x in omega arith)
 
 pub totals_from-more : (sum : ℕ) (xs : List ℕ) (x : ℕ) → totals_from sum (xs ++ x ∷ []) ≡ totals_from sum xs ++ (sum + total xs + x) ∷ []
 totals_from-more sum [] x = (let e : sum + x ≡ sum + 0 + x = omega arith in ap (λ n. n ∷ []) e)
-totals_from-more sum (y ∷ xs) x =
-    let rest = totals_from-more (sum + y) xs x in
-    let e : sum + y + total xs + x ≡ sum + (y + total xs) + x = omega arith in
-    ap (λ (ys : List ℕ). (sum + y) ∷ ys) (rest ∙ ap (λ n. totals_from (sum + y) xs ++ n ∷ []) e)
+totals_from-more sum (y ∷ xs) x = grind (arith, common_steps, (totals_from-more (sum + y) xs x))
 
 pub length-totals_from : (sum : ℕ) (xs : List ℕ) → length (totals_from sum xs) ≡ length xs
 length-totals_from sum [] = refl
@@ -24,8 +22,7 @@ length-totals_from sum (x ∷ xs) = ap suc (length-totals_from (sum + x) xs)
 pub slice_index-totals_from : (sum : ℕ) (xs : List ℕ) (i : ℕ) → i < length xs → slice_index (totals_from sum xs) i ≡ sum + total (take (suc i) xs)
 slice_index-totals_from sum [] i small = absurd (omega arith)
 slice_index-totals_from sum (x ∷ xs) zero small = omega arith
-slice_index-totals_from sum (x ∷ xs) (suc i) small =
-    (let rest = slice_index-totals_from (sum + x) xs i (omega arith) in rest ∙ omega arith)
+slice_index-totals_from sum (x ∷ xs) (suc i) small = grind (arith, common_steps, (slice_index-totals_from (sum + x) xs i (omega arith)))
 
 pub total-take_order : (xs : List ℕ) (i j : ℕ) → i ≤ j → total (take i xs) ≤ total (take j xs)
 total-take_order [] zero j small = omega arith

@@ -1,3 +1,3 @@
 -- What types keep of their private fields, how they are seen, and laws that clauses rest on.
 pub mod TotalsKept
-pub mod TableKept
+pub mod EventTableKept

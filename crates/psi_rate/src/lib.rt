@@ -7,9 +7,9 @@
 #![tactic(auto)]
 
 mod doubling;
+mod event_table;
 mod numbers;
 mod system;
-mod table;
 mod wheel;
 
 pub use doubling::{Answers, first_answer, first_answer_near, outcome_of};

@@ -4,7 +4,7 @@ ghost use Rattle.std.specs.Prelude.{◌≡◌, ℕ, ◌+◌, ◌%◌, ◌<◌, �
 ghost use Rattle.psi_rate.specs.Numbers.{numbers_below};
 ghost use Rattle.psi_rate.specs.Rates.{AreRates, HasNumber, IsLeastPower, event_of, least_power, total};
 
-use crate::table::Table;
+use crate::event_table::EventTable;
 use psi_state::MOST_TOTAL;
 use std::alloc::{AllocError, Global};
 use std::marker::Model;
@@ -43,19 +43,19 @@ pub struct Wheel {
     totals: Vec<u32>,
     sum: u32,
     modulus: u32,
-    table: Table,
+    table: EventTable,
 }
 
 impl Model for Wheel {
     ghost use Rattle.std.specs.Prelude.{ℕ, List, ◌≡◌};
     ghost use Rattle.psi_rate.specs.Inner.TotalsKept.{IsDial};
-    ghost use Rattle.psi_rate.specs.Inner.TableKept.{IsTable};
+    ghost use Rattle.psi_rate.specs.Inner.EventTableKept.{IsEventTable};
 
     ghost Value = { List ℕ };
 
     ghost view = { λ wheel. wheel.rates.items };
 
-    ghost invariant = { λ wheel. IsDial wheel.rates.items wheel.totals.items wheel.sum wheel.modulus × IsTable wheel.totals.items wheel.modulus wheel.table.entries.items wheel.table.last wheel.table.shift wheel.table.exact };
+    ghost invariant = { λ wheel. IsDial wheel.rates.items wheel.totals.items wheel.sum wheel.modulus × IsEventTable wheel.totals.items wheel.modulus wheel.table.entries.items wheel.table.last wheel.table.shift wheel.table.exact };
 }
 
 impl Wheel {
@@ -89,7 +89,7 @@ impl Wheel {
         let modulus = sum.next_power_of_two();
         Ok(Wheel {
             rates: Vec::from_slice(alloc, rates)?,
-            table: Table::new(alloc, &totals, modulus)?,
+            table: EventTable::new(alloc, &totals, modulus)?,
             totals,
             sum,
             modulus,

@@ -2,6 +2,7 @@
 use Rattle.std.proofs.Common.{rules, ◌≡◌, ℕ, suc, ◌+◌, ◌-◌, ◌<◌, List, [], ◌∷◌, length, refl, ap, ◌∙◌, arith}
 use Rattle.std.proofs.lemmas.List.{length-append}
 use Rattle.std.specs.Vec.{vec_len}
+use Rattle.std.proofs.lemmas.Grind.{common_steps}
 use Rattle.psi_rate.specs.Numbers.{numbers_below}
 use Rattle.psi_rate.specs.Keeping.{mark}
 use Rattle.psi_rate.proofs.MarksLemmas.{mark-order, mark-below, mark-rises, marks-only, counted-more}
@@ -50,9 +51,7 @@ loop-number-preserved g c =
     record {
       kept = record {
         kept = places;
-        counted = counted-more c.args.wheel.now words counts c.push_reserved.new.self.items c.loop-number.number c.len.result number pushed.items
-            (c.len.ensures ∙ held ∙ ap (λ (ns : List ℕ). length ns) places ∙ ap (λ n. length (numbers_below c.args.wheel.now words n)) c.mark-end.ensures)
-            kept.counted;
+        counted = grind (arith, common_steps, counted-more);
         last = (let same = ap (λ n. mark n) last in let is = c.mark-end.ensures in omega arith);
         next = (let same = ap (λ n. mark n) next in let is = c.mark-end.ensures in omega arith);
         room = (let more = c.keep_places.ensures.capacity in let room = kept.room in omega arith);

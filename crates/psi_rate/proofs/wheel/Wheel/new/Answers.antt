@@ -1,6 +1,6 @@
 -- Answers in the proof of `Wheel::new`.
-use Rattle.std.proofs.Common.{ℕ, ◌≤◌, List, length, slice_index, EachIndex, ◌∙◌, sym, subst, arith}
-use Rattle.psi_rate.specs.Inner.TableKept.{IsTable}
+use Rattle.std.proofs.Common.{◌≤◌, length, ◌∙◌, sym, arith}
+use Rattle.std.proofs.lemmas.Grind.{common_steps}
 use Rattle.psi_rate.proofs.DealtLemmas.{total-passes, total-take_more, totals_from-take_more, dial-whole, totals-within, length-some}
 use Rattle.psi_rate.proofs.wheel.Wheel.new.Goals as goal
 
@@ -9,23 +9,12 @@ returns-then-sum-gt-MOST_TOTAL-clause-refused c =
     total-passes c.args.rates.now c.loop-at.at c.loop-at.sum c.loop-at-test.true c.loop-at.invariant.whole c.loop-at.invariant.bounded c.if-sum-gt-MOST_TOTAL.true
 
 pub loop-at-preserved : goal.loop-at-preserved
-loop-at-preserved c =
-    let rates = c.args.rates.now in
-    let at = c.loop-at.at in
-    let kept = c.loop-at.invariant in
-    record {
-      items = c.push_reserved.ensures.items ∙ totals_from-take_more rates c.loop-at.totals.items at c.loop-at.sum c.loop-at-test.true kept.items kept.whole;
-      len = (let l = c.push_reserved.ensures.len in let k = kept.len in omega arith);
-      room = (let l = c.push_reserved.ensures.capacity in let k = kept.room in omega arith);
-      whole = (let more = total-take_more rates at c.loop-at-test.true in let k = kept.whole in omega arith);
-      bounded = c.if-sum-gt-MOST_TOTAL.false;
-    }
+loop-at-preserved c = grind (arith, common_steps, totals_from-take_more, total-take_more)
 
 pub new-requires-clause-within : goal.new-requires-clause-within
 new-requires-clause-within c =
     let kept = c.loop-at.invariant in
-    subst (λ (xs : List ℕ). EachIndex xs (λ i. slice_index xs i ≤ c.next_power_of_two-modulus.result)) (sym c.deref.ensures.value)
-    (totals-within c.args.rates.now c.loop-at.totals.items c.loop-at.sum c.next_power_of_two-modulus.result c.loop-at.at c.loop-at-test.false kept.items kept.whole
+    rw c.deref.ensures.value (totals-within c.args.rates.now c.loop-at.totals.items c.loop-at.sum c.next_power_of_two-modulus.result c.loop-at.at c.loop-at-test.false kept.items kept.whole
     c.next_power_of_two-modulus.ensures.lower_bound)
 
 pub invariant_of-result : goal.invariant_of-result
@@ -36,5 +25,5 @@ invariant_of-result c =
       dial-whole c.args.rates.now c.in_ok-from_slice.field-0.items c.loop-at.totals.items c.loop-at.sum modulus.result c.loop-at.at
           c.requires.few c.requires.least c.requires.most some c.loop-at-test.false c.in_ok-from_slice.ensures.items kept.items kept.whole kept.bounded
           modulus.ensures.power modulus.ensures.lower_bound modulus.ensures.upper_bound,
-      subst (λ (xs : List ℕ). IsTable xs modulus.result c.in_ok-new.field-0.entries.items c.in_ok-new.field-0.last c.in_ok-new.field-0.shift c.in_ok-new.field-0.exact) c.deref.ensures.value c.in_ok-new.ensures.table,
+      rw c.deref.ensures.value at c.in_ok-new.ensures.table,
     )

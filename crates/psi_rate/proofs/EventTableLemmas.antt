@@ -2,14 +2,15 @@
 use Rattle.std.specs.Prelude.{◌≡◌, ℕ, zero, suc, ◌+◌, ◌-◌, ◌*◌, ◌/◌, ◌%◌, ◌^◌, ◌<◌, ◌≤◌, List, [], ◌∷◌, ◌++◌, length, replicate, slice_index, refl}
 use Rattle.std.specs.Int.{w32, bit_at, trailing_zeros}
 use Rattle.std.specs.Int.Bits.{bit_and, bit_or}
-use Rattle.std.proofs.Common.{inl, inr, ap, ◌∙◌, sym, subst, arith, append_assoc, below_more, get_or, length-append, max}
-use Rattle.std.proofs.Math.Nat.{div-mul-le_self, div-le_of_le-mul, div-eq_of_eq-mul_left, mod-eq_of_lt, mod-lt, lt-div-mul-add, mul-le-mul_right, zero-mod}
+use Rattle.std.proofs.Common.{rules, inl, inr, ap, ◌∙◌, sym, subst, arith, get_or, length-append, max}
+use Rattle.std.proofs.Math.Nat.{div-mul-le_self, div-le_of_le-mul, div-eq_of_eq-mul_left, mod-eq_of_lt, lt-div-mul-add, mul-le-mul_right, zero-mod}
 use Rattle.std.proofs.Math.Pow.{mod-mod-pow}
-use Rattle.std.proofs.lemmas.Bool.{cases_lt, cases_eq}
-use Rattle.std.proofs.lemmas.List.{get_or_default, get_or-replicate, length-replicate, replicate-append-replicate, get_or_append_left, get_or-append_right}
+use Rattle.std.proofs.lemmas.Bool.{cases_lt}
+use Rattle.std.proofs.lemmas.List.{get_or_default, length-replicate}
 use Rattle.std.proofs.lemmas.Nat.{and_mask, field_of, mod-pow-add, pow-add, or_mod, le_or_l, le_or_r, pow_pos, div-add-mod'}
 use Rattle.std.proofs.lemmas.Nat.Bits.{bit_at-trailing_zeros, bit_at-pow_other}
-use Rattle.psi_rate.specs.Inner.TableKept.{IsFirstAbove, AreFirstAbove, AreMultiples}
+use Rattle.std.proofs.lemmas.Grind.{common_steps}
+use Rattle.psi_rate.specs.Inner.EventTableKept.{IsFirstAbove, AreFirstAbove, AreMultiples}
 use Rattle.psi_rate.proofs.PowersLemmas.{pow-double, pow-order}
 
 -- a number whose k low bits are zero is a multiple of 2^k
@@ -33,12 +34,7 @@ pub trailing-power : (n k : ℕ) → n ≡ 2 ^ k → n < 2 ^ 32 → trailing_zer
 trailing-power n k is fits =
     let positive = pow_pos k in
     let bits = bit_at-trailing_zeros w32 n (omega arith) fits in
-    elim (cases_eq (trailing_zeros w32 n) k) [
-      | inl same ↦ same
-      | inr other ↦ (let one : bit_at (2 ^ k) (trailing_zeros w32 n) ≡ 1 = ap (λ m. bit_at m (trailing_zeros w32 n)) (sym is) ∙ bits.1 in
-          let none : bit_at (2 ^ k) (trailing_zeros w32 n) ≡ 0 = bit_at-pow_other k (trailing_zeros w32 n) other in
-          absurd (omega (arith, sym one ∙ none)))
-    ]
+    grind (arith, common_steps, bit_at-pow_other)
 
 pub multiple-less : (n j k : ℕ) → j ≤ k → n % 2 ^ k ≡ 0 → n % 2 ^ j ≡ 0
 multiple-less n j k less multiple =
@@ -47,20 +43,11 @@ multiple-less n j k less multiple =
     sym (mod-mod-pow n (k - j) j) ∙ (ap (λ m. m % 2 ^ j) long ∙ zero-mod (2 ^ j))
 
 pub or-multiple : (a b k : ℕ) → bit_or a b % 2 ^ k ≡ 0 → (a % 2 ^ k ≡ 0) × (b % 2 ^ k ≡ 0)
-or-multiple a b k multiple =
-    let low : bit_or (a % 2 ^ k) (b % 2 ^ k) ≡ 0 = sym (or_mod a b k) ∙ multiple in
-    let first = le_or_l (a % 2 ^ k) (b % 2 ^ k) in
-    let second = le_or_r (a % 2 ^ k) (b % 2 ^ k) in
-    (omega arith, omega arith)
+or-multiple a b k multiple = grind (arith, common_steps, or_mod, le_or_l, le_or_r)
 
 -- a multiple above the first number of a stretch is above all its numbers
 pub multiple-past : (t p i n : ℕ) → t % p ≡ 0 → i * p < t → n < i * p + p → n < t
-multiple-past t p i n multiple above inside =
-    let cut : t / p * p + t % p ≡ t = div-add-mod' t p in
-    elim (cases_lt i (t / p)) [
-      | inl less ↦ (let more : suc i * p ≤ t / p * p = mul-le-mul_right p less in omega arith)
-      | inr most ↦ (let under : t / p * p ≤ i * p = mul-le-mul_right p most in absurd (omega arith))
-    ]
+multiple-past t p i n multiple above inside = grind (arith, common_steps)
 
 -- the stretch of a number
 pub stretch-start : (n p : ℕ) → n / p * p ≤ n
@@ -70,30 +57,17 @@ pub stretch-end : (n k : ℕ) → n < n / 2 ^ k * 2 ^ k + 2 ^ k
 stretch-end n k = lt-div-mul-add (pow_pos k)
 
 pub stretch-place : (n p count : ℕ) → n < count * p → n / p < count
-stretch-place n p count small =
-    elim (cases_lt (n / p) count) [
-      | inl less ↦ less
-      | inr most ↦ (let over : count * p ≤ n / p * p = mul-le-mul_right p most in let start = stretch-start n p in absurd (omega arith))
-    ]
+stretch-place n p count small = search rules
 
 -- the stretches that begin below a total are those before its quotient, rounded up
 pub rounded-past : (t k : ℕ) → t ≤ (t + (2 ^ k - 1)) / 2 ^ k * 2 ^ k
-rounded-past t k =
-    let positive = pow_pos k in
-    let near = stretch-end (t + (2 ^ k - 1)) k in omega arith
+rounded-past t k = search rules
 
 pub rounded-below : (t k i : ℕ) → i < (t + (2 ^ k - 1)) / 2 ^ k → i * 2 ^ k < t
-rounded-below t k i small =
-    let positive = pow_pos k in
-    let start = stretch-start (t + (2 ^ k - 1)) (2 ^ k) in
-    let more : suc i * 2 ^ k ≤ (t + (2 ^ k - 1)) / 2 ^ k * 2 ^ k = mul-le-mul_right (2 ^ k) small in omega arith
+rounded-below t k i small = search rules
 
 pub rounded-within : (t k count : ℕ) → t ≤ count * 2 ^ k → (t + (2 ^ k - 1)) / 2 ^ k ≤ count
-rounded-within t k count within =
-    elim (cases_lt count ((t + (2 ^ k - 1)) / 2 ^ k)) [
-      | inl more ↦ (let over = rounded-below t k count more in absurd (omega arith))
-      | inr most ↦ most
-    ]
+rounded-within t k count within = search rules
 
 pub length-filled : (xs : List ℕ) (end e : ℕ) → length (xs ++ replicate (end - length xs) e) ≡ length xs + (end - length xs)
 length-filled xs end e = simp (length-append, length-replicate) refl
@@ -103,42 +77,19 @@ pub filled-first : (totals xs : List ℕ) (k e end : ℕ) → AreFirstAbove tota
     → ((j : ℕ) → j < e → slice_index totals j ≤ length xs * 2 ^ k)
     → ((i : ℕ) → i < end → e < length totals → i * 2 ^ k < slice_index totals e)
     → AreFirstAbove totals k (xs ++ replicate (end - length xs) e)
-filled-first totals xs k e end first place below above = record {
-  each = λ i small. elim (cases_lt i (length xs)) [
-    | inl old ↦ (let same : slice_index (xs ++ replicate (end - length xs) e) i ≡ slice_index xs i = get_or_append_left xs (replicate (end - length xs) e) 0 i old in
-        subst (λ (n : ℕ). IsFirstAbove totals (i * 2 ^ k) n) (sym same) (first.each i old))
-    | inr new ↦ (let count = length-filled xs end e in
-        let late : i - length xs < end - length xs = omega arith in
-        let same : slice_index (xs ++ replicate (end - length xs) e) i ≡ e =
-        get_or-append_right xs (replicate (end - length xs) e) (length xs) i 0 refl new ∙ get_or-replicate (end - length xs) (i - length xs) e 0 late in
-        subst (λ (n : ℕ). IsFirstAbove totals (i * 2 ^ k) n) (sym same) (record {
-          place = place;
-          below = λ j less. (let under = below j less in let order : length xs * 2 ^ k ≤ i * 2 ^ k = mul-le-mul_right (2 ^ k) new in omega arith);
-          above = λ before. above i (omega arith) before;
-        }))
-  ];
-}
+filled-first totals xs k e end first place below above = grind (arith, common_steps)
 
 -- what an exact table says of the first number of a stretch is true of all its numbers
 pub first-event : (totals : List ℕ) (k n e : ℕ) → AreMultiples totals k → IsFirstAbove totals (n / 2 ^ k * 2 ^ k) e → IsFirstAbove totals n e
-first-event totals k n e multiples first = record {
-  place = first.place;
-  below = λ j less. (let under = first.below j less in let start = stretch-start n (2 ^ k) in omega arith);
-  above = λ small. multiple-past (slice_index totals e) (2 ^ k) (n / 2 ^ k) n (multiples.each e small) (first.above small) (stretch-end n k);
-}
+first-event totals k n e multiples first = grind (arith, common_steps)
 
 pub filled-next : (xs ys : List ℕ) (at e : ℕ) → length xs ≤ at → ys ≡ xs ++ replicate (at - length xs) e → ys ++ e ∷ [] ≡ xs ++ replicate (at + 1 - length xs) e
-filled-next xs ys at e start is =
-    let more : at - length xs + 1 ≡ at + 1 - length xs = omega arith in
-    ap (λ (zs : List ℕ). zs ++ e ∷ []) is
-    ∙ (append_assoc xs (replicate (at - length xs) e) (e ∷ [])
-    ∙ ap (λ (zs : List ℕ). xs ++ zs) (replicate-append-replicate (at - length xs) 1 e ∙ ap (λ n. replicate n e) more))
+filled-next xs ys at e start is = grind (arith, common_steps)
 
 -- after a total's stretches are filled, none of the totals so far is past the next stretch's first number
 pub filled-below : (totals xs : List ℕ) (k e : ℕ) → ((j : ℕ) → j < e → slice_index totals j ≤ length xs * 2 ^ k)
     → (m : ℕ) → length xs ≤ m → slice_index totals e ≤ m * 2 ^ k → (j : ℕ) → j < e + 1 → slice_index totals j ≤ m * 2 ^ k
-filled-below totals xs k e below m longer past =
-    below_more _ _ (λ j less. (let under = below j less in let order : length xs * 2 ^ k ≤ m * 2 ^ k = mul-le-mul_right (2 ^ k) longer in omega arith)) past
+filled-below totals xs k e below m longer past = grind (arith, common_steps)
 
 pub multiple-whole : (n p : ℕ) → n % p ≡ 0 → n / p * p ≡ n
 multiple-whole n p multiple = (let cut = div-add-mod' n p in omega arith)
@@ -216,10 +167,7 @@ word-number word modulus count j k power whole =
     subst (λ n. bit_and word (n - 1) ≡ word % n) all (and_mask word (j + k))
 
 pub word-below : (word modulus count j k : ℕ) → count ≡ 2 ^ j → count * 2 ^ k ≡ modulus → word % modulus < modulus
-word-below word modulus count j k power whole =
-    let all : 2 ^ (j + k) ≡ modulus = pow-add 2 j k ∙ (ap (λ n. n * 2 ^ k) (sym power) ∙ whole) in
-    let positive = pow_pos (j + k) in
-    mod-lt word (omega arith)
+word-below word modulus count j k power whole = search rules
 
 -- the entry of a word is the event of the first number of its stretch
 pub entry-first : (totals entries : List ℕ) (modulus last k word entry j : ℕ) → length entries ≡ 2 ^ j → length entries ≡ last + 1 → length entries * 2 ^ k ≡ modulus

@@ -1,8 +1,8 @@
--- Answers in the proof of `Table::event`.
-use Rattle.std.proofs.Common.{◌%◌, ◌^◌, length, subst, arith}
-use Rattle.psi_rate.specs.Inner.TableKept.{IsFirstAbove}
-use Rattle.psi_rate.proofs.TableLemmas.{entry-first, first-event, stretch-start, word-number}
-use Rattle.psi_rate.proofs.table.Table.event.Goals as goal
+-- Answers in the proof of `EventTable::event`.
+use Rattle.std.proofs.Common.{◌%◌, ◌^◌, length, arith}
+use Rattle.std.proofs.lemmas.Grind.{common_steps}
+use Rattle.psi_rate.proofs.EventTableLemmas.{entry-first, first-event, stretch-start, word-number}
+use Rattle.psi_rate.proofs.event_table.EventTable.event.Goals as goal
 
 pub returns-then-self : goal.returns-then-self
 returns-then-self c =
@@ -24,8 +24,4 @@ first_above-requires-clause-below c = λ k small.
     omega arith)
 
 pub returns-else-self : goal.returns-else-self
-returns-else-self c =
-    let kept = c.requires.table in
-    let table = c.args.self.now in
-    subst (λ n. IsFirstAbove c.args.totals.now n c.first_above.result)
-    (word-number c.args.word c.args.modulus (length table.entries.items) kept.exponent table.shift kept.count kept.stretches) c.first_above.ensures
+returns-else-self c = grind (arith, common_steps, word-number)

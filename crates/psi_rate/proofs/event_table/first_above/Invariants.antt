@@ -1,6 +1,6 @@
 -- Invariants of the loops of `first_above`.
 use Rattle.std.proofs.Common.{ℕ, ◌<◌, ◌≤◌, length, get_or}
-use Rattle.psi_rate.proofs.table.first_above.Given as goal
+use Rattle.psi_rate.proofs.event_table.first_above.Given as goal
 
 abbrev pub invariant-loop-event : goal.invariant-loop-event
 invariant-loop-event l = record {

@@ -2,7 +2,7 @@
 
 ghost use Rattle.std.specs.Prelude.{◌≡◌, ℕ, ◌+◌, ◌-◌, ◌*◌, ◌%◌, ◌^◌, ◌<◌, ◌≤◌, ◌++◌, length, replicate, slice_index, vec_capacity, IfOk, EachIndex};
 ghost use Rattle.std.specs.Int.{IsPowerOfTwo};
-ghost use Rattle.psi_rate.specs.Inner.TableKept.{AreFirstAbove, AreMultiples, IsFirstAbove, IsTable};
+ghost use Rattle.psi_rate.specs.Inner.EventTableKept.{AreFirstAbove, AreMultiples, IsFirstAbove, IsEventTable};
 
 use std::alloc::{AllocError, Global};
 
@@ -12,28 +12,28 @@ const MOST_ENTRIES: u32 = 12;
 // The numbers below a power of two, cut into stretches of 2 to the power `shift` numbers: each entry is the event of
 // the first number of a stretch. In an exact table all numbers of a stretch have the same event.
 #[derive(Drop, Debug)]
-pub(crate) struct Table {
+pub(crate) struct EventTable {
     entries: Vec<u16>,
     last: u32,
     shift: u32,
     exact: bool,
 }
 
-impl Table {
+impl EventTable {
     // The table of these running totals over the numbers below the modulus: with the longest stretches that are exact,
     // or, where these would be more than 4,096, with 4,096.
-    pub(crate) fn new(alloc: Global, totals: &[u32], modulus: u32) -> Result<Table, AllocError>
+    pub(crate) fn new(alloc: Global, totals: &[u32], modulus: u32) -> Result<EventTable, AllocError>
         requires few { length totals.now ≤ 1024 }
         requires power { IsPowerOfTwo modulus }
         requires bounded { modulus ≤ 2 ^ 31 }
         requires within { EachIndex totals.now (λ k. slice_index totals.now k ≤ modulus) }
-        ensures table { IfOk result (λ table. IsTable totals.now modulus table.entries.items table.last table.shift table.exact) }
+        ensures table { IfOk result (λ table. IsEventTable totals.now modulus table.entries.items table.last table.shift table.exact) }
     {
         let common = common_zeros(totals, modulus);
         let least = modulus.trailing_zeros().saturating_sub(MOST_ENTRIES);
         let shift = common.max(least);
         let count = modulus >> shift;
-        Ok(Table {
+        Ok(EventTable {
             entries: entries(alloc, totals, count as usize, shift)?,
             last: count - 1,
             shift,
@@ -46,7 +46,7 @@ impl Table {
     #[inline]
     pub(crate) fn event(&self, totals: &[u32], modulus: u32, word: u32) -> u16
         requires few { length totals.now ≤ 1024 }
-        requires table { IsTable totals.now modulus self.now.entries.items self.now.last self.now.shift self.now.exact }
+        requires table { IsEventTable totals.now modulus self.now.entries.items self.now.last self.now.shift self.now.exact }
         ensures { IsFirstAbove totals.now (word % modulus) result }
     {
         let entry = self.entries[(word >> self.shift & self.last) as usize];

@@ -1,6 +1,6 @@
 -- Invariants of the loops of `common_zeros`.
 use Rattle.std.proofs.Common.{◌≡◌, ℕ, ◌%◌, ◌^◌, ◌<◌, ◌≤◌, get_or}
-use Rattle.psi_rate.proofs.table.common_zeros.Given as goal
+use Rattle.psi_rate.proofs.event_table.common_zeros.Given as goal
 
 abbrev pub invariant-loop-total : goal.invariant-loop-total
 invariant-loop-total l = record {

@@ -1,6 +1,6 @@
 -- Invariants of the loops of `fill`.
 use Rattle.std.proofs.Common.{◌≡◌, ◌-◌, ◌≤◌, ◌++◌, length, max, replicate, vec_len, vec_capacity}
-use Rattle.psi_rate.proofs.table.fill.Given as goal
+use Rattle.psi_rate.proofs.event_table.fill.Given as goal
 
 abbrev pub invariant-loop : goal.invariant-loop
 invariant-loop l = record {

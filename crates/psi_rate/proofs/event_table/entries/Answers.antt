@@ -1,9 +1,9 @@
 -- Answers in the proof of `entries`.
-use Rattle.std.proofs.Common.{ℕ, ◌*◌, ◌-◌, ◌%◌, ◌^◌, List, length, ap, arith, subst, sym}
+use Rattle.std.proofs.Common.{◌*◌, ◌-◌, ◌%◌, ◌^◌, ap, arith}
 use Rattle.std.proofs.lemmas.Nat.{one_shl}
-use Rattle.psi_rate.specs.Inner.TableKept.{AreFirstAbove}
-use Rattle.psi_rate.proofs.TableLemmas.{filled-first, filled-stretch}
-use Rattle.psi_rate.proofs.table.entries.Goals as goal
+use Rattle.std.proofs.lemmas.Grind.{common_steps}
+use Rattle.psi_rate.proofs.EventTableLemmas.{filled-first, filled-stretch}
+use Rattle.psi_rate.proofs.event_table.entries.Goals as goal
 
 pub loop-event-preserved : goal.loop-event-preserved
 loop-event-preserved c =
@@ -20,9 +20,4 @@ loop-event-preserved c =
     }
 
 pub returns-clause-first : goal.returns-clause-first
-returns-clause-first c =
-    let kept = c.loop-event.invariant in
-    let past = c.loop-event-test.false in
-    subst (λ (xs : List ℕ). AreFirstAbove c.args.totals.now c.args.shift xs) (sym c.fill-2.ensures.items)
-    (filled-first c.args.totals.now c.loop-event.entries.items c.args.shift (length c.args.totals.now) c.args.count kept.first (omega arith)
-    (λ j small. kept.below j (omega arith)) (λ i small none. absurd (omega arith)))
+returns-clause-first c = grind (arith, common_steps, filled-first)

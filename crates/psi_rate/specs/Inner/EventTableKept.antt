@@ -16,7 +16,7 @@ pub record AreMultiples (totals : List ℕ) (shift : ℕ) : Type 0 where
   pub each : (k : ℕ) → k < length totals → slice_index totals k % 2 ^ shift ≡ 0
 
 -- what a table keeps: at most 4,096 stretches, a power of two, that make up the numbers below the modulus, and the event of the first number of each; in an exact table the totals stand between stretches
-pub record IsTable (totals : List ℕ) (modulus : ℕ) (entries : List ℕ) (last shift : ℕ) (exact : Bool) : Type 0 where
+pub record IsEventTable (totals : List ℕ) (modulus : ℕ) (entries : List ℕ) (last shift : ℕ) (exact : Bool) : Type 0 where
   pub exponent : ℕ
   pub count : length entries ≡ 2 ^ exponent
   pub places : length entries ≡ last + 1

@@ -1,9 +1,9 @@
--- Answers in the proof of `Table::new`.
-use Rattle.std.proofs.Common.{◌*◌, ◌^◌, arith, ap, ◌∙◌, sym, subst}
+-- Answers in the proof of `EventTable::new`.
+use Rattle.std.proofs.Common.{arith}
 use Rattle.std.proofs.lemmas.Bool.{eqb-true}
-use Rattle.psi_rate.specs.Inner.TableKept.{AreMultiples}
-use Rattle.psi_rate.proofs.TableLemmas.{shift-stretches}
-use Rattle.psi_rate.proofs.table.Table.new.Goals as goal
+use Rattle.std.proofs.lemmas.Grind.{common_steps}
+use Rattle.psi_rate.proofs.EventTableLemmas.{shift-stretches}
+use Rattle.psi_rate.proofs.event_table.EventTable.new.Goals as goal
 
 pub entries-requires-clause-within : goal.entries-requires-clause-within
 entries-requires-clause-within c = λ i small.
@@ -24,14 +24,5 @@ returns c =
     c.ranges.modulus.fits c.common_zeros-common.ensures.bits c.common_zeros-common.ensures.modulus c.saturating_sub-least.ensures c.max-shift.ensures in
     let made = c.in_ok-entries.ensures in
     record {
-      table = record {
-        exponent = cut.exponent;
-        count = made.count ∙ cut.power;
-        places = (let some = cut.some in let count = made.count in omega arith);
-        stretches = ap (λ n. n * 2 ^ c.max-shift.result) made.count ∙ cut.whole;
-        short = cut.short;
-        few_entries = (let few = cut.few in let count = made.count in omega arith);
-        first = made.first;
-        multiples = λ exact. subst (λ n. AreMultiples c.args.totals.now n) (sym (eqb-true _ _ exact)) c.common_zeros-common.ensures.totals;
-      };
+      table = grind (arith, common_steps, eqb-true);
     }

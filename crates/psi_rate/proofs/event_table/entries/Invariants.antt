@@ -1,7 +1,7 @@
 -- Invariants of the loops of `entries`.
 use Rattle.std.proofs.Common.{ℕ, ◌*◌, ◌^◌, ◌<◌, ◌≤◌, length, get_or, vec_capacity}
-use Rattle.psi_rate.specs.Inner.TableKept.{AreFirstAbove}
-use Rattle.psi_rate.proofs.table.entries.Given as goal
+use Rattle.psi_rate.specs.Inner.EventTableKept.{AreFirstAbove}
+use Rattle.psi_rate.proofs.event_table.entries.Given as goal
 
 abbrev pub invariant-loop-event : goal.invariant-loop-event
 invariant-loop-event l = record {
