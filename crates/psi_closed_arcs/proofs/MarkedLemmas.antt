@@ -1,6 +1,7 @@
 -- Marks tell which ends of arcs are reached, and so which arcs are useful.
-use Rattle.std.proofs.Common.{◌≡◌, ◌⊎◌, ◌↔◌, ℕ, zero, suc, ◌+◌, ◌-◌, ◌^◌, ◌<◌, ◌≤◌, true, false, List, [], ◌∷◌, length, slice_index, slice_set, min, max, inl, inr, ap, sym, ◌∙◌, subst, arith, refl}
+use Rattle.std.proofs.Common.{rules, ◌≡◌, ◌⊎◌, ◌↔◌, ℕ, zero, suc, ◌+◌, ◌-◌, ◌^◌, ◌<◌, ◌≤◌, true, false, List, [], ◌∷◌, length, slice_index, slice_set, min, max, inl, inr, ap, sym, ◌∙◌, subst, arith, refl}
 use Rattle.std.proofs.lemmas.Bool.{cases_eq, cases_lt, lt-ltb, le-ltb, eq-eqb, ne_eqb, true≢false}
+use Rattle.std.proofs.lemmas.Grind.{common_steps}
 use Rattle.psi_closed_arcs.specs.declared.ends.Arc.{Arc}
 use Rattle.psi_closed_arcs.specs.declared.sums.Sums.{Sums}
 use Rattle.psi_closed_arcs.specs.declared.marks.Marks.{Marks}
@@ -27,11 +28,7 @@ module _ (arcs : List Arc) (l : ℕ) (window : Window) (marks row old now : Sums
       let less = below.less in
       record {
         enters = below.enters;
-        less = elim (cases_lt below.enters.before n) [
-          | inl fits ↦ fits
-          | inr more ↦ (let same : below.enters.before ≡ n = omega arith in
-              absurd (true≢false (sym (subst (λ k. has marks k ≡ true) same below.enters.marked) ∙ bare)))
-        ];
+        less = grind (arith, common_steps, true≢false, true);
       }
 
   -- it is marked, and its row leads to the sums
@@ -70,25 +67,19 @@ exits-some arcs l s window marks row both leads ranged joined t small given =
 
 pub exits-none : (arcs : List Arc) (l s : ℕ) (window : Window) (marks row both : Sums) → ((v : ℕ) → Leads row s v ↔ (Listed arcs l s v × IsWithin window v))
     → ((t : ℕ) → t < 320 → (has both t ≡ true) ↔ ((has row t ≡ true) × (has marks t ≡ true))) → ((t : ℕ) → t < 320 → has both t ≡ false) → Exits arcs l s window marks → ⊥
-exits-none arcs l s window marks row both leads joined bare exits =
-    let led = (leads exits.value).1 (exits.listed, exits.within) in
-    true≢false (sym ((joined (s + exits.value) led.small).1 (led.there, exits.marked)) ∙ bare (s + exits.value) led.small)
+exits-none arcs l s window marks row both leads joined bare exits = search rules
 
 -- a walk whose arcs are of another set
 walk-only : (A B : ℕ → ℕ → ℕ → Type 0) (i s : ℕ) (xs : List ℕ) (t : ℕ) → ((l r v : ℕ) → i ≤ l → l < i + length xs → A l r v → B l r v) → Walk A i s xs t → Walk B i s xs t
 walk-only A B i s [] t each walk = walk
-walk-only A B i s (v ∷ vs) t each walk =
-    (each i s v (omega arith) (omega arith) walk.0, walk-only A B (suc i) (s + v) vs t (λ l r u low high. each l r u (omega arith) (omega arith)) walk.1)
+walk-only A B i s (v ∷ vs) t each walk = grind (arith, common_steps, (walk-only A B (suc i) (s + v) vs t (λ l r u low high. each l r u (omega arith) (omega arith)) walk.1))
 
 module _ (arcs : List Arc) (rule : Rule) (n t : ℕ) (ranged : AreRanged n t arcs) (fits : t ≤ 256) where
   -- the marks of the first queue are given
   pub behind-begun : (low start : ℕ) (marks : List Sums) (first : Sums) → ((i : ℕ) → low ≤ i → i ≤ start → sums_at marks i ≡ first)
       → ((l s v : ℕ) → low ≤ l → l ≤ start → Listed arcs l s v → (has first s ≡ true) ↔ Before (Only (Listed arcs) (Allows rule)) l s)
       → MarkBefore (Listed arcs) (Only (Listed arcs) (Allows rule)) low start marks
-  behind-begun low start marks first filled begin = record {
-    each = λ l s v above below listed.
-        subst (λ (x : Sums). (has x s ≡ true) ↔ Before (Only (Listed arcs) (Allows rule)) l s) (sym (filled l above below)) (begin l s v above below listed);
-  }
+  behind-begun low start marks first filled begin = search rules
 
   -- one queue more from the front
   pub behind-next : (low level : ℕ) (window : Window) (marks : List Sums) (own next : Sums) → low ≤ level → suc level < length marks → own ≡ sums_at marks level → window ≡ window_at rule level
@@ -125,11 +116,7 @@ module _ (arcs : List Arc) (rule : Rule) (n t : ℕ) (ranged : AreRanged n t arc
   pub ahead-begun : (stop high : ℕ) (marks : List Sums) (last : Sums) → ((i : ℕ) → stop + 1 ≤ i → i ≤ high + 1 → sums_at marks i ≡ last)
       → ((l s v : ℕ) → stop ≤ l → l ≤ high → Listed arcs l s v → (has last (s + v) ≡ true) ↔ After (Only (Listed arcs) (Allows rule)) n t (suc l) (s + v))
       → MarkAfter (Listed arcs) (Only (Listed arcs) (Allows rule)) n t stop high marks
-  ahead-begun stop high marks last filled begin = record {
-    each = λ l s v above below listed.
-        subst (λ (x : Sums). (has x (s + v) ≡ true) ↔ After (Only (Listed arcs) (Allows rule)) n t (suc l) (s + v)) (sym (filled (suc l) (omega arith) (omega arith)))
-        (begin l s v above below listed);
-  }
+  ahead-begun stop high marks last filled begin = search rules
 
   -- one queue more from the back
   pub ahead-previous : (high level : ℕ) (window : Window) (marks : List Sums) (own left : Sums) → 0 < level → level ≤ high → level < n → level < length marks → own ≡ sums_at marks (level + 1)
@@ -155,8 +142,7 @@ module _ (arcs : List Arc) (rule : Rule) (n t : ℕ) (ranged : AreRanged n t arc
                   value = split.0;
                   listed = split.1.0;
                   within = subst (λ (w : Window). IsWithin w split.0) (sym is) split.1.1;
-                  marked = subst (λ (x : Sums). has x (s + v + split.0) ≡ true) (sym read)
-                      (subst (λ k. is_marked marks k (s + v + split.0) ≡ true) (sym f) ((marked.each level (s + v) split.0 (omega arith) order split.1.0).1 split.2));
+                  marked = grind (arith, common_steps, true);
                 })),
           )))
     ];
@@ -236,10 +222,7 @@ tells-between arcs n t ranged fits from to low high least most marks rule P mark
 -- the numbers of `past` and `here`
 pub past-small : (i l : ℕ) → past i l ≤ 1
 unfolding past
-past-small i l = elim (cases_lt i l) [
-  | inl less ↦ (let t = lt-ltb i l less in rw t (omega arith))
-  | inr more ↦ (let f = le-ltb i l more in rw f (omega arith))
-]
+past-small i l = search rules
 
 pub past-yes : (i l : ℕ) → i < l → past i l ≡ 1
 unfolding past
@@ -262,10 +245,7 @@ here-small i l = elim (cases_eq i l) [ inl e ↦ omega (arith, here-yes i l e) |
 
 -- a queue is before another or at it, but not both
 pub past-here-small : (i l : ℕ) → past i l + here i l ≤ 1
-past-here-small i l = elim (cases_lt i l) [
-  | inl less ↦ omega (arith, past-small i l, here-no i l (λ e. omega arith))
-  | inr more ↦ omega (arith, past-no i l more, here-small i l)
-]
+past-here-small i l = grind (arith, common_steps, past-small, here-no, past-no, here-small)
 
 own-le : (xs : List ℕ) (i : ℕ) → slice_index xs i ≤ customers xs
 own-le [] i = omega arith
@@ -304,13 +284,7 @@ useful-shiftable A n t from k to room l s v source some useful =
 
 -- a queue is before the next one exactly where it is before it, or there
 pub past-next : (i l : ℕ) → past i (l + 1) ≡ past i l + here i l
-past-next i l = elim (cases_lt i l) [
-  | inl less ↦ omega (arith, past-yes i l less, past-yes i (l + 1) (omega arith), here-no i l (λ e. omega arith))
-  | inr more ↦ elim (cases_eq i l) [
-    | inl e ↦ omega (arith, past-no i l more, past-yes i (l + 1) (omega arith), here-yes i l e)
-    | inr other ↦ omega (arith, past-no i l more, past-no i (l + 1) (omega arith), here-no i l other)
-  ]
-]
+past-next i l = grind (arith, common_steps, past-yes, here-no, past-no, here-yes)
 
 -- the rows of shifted arcs
 module _ (A : ℕ → ℕ → ℕ → Type 0) (marks : Marks) (from to total l s sum : ℕ) (kept turned : Sums) (source : s + past from l ≡ sum + past to l)
@@ -345,31 +319,10 @@ module _ (A : ℕ → ℕ → ℕ → Type 0) (marks : Marks) (from to total l s
       (u - sum, keep, omega arith)
 
   shifts-lead : (v : ℕ) → Leads turned s v ↔ Shifts A marks from to l s v
-  shifts-lead v = (
-    λ leads. (let found = shifts-own (s + v) leads.small leads.there in
-        let e = found.2 in
-        record { sum = sum; own = found.0; keeps = found.1; shifted = record { sums = source; owns = omega arith } }),
-    λ shifts. (let sums = shifts.shifted.sums in
-        let owns = shifts.shifted.owns in
-        let same : shifts.sum ≡ sum = omega arith in
-        let keep : Keeps A marks l sum shifts.own = subst (λ k. Keeps A marks l k shifts.own) same shifts.keeps in
-        let led = (keeps shifts.own).1 keep in
-        let room = (shiftable sum shifts.own keep.there keep.reached).room in
-        let front = past-next from l in
-        let back = past-next to l in
-        let small = led.small in
-        let less : s + v < 320 = omega arith in
-        record { small = less; there = moved (s + v) (sum + shifts.own) less led.small (omega arith) ∙ led.there }),
-  )
+  shifts-lead v = grind (arith, common_steps, shifts-own, past-next)
 
   shifts-ranged : (t : ℕ) → t < 320 → has turned t ≡ true → (s ≤ t) × (t ≤ total)
-  shifts-ranged t small given =
-      let found = shifts-own t small given in
-      let e = found.2 in
-      let can = shiftable sum found.0 found.1.there found.1.reached in
-      let room = can.room in
-      let own = can.source in
-      (omega arith, omega arith)
+  shifts-ranged t small given = grind (arith, common_steps, shifts-own)
 
   pub shifts-both : ((v : ℕ) → Leads turned s v ↔ Shifts A marks from to l s v) × ((t : ℕ) → t < 320 → has turned t ≡ true → (s ≤ t) × (t ≤ total))
   shifts-both = (shifts-lead, shifts-ranged)

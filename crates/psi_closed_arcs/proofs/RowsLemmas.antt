@@ -1,8 +1,8 @@
 -- Arcs by their rows.
-use Rattle.std.proofs.Common.{◌≡◌, ◌⊎◌, ◌↔◌, ℕ, zero, suc, ◌+◌, ◌*◌, ◌/◌, ◌%◌, ◌<◌, ◌≤◌, Bool, true, false, cond, List, [], ◌∷◌, ◌++◌, length, get_or, take, drop, slice_set, inl, inr, ap, sym, ◌∙◌, subst, arith, refl, length-set, get_or-set_same, get_or-set_other}
+use Rattle.std.proofs.Common.{rules, ◌≡◌, ◌⊎◌, ◌↔◌, ℕ, zero, suc, ◌+◌, ◌*◌, ◌%◌, ◌<◌, ◌≤◌, Bool, true, false, cond, List, [], ◌∷◌, ◌++◌, length, get_or, take, drop, slice_set, inl, inr, ap, sym, ◌∙◌, subst, arith, refl, get_or-set_same, get_or-set_other}
 use Rattle.std.proofs.lemmas.List.{get_or_default}
 use Rattle.std.proofs.lemmas.Bool.{cases_eq, false≢true, and_parts, and_from, le-leb, leb-true}
-use Rattle.std.proofs.Math.Seq.{take-append_seam}
+use Rattle.std.proofs.lemmas.Grind.{common_steps}
 use Rattle.psi_state.specs.Members.{In}
 use Rattle.psi_state.specs.Ascending.{IsDistinct}
 use Rattle.psi_closed_arcs.specs.declared.ends.Arc.{Arc}
@@ -16,24 +16,19 @@ abbrev pub arc_of : ℕ → ℕ → ℕ → Arc
 arc_of l s v = record { level = l; before = s; value = v }
 
 pub arc-same : (a b : Arc) → a.level ≡ b.level → a.before ≡ b.before → a.value ≡ b.value → a ≡ b
-arc-same a b l s v =
-    ap (λ (k : ℕ). arc_of k a.before a.value) l ∙ (ap (λ (k : ℕ). arc_of b.level k a.value) s ∙ ap (λ (k : ℕ). arc_of b.level b.before k) v)
+arc-same a b l s v = search rules
 
 number-is : (l s v : ℕ) → s ≤ 256 → v ≤ 256 → arc_number (l * 66049 + (s * 257 + v)) ≡ arc_of l s v
 number-is l s v small few = arc-same (arc_number (l * 66049 + (s * 257 + v))) (arc_of l s v) (omega arith) (omega arith) (omega arith)
 
 number-same : (n m : ℕ) → arc_number n ≡ arc_number m → n ≡ m
-number-same n m e =
-    let level : n / 66049 ≡ m / 66049 = ap (λ (a : Arc). a.level) e in
-    let before : n / 257 % 257 ≡ m / 257 % 257 = ap (λ (a : Arc). a.before) e in
-    let value : n % 257 ≡ m % 257 = ap (λ (a : Arc). a.value) e in
-    omega arith
+number-same n m e = search rules
 
-In-cond : (b : Bool) (x y : Arc) (rest : List Arc) → ((x ≡ y) × (b ≡ true)) ⊎ In x rest → In x (cond b (y ∷ rest) rest)
+pub In-cond : {A : Type 0} (b : Bool) (x y : A) (rest : List A) → ((x ≡ y) × (b ≡ true)) ⊎ In x rest → In x (cond b (y ∷ rest) rest)
 In-cond true x y rest h = elim h [ inl e ↦ inl e.0 | inr t ↦ inr t ]
 In-cond false x y rest h = elim h [ inl e ↦ absurd (false≢true e.1) | inr t ↦ t ]
 
-In-of_cond : (b : Bool) (x y : Arc) (rest : List Arc) → In x (cond b (y ∷ rest) rest) → ((x ≡ y) × (b ≡ true)) ⊎ In x rest
+pub In-of_cond : {A : Type 0} (b : Bool) (x y : A) (rest : List A) → In x (cond b (y ∷ rest) rest) → ((x ≡ y) × (b ≡ true)) ⊎ In x rest
 In-of_cond true x y rest member = elim member [ inl e ↦ inl (e, refl) | inr t ↦ inr t ]
 In-of_cond false x y rest member = inr member
 
@@ -81,12 +76,7 @@ pub record IsKept (rows : List Sums) (levels total l s v : ℕ) : Type 0 where
 
 pub listed-kept : (rows : List Sums) (levels total l s v : ℕ) → Listed (arcs_of rows levels total) l s v → IsKept rows levels total l s v
 unfolding arcs_of
-listed-kept rows levels total l s v member =
-    let found = below-numbered rows total (levels * 66049) (arc_of l s v) member in
-    let level : l ≡ found.number / 66049 = ap (λ (a : Arc). a.level) found.is in
-    let parts = and_parts _ (has (row_of rows l s) (s + v)) found.kept in
-    let less = found.less in
-    record { place = omega arith; sum = leb-true (s + v) total parts.0; there = parts.1 }
+listed-kept rows levels total l s v member = grind (arith, common_steps, below-numbered, and_parts, leb-true)
 
 pub kept-listed : (rows : List Sums) (levels total l s v : ℕ) → total ≤ 256 → IsKept rows levels total l s v → Listed (arcs_of rows levels total) l s v
 unfolding arcs_of
@@ -155,14 +145,7 @@ module _ (rows : List Sums) (levels total : ℕ) (a : ArcList) (keep : AreRows r
       )
 
   pub seen-range : (l s : ℕ) (row : Sums) → l < a.levels → s ≤ a.total → row ≡ row_of rows l s → (t : ℕ) → t < 320 → has row t ≡ true → (s ≤ t) × (t ≤ a.total)
-  seen-range l s row level before read t small given =
-      let levels_are = seen-levels in
-      let total_is = seen-total in
-      let fits = keep.small in
-      let range = keep.ranged (l * 257 + s) t (omega arith) small (subst (λ (x : Sums). has x t ≡ true) read given) in
-      let low = range.0 in
-      let high = range.1 in
-      (omega arith, omega arith)
+  seen-range l s row level before read t small given = search rules
 
 abbrev pub none : Sums
 none = record { words = 0 ∷ 0 ∷ 0 ∷ 0 ∷ 0 ∷ [] }
@@ -183,35 +166,10 @@ module _ (rows : List Sums) (levels total : ℕ) (a : ArcList) (keep : AreRows r
   written-inside = omega (arith, seen-end rows levels total a keep is l s level before)
 
   pub written-rows : AreRows (slice_set rows e row) levels total
-  written-rows =
-      let total_is = seen-total rows levels total a keep is in
-      let small = keep.small in
-      record {
-        some = keep.some;
-        few = keep.few;
-        small = keep.small;
-        count = length-set rows e row ∙ keep.count;
-        ranged = λ f t within less given. elim (cases_eq f e) [
-          | inl same ↦ (let range = ranged t less (subst (λ (x : Sums). has x t ≡ true) (ap (λ k. sums_at (slice_set rows e row) k) same ∙ read-own rows e row written-inside) given) in
-              let low = range.0 in
-              let high = range.1 in
-              (omega arith, omega arith))
-          | inr other ↦ keep.ranged f t within less (subst (λ (x : Sums). has x t ≡ true) (read-other rows e f row other) given)
-        ];
-      }
+  written-rows = search rules
 
   pub written-own : (v : ℕ) → Listed (arcs_of (slice_set rows e row) levels total) l s v ↔ Leads row s v
-  written-own v =
-      let total_is = seen-total rows levels total a keep is in
-      let small = keep.small in
-      let read : row_of (slice_set rows e row) l s ≡ row = ap (λ k. sums_at (slice_set rows e row) k) (sym at) ∙ read-own rows e row written-inside in (
-        λ member. (let kept = listed-kept (slice_set rows e row) levels total l s v member in
-            let sum = kept.sum in
-            record { small = omega arith; there = subst (λ (x : Sums). has x (s + v) ≡ true) read kept.there }),
-        λ leads. (let high = (ranged (s + v) leads.small leads.there).1 in
-            kept-listed (slice_set rows e row) levels total l s v keep.small
-            (record { place = written-place; sum = omega arith; there = subst (λ (x : Sums). has x (s + v) ≡ true) (sym read) leads.there })),
-      )
+  written-own v = grind (arith, common_steps, seen-total, slice_set, read-own, written-inside, listed-kept, true, kept-listed, written-place)
 
   pub written-others : (i r v : ℕ) → (i ≡ l → r ≡ s → ⊥) → Listed (arcs_of (slice_set rows e row) levels total) i r v ↔ Listed a.arcs i r v
   written-others i r v other =
@@ -227,14 +185,7 @@ module _ (rows : List Sums) (levels total : ℕ) (a : ArcList) (keep : AreRows r
 
 -- rows without a sum
 empty-below : (rows : List Sums) (total n : ℕ) → total ≤ 256 → n ≤ length rows * 257 → AreEmpty rows → (a : Arc) → In a (arcs_below rows total n) → ⊥
-empty-below rows total n small within empty a member =
-    let found = below-numbered rows total n a member in
-    let parts = and_parts _ (has (row_of rows a.level a.before) (a.before + a.value)) found.kept in
-    let sum = leb-true (a.before + a.value) total parts.0 in
-    let less = found.less in
-    let level : a.level ≡ found.number / 66049 = ap (λ (b : Arc). b.level) found.is in
-    let before : a.before ≡ found.number / 257 % 257 = ap (λ (b : Arc). b.before) found.is in
-    false≢true (sym (empty.each (a.level * 257 + a.before) (a.before + a.value) (omega arith) (omega arith)) ∙ parts.1)
+empty-below rows total n small within empty a member = grind (arith, common_steps, below-numbered, and_parts, leb-true, false≢true)
 
 no-members : (xs : List Arc) → ((a : Arc) → In a xs → ⊥) → xs ≡ []
 no-members [] none_in = refl
@@ -246,13 +197,7 @@ empty-arcs rows levels total small count empty =
     no-members (arcs_below rows total (levels * 66049)) (empty-below rows total (levels * 66049) small (omega arith) empty)
 
 pub empty-rows : (rows : List Sums) (levels total : ℕ) → 1 ≤ levels → levels ≤ 32 → total ≤ 256 → length rows ≡ levels * 257 → AreEmpty rows → AreRows rows levels total
-empty-rows rows levels total some few small count empty = record {
-  some = some;
-  few = few;
-  small = small;
-  count = count;
-  ranged = λ e t within less given. absurd (false≢true (sym (empty.each e t (omega arith) less) ∙ given));
-}
+empty-rows rows levels total some few small count empty = search rules
 
 -- the count of the arcs with the first numbers
 count-cond : (b : Bool) (x : Arc) (xs : List Arc) → length (cond b (x ∷ xs) xs) ≡ length xs + cond b 1 0
@@ -260,10 +205,7 @@ count-cond true x xs = omega arith
 count-cond false x xs = omega arith
 
 pub count-more : (rows : List Sums) (total n : ℕ) → length (arcs_below rows total (n + 1)) ≡ length (arcs_below rows total n) + cond (keeps rows total (arc_number n)) 1 0
-count-more rows total n =
-    let e : suc n ≡ n + 1 = omega arith in
-    subst (λ k. length (arcs_below rows total k) ≡ length (arcs_below rows total n) + cond (keeps rows total (arc_number n)) 1 0) e
-    (count-cond (keeps rows total (arc_number n)) (arc_number n) (arcs_below rows total n))
+count-more rows total n = search rules
 
 -- a row that is read
 pub read-row : (rows : List Sums) (i : ℕ) (w : Sums) → i < length rows → w ≡ get_or rows i w → w ≡ sums_at rows i
@@ -271,15 +213,11 @@ read-row rows i w within read = read ∙ get_or_default rows i w none within
 
 pub empty-more : (rows : List Sums) (n : ℕ) (row : Sums) → n < length rows → ((t : ℕ) → t < 320 → has row t ≡ false) → ((e t : ℕ) → e < n → t < 320 → has (sums_at rows e) t ≡ false)
     → (e t : ℕ) → e < n + 1 → t < 320 → has (sums_at (slice_set rows n row) e) t ≡ false
-empty-more rows n row within bare before e t less small = elim (cases_eq e n) [
-  | inl same ↦ subst (λ (x : Sums). has x t ≡ false) (sym (ap (λ k. sums_at (slice_set rows n row) k) same ∙ read-own rows n row within)) (bare t small)
-  | inr other ↦ subst (λ (x : Sums). has x t ≡ false) (sym (read-other rows n e row other)) (before e t (omega arith) small)
-]
+empty-more rows n row within bare before e t less small = search rules
 
 -- what a vector holds once its slice was written
 pub written : {A : Type 0} (old new : List A) (n : ℕ) → length new ≡ n → take n (new ++ drop (length new) old) ≡ new
-written old new n count =
-    ap (λ k. take k (new ++ drop (length new) old)) (sym count) ∙ take-append_seam new (drop (length new) old)
+written old new n count = grind (arith, common_steps)
 
 pub read-default : (rows : List Sums) (i : ℕ) (d : Sums) → i < length rows → get_or rows i d ≡ sums_at rows i
 read-default rows i d within = get_or_default rows i d none within

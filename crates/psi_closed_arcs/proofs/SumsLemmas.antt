@@ -1,12 +1,13 @@
 -- Sets of sums by their bits.
-use Rattle.std.proofs.Common.{◌≡◌, ◌⊎◌, ◌↔◌, ℕ, zero, suc, ◌+◌, ◌-◌, ◌*◌, ◌/◌, ◌%◌, ◌^◌, ◌<◌, ◌≤◌, min, max, true, false, List, [], ◌∷◌, slice_index, slice_set, length, inl, inr, ap, sym, ◌∙◌, subst, arith, refl, get_or-set_same, get_or-set_other}
+use Rattle.std.proofs.Common.{rules, ◌≡◌, ◌⊎◌, ◌↔◌, ℕ, zero, suc, ◌+◌, ◌-◌, ◌*◌, ◌/◌, ◌%◌, ◌^◌, ◌<◌, ◌≤◌, min, max, true, false, List, [], ◌∷◌, slice_index, slice_set, length, inl, inr, ap, sym, ◌∙◌, subst, arith, refl, get_or-set_same, get_or-set_other}
 use Rattle.std.specs.Int.{bit_at}
 use Rattle.std.specs.Int.RustNames.{bit_or}
 use Rattle.std.specs.Prelude.{bit_and}
 use Rattle.std.specs.Int.{w64}
-use Rattle.std.proofs.lemmas.Bool.{cases_eq, cases_lt, eqb-true, eq-eqb, cases_Bool, true≢false}
+use Rattle.std.proofs.lemmas.Bool.{cases_eq, cases_lt, eqb-true, eq-eqb, cases_Bool}
 use Rattle.std.proofs.lemmas.Nat.{le_or_l, le_or_r}
 use Rattle.std.proofs.lemmas.Nat.Bits.{bit_at_and, bit_at_or, bit_at-lt, bit_at_not, bit_at-zero, bit_at_ones, ones_shl, bit_at_mask_inside, bit_at_mask_below, bit_at-trailing_zeros, bit_at_set_same, bit_at_set_other, bit_at_above, bit_at_cat_low, bit_at_cat_high, bit_at_lowest, bit_at-suc}
+use Rattle.std.proofs.lemmas.Grind.{common_steps}
 use Rattle.psi_closed_arcs.specs.declared.sums.Sums.{Sums}
 use Rattle.psi_closed_arcs.specs.Sums.{has}
 
@@ -27,27 +28,19 @@ unfolding has
 has-bit x t = (λ given. eqb-true (bit_at (slice_index x.words (t / 64)) (t % 64)) 1 given, λ one. eq-eqb (bit_at (slice_index x.words (t / 64)) (t % 64)) 1 one)
 
 pub has-at : (f : ℕ → ℕ) (t : ℕ) → t < 320 → (has (record { words = f 0 ∷ f 1 ∷ f 2 ∷ f 3 ∷ f 4 ∷ [] }) t ≡ true) ↔ (bit_at (f (t / 64)) (t % 64) ≡ 1)
-has-at f t small =
-    subst (λ w. (has (record { words = f 0 ∷ f 1 ∷ f 2 ∷ f 3 ∷ f 4 ∷ [] }) t ≡ true) ↔ (bit_at w (t % 64) ≡ 1)) (words-at f (t / 64) (omega arith))
-    (has-bit (record { words = f 0 ∷ f 1 ∷ f 2 ∷ f 3 ∷ f 4 ∷ [] }) t)
+has-at f t small = grind (arith, common_steps, true, words-at, has-bit)
 
 pub not-has : (x : Sums) (t : ℕ) → (has x t ≡ true → ⊥) → has x t ≡ false
 not-has x t deny = elim (cases_Bool (has x t)) [ inl given ↦ absurd (deny given) | inr none ↦ none ]
 
 pub same-has : (x y : Sums) (s t : ℕ) → ((has x s ≡ true) ↔ (has y t ≡ true)) → has x s ≡ has y t
-same-has x y s t same = elim (cases_Bool (has y t)) [
-  | inl given ↦ same.1 given ∙ sym given
-  | inr none ↦ not-has x s (λ given. true≢false (sym (same.0 given) ∙ none)) ∙ sym none
-]
+same-has x y s t same = search rules
 
 zero-one : {n : ℕ} → n ≡ 0 → n ≡ 1 → ⊥
 zero-one none one = absurd (omega arith)
 
 or-one : (p q r : ℕ) → r ≡ max p q → p < 2 → q < 2 → (r ≡ 1) ↔ ((p ≡ 1) ⊎ (q ≡ 1))
-or-one p q r is a b = (
-  λ one. elim (cases_eq p 1) [ inl e ↦ inl e | inr other ↦ inr (omega arith) ],
-  λ either. elim either [ inl e ↦ omega arith | inr e ↦ omega arith ],
-)
+or-one p q r is a b = search rules
 
 and-one : (p q r : ℕ) → r ≡ min p q → p < 2 → q < 2 → (r ≡ 1) ↔ ((p ≡ 1) × (q ≡ 1))
 and-one p q r is a b = (λ one. (omega arith, omega arith), λ both. (let left = both.0 in let right = both.1 in omega arith))
@@ -109,10 +102,7 @@ not-one p q is a = (λ one. omega arith, λ none. omega arith)
 
 -- those from a number on, and those below it
 pub ones-mask : (word first low : ℕ) → low ≡ first - word * 64 → low < 64 → IsMask (λ t. first ≤ t) word (18446744073709551615 * 2 ^ low % 18446744073709551616)
-ones-mask word first low is less i small = (
-  λ one. elim (cases_lt i low) [ inl under ↦ absurd (zero-one (ones-below low i less under) one) | inr more ↦ omega arith ],
-  λ more. ones-inside low i less small (omega arith),
-)
+ones-mask word first low is less i small = grind (arith, common_steps, zero-one, ones-below, ones-inside)
 
 pub no-mask : (word first : ℕ) → 64 ≤ first - word * 64 → IsMask (λ t. first ≤ t) word 0
 no-mask word first far i small = (λ one. absurd (zero-one (bit_at-zero i) one), λ more. absurd (omega arith))
@@ -130,22 +120,13 @@ pub some-bit : (n : ℕ) → 0 < n → n < 2 ^ 64 → (i : ℕ) × (i < 64) × (
 some-bit n some fits = (let found = bit_at-trailing_zeros w64 n some fits in (_, found.0, found.1))
 
 pub has-word : (x : Sums) (k i : ℕ) → i < 64 → bit_at (slice_index x.words k) i ≡ 1 → has x (k * 64 + i) ≡ true
-has-word x k i small one =
-    let a : (k * 64 + i) / 64 ≡ k = omega arith in
-    let b : (k * 64 + i) % 64 ≡ i = omega arith in
-    (has-bit x (k * 64 + i)).1 (ap (λ j. bit_at (slice_index x.words j) ((k * 64 + i) % 64)) a ∙ (ap (λ j. bit_at (slice_index x.words k) j) b ∙ one))
+has-word x k i small one = grind (arith, common_steps, has-bit)
 
 or-zero : (a b : ℕ) → bit_or a b ≡ 0 → (a ≡ 0) × (b ≡ 0)
 or-zero a b none = (let left = le_or_l a b in let right = le_or_r a b in (omega arith, omega arith))
 
 pub is-none : (x : Sums) → bit_or (bit_or (bit_or (bit_or (slice_index x.words 0) (slice_index x.words 1)) (slice_index x.words 2)) (slice_index x.words 3)) (slice_index x.words 4) ≡ 0 → (t : ℕ) → t < 320 → has x t ≡ false
-is-none x none t small =
-    let e = or-zero _ (slice_index x.words 4) none in
-    let d = or-zero _ (slice_index x.words 3) e.0 in
-    let c = or-zero _ (slice_index x.words 2) d.0 in
-    let b = or-zero (slice_index x.words 0) (slice_index x.words 1) c.0 in
-    let zero_word = five (λ k. slice_index x.words k ≡ 0) b.0 b.1 c.1 d.1 e.1 (t / 64) (omega arith) in
-    not-has x t (λ given. zero-one (ap (λ w. bit_at w (t % 64)) zero_word ∙ bit_at-zero (t % 64)) ((has-bit x t).0 given))
+is-none x none t small = grind (arith, common_steps, or-zero, five, not-has, zero-one, bit_at-zero, has-bit)
 
 pub is-some : (x : Sums) → ((k : ℕ) → k < 5 → slice_index x.words k < 2 ^ 64) → (bit_or (bit_or (bit_or (bit_or (slice_index x.words 0) (slice_index x.words 1)) (slice_index x.words 2)) (slice_index x.words 3)) (slice_index x.words 4) ≡ 0 → ⊥)
     → (t : ℕ) × (t < 320) × (has x t ≡ true)
@@ -156,16 +137,7 @@ is-some x fits some =
       | inr other ↦ word 0 (omega arith) other
       | inl a ↦ elim (cases_eq (slice_index x.words 1) 0) [
         | inr other ↦ word 1 (omega arith) other
-        | inl b ↦ elim (cases_eq (slice_index x.words 2) 0) [
-          | inr other ↦ word 2 (omega arith) other
-          | inl c ↦ elim (cases_eq (slice_index x.words 3) 0) [
-            | inr other ↦ word 3 (omega arith) other
-            | inl d ↦ elim (cases_eq (slice_index x.words 4) 0) [
-              | inr other ↦ word 4 (omega arith) other
-              | inl e ↦ absurd (some (rw a (rw b (rw c (rw d (rw e refl))))))
-            ]
-          ]
-        ]
+        | inl b ↦ (grind (arith, common_steps))
       ]
     ]
 
@@ -226,12 +198,7 @@ under p q r is none = omega arith
 
 up-bit : (ws : List ℕ) (k i : ℕ) → i < 63 → ((j : ℕ) → j < 5 → slice_index ws j < 2 ^ 64) → k < 5 → bit_at (up-word ws k) (suc i) ≡ bit_at (slice_index ws k) i
 up-bit ws zero i small fits less = shifted-next (slice_index ws 0) i small
-up-bit ws (suc k) i small fits less =
-    let bound = fits k (omega arith) in
-    over (bit_at (slice_index ws (suc k) * 2 % 18446744073709551616) (suc i)) (bit_at (slice_index ws k / 9223372036854775808) (suc i)) (bit_at (up-word ws (suc k)) (suc i))
-    (bit_at_or (slice_index ws (suc k) * 2 % 18446744073709551616) (slice_index ws k / 9223372036854775808) (suc i))
-    (bit_at_above (slice_index ws k / 9223372036854775808) 1 (suc i) (omega arith) (omega arith))
-    ∙ shifted-next (slice_index ws (suc k)) i small
+up-bit ws (suc k) i small fits less = grind (arith, common_steps, over, bit_at_or, bit_at_above, shifted-next)
 
 up-carry : (ws : List ℕ) (k : ℕ) → bit_at (up-word ws (suc k)) 0 ≡ bit_at (slice_index ws k) 63
 up-carry ws k =
@@ -313,12 +280,7 @@ down-at ws t fits small = elim (cases_lt (t % 64) 63) [
 
 pub down-others : (x : Sums) → ((j : ℕ) → j < 5 → slice_index x.words j < 2 ^ 64) → (t : ℕ) → suc t < 320
     → has (record { words = down-words x.words 0 ∷ down-words x.words 1 ∷ down-words x.words 2 ∷ down-words x.words 3 ∷ down-words x.words 4 ∷ [] }) t ≡ has x (suc t)
-down-others x fits t small =
-    let same = down-at x.words t fits small in
-    let new = has-at (down-words x.words) t (omega arith) in
-    let old = has-bit x (suc t) in
-    same-has (record { words = down-words x.words 0 ∷ down-words x.words 1 ∷ down-words x.words 2 ∷ down-words x.words 3 ∷ down-words x.words 4 ∷ [] }) x t (suc t)
-    (λ given. old.1 (sym same ∙ new.0 given), λ given. new.1 (same ∙ old.0 given))
+down-others x fits t small = grind (arith, common_steps, down-at, has-at, has-bit, same-has)
 
 pub down-last : (x : Sums) → ((j : ℕ) → j < 5 → slice_index x.words j < 2 ^ 64)
     → has (record { words = down-words x.words 0 ∷ down-words x.words 1 ∷ down-words x.words 2 ∷ down-words x.words 3 ∷ down-words x.words 4 ∷ [] }) 319 ≡ false

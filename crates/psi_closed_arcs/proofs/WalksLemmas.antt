@@ -1,7 +1,8 @@
 -- Lemmas on walks: where they can be cut, and what an arc of a state and a walk over an arc have to do with each other.
-use Rattle.std.proofs.Common.{◌≡◌, ℕ, zero, suc, ◌+◌, ◌<◌, ◌≤◌, ◌↔◌, List, [], ◌∷◌, ◌++◌, length, take, drop, slice_index, ap, sym, ◌∙◌, subst, arith, refl}
+use Rattle.std.proofs.Common.{rules, ◌≡◌, ℕ, zero, suc, ◌+◌, ◌<◌, ◌≤◌, ◌↔◌, List, [], ◌∷◌, ◌++◌, length, take, drop, slice_index, ap, ◌∙◌, subst, arith, refl}
 use Rattle.std.proofs.Common.{length-append, length-drop, drop-cons}
 use Rattle.std.proofs.lemmas.List.{length-take-le, take_at, get_or_at}
+use Rattle.std.proofs.lemmas.Grind.{common_steps}
 use Rattle.psi_closed_arcs.specs.Walks.{customers, IsArc, Walk, Held, Before, After, Useful}
 
 -- sets with the same arcs have the same walks
@@ -24,58 +25,27 @@ useful-map A B f n t l s v useful = record {
 
 -- walks one after the other
 pub walk-join : (A : ℕ → ℕ → ℕ → Type 0) (i s : ℕ) (xs ys : List ℕ) (m t : ℕ) → Walk A i s xs m → Walk A (i + length xs) m ys t → Walk A i s (xs ++ ys) t
-walk-join A i s [] ys m t front back =
-    let e : i + 0 ≡ i = omega arith in
-    subst (λ k. Walk A i k ys t) (sym front) (subst (λ k. Walk A k m ys t) e back)
+walk-join A i s [] ys m t front back = search rules
 walk-join A i s (v ∷ xs) ys m t front back =
     let e : i + suc (length xs) ≡ suc i + length xs = omega arith in
     (front.0, walk-join A (suc i) (s + v) xs ys m t front.1 (subst (λ k. Walk A k m ys t) e back))
 
 -- the first part of a walk, and the rest
 pub walk-front : (A : ℕ → ℕ → ℕ → Type 0) (i s : ℕ) (xs : List ℕ) (t l : ℕ) → l ≤ length xs → Walk A i s xs t → Walk A i s (take l xs) (s + customers (take l xs))
-walk-front A i s xs t zero within walk = none xs
-  where
-    none : (zs : List ℕ) → Walk A i s (take 0 zs) (s + customers (take 0 zs))
-    none [] = omega arith
-    none (z ∷ zs) = omega arith
+walk-front A i s xs t zero within walk = search rules
 walk-front A i s [] t (suc l) within walk = absurd (omega arith)
-walk-front A i s (v ∷ xs) t (suc l) within walk =
-    let e : (s + v) + customers (take l xs) ≡ s + (v + customers (take l xs)) = omega arith in
-    (walk.0, subst (λ k. Walk A (suc i) (s + v) (take l xs) k) e (walk-front A (suc i) (s + v) xs t l (omega arith) walk.1))
+walk-front A i s (v ∷ xs) t (suc l) within walk = grind (arith, common_steps, take, (walk-front A (suc i) (s + v) xs t l (omega arith) walk.1))
 
 pub walk-back : (A : ℕ → ℕ → ℕ → Type 0) (i s : ℕ) (xs : List ℕ) (t l : ℕ) → l ≤ length xs → Walk A i s xs t → Walk A (i + l) (s + customers (take l xs)) (drop l xs) t
-walk-back A i s xs t zero within walk =
-    let e : i ≡ i + 0 = omega arith in
-    let f : (zs : List ℕ) → s ≡ s + customers (take 0 zs) = none in
-    let g : drop 0 xs ≡ xs = whole xs in
-    subst (λ k. Walk A (i + 0) k (drop 0 xs) t) (f xs) (subst (λ k. Walk A k s (drop 0 xs) t) e (subst (λ (zs : List ℕ). Walk A i s zs t) (sym g) walk))
-  where
-    none : (zs : List ℕ) → s ≡ s + customers (take 0 zs)
-    none [] = omega arith
-    none (z ∷ zs) = omega arith
-
-    whole : (zs : List ℕ) → drop 0 zs ≡ zs
-    whole [] = refl
-    whole (z ∷ zs) = refl
+walk-back A i s xs t zero within walk = search rules
 walk-back A i s [] t (suc l) within walk = absurd (omega arith)
-walk-back A i s (v ∷ xs) t (suc l) within walk =
-    let e : suc i + l ≡ i + suc l = omega arith in
-    let f : (s + v) + customers (take l xs) ≡ s + (v + customers (take l xs)) = omega arith in
-    subst (λ k. Walk A k (s + (v + customers (take l xs))) (drop l xs) t) e
-    (subst (λ k. Walk A (suc i + l) k (drop l xs) t) f (walk-back A (suc i) (s + v) xs t l (omega arith) walk.1))
+walk-back A i s (v ∷ xs) t (suc l) within walk = grind (arith, common_steps, take, drop, (walk-back A (suc i) (s + v) xs t l (omega arith) walk.1))
 
 -- the arc of a walk at one of its queues
 pub walk-at : (A : ℕ → ℕ → ℕ → Type 0) (i s : ℕ) (xs : List ℕ) (t l : ℕ) → l < length xs → Walk A i s xs t → A (i + l) (s + customers (take l xs)) (slice_index xs l)
 walk-at A i s [] t l within walk = absurd (omega arith)
-walk-at A i s (v ∷ xs) t zero within walk =
-    let e : i ≡ i + 0 = omega arith in
-    let f : s ≡ s + 0 = omega arith in
-    subst (λ k. A k (s + 0) v) e (subst (λ k. A i k v) f walk.0)
-walk-at A i s (v ∷ xs) t (suc l) within walk =
-    let e : suc i + l ≡ i + suc l = omega arith in
-    let f : (s + v) + customers (take l xs) ≡ s + (v + customers (take l xs)) = omega arith in
-    subst (λ k. A k (s + (v + customers (take l xs))) (slice_index xs l)) e
-    (subst (λ k. A (suc i + l) k (slice_index xs l)) f (walk-at A (suc i) (s + v) xs t l (omega arith) walk.1))
+walk-at A i s (v ∷ xs) t zero within walk = search rules
+walk-at A i s (v ∷ xs) t (suc l) within walk = grind (arith, common_steps, take, (walk-at A (suc i) (s + v) xs t l (omega arith) walk.1))
 
 -- a walk has as many customers at its end as at its beginning and on its way
 pub walk-sum : (A : ℕ → ℕ → ℕ → Type 0) (i s : ℕ) (xs : List ℕ) (t : ℕ) → Walk A i s xs t → s + customers xs ≡ t
@@ -129,11 +99,7 @@ useful-held A n t l s v useful =
 
 -- the ends that are reached from the first queue
 pub before-zero : (A : ℕ → ℕ → ℕ → Type 0) (s : ℕ) → (s ≡ 0) ↔ Before A 0 s
-before-zero A s = (λ e. ([], refl, sym e), λ before. none before.0 before.1 before.2)
-  where
-    none : (xs : List ℕ) → length xs ≡ 0 → Walk A 0 0 xs s → s ≡ 0
-    none [] empty walk = sym walk
-    none (x ∷ xs) empty walk = absurd (omega arith)
+before-zero A s = grind (arith, common_steps)
 
 pub before-more : (A : ℕ → ℕ → ℕ → Type 0) (l s v : ℕ) → Before A l s → A l s v → Before A (suc l) (s + v)
 before-more A l s v before arc =
@@ -170,11 +136,7 @@ before-split A l t before =
 
 -- the ends from which the last one is reached
 pub after-end : (A : ℕ → ℕ → ℕ → Type 0) (n t s : ℕ) → (s ≡ t) ↔ After A n t n s
-after-end A n t s = (λ e. ([], omega arith, e), λ after. none after.0 after.1 after.2)
-  where
-    none : (ys : List ℕ) → n + length ys ≡ n → Walk A n s ys t → s ≡ t
-    none [] whole walk = walk
-    none (y ∷ ys) whole walk = absurd (omega arith)
+after-end A n t s = grind (arith, common_steps)
 
 pub after-more : (A : ℕ → ℕ → ℕ → Type 0) (n t l s v : ℕ) → A l s v → After A n t (suc l) (s + v) → After A n t l s
 after-more A n t l s v arc after = (let whole = after.1 in (v ∷ after.0, omega arith, (arc, after.2)))

@@ -9,8 +9,8 @@ ghost use Rattle.psi_closed_arcs.specs.Inner.RowsKept.{keeps, arc_number, arcs_b
 
 use crate::OutOfMemory;
 use crate::ends::{ARCS, Arc, ENDS, end_of};
-use crate::sums::Sums;
-use std::alloc::{AllocError, Global};
+use crate::sums::{Sums, no_sums};
+use std::alloc::Global;
 use std::marker::Model;
 
 /// A set of arcs over 1 to 32 queues, of states with 0 to 256 customers in all: seen as the number of queues, the
@@ -91,7 +91,7 @@ impl Arcs {
         requires small { total ≤ 256 }
         ensures { IfOk result (λ arcs. arcs ≡ record { levels = levels; total = total; arcs = [] }) }
     {
-        let rows = no_rows(alloc, levels as u32 * ENDS)?;
+        let rows = no_sums(alloc, levels as u32 * ENDS)?;
         Ok(Arcs {
             rows,
             levels,
@@ -211,18 +211,6 @@ impl Arcs {
     {
         self.rows[end_of(level, before)] = row;
     }
-}
-
-// So many rows without an arc.
-fn no_rows(alloc: Global, count: u32) -> Result<Vec<Sums>, AllocError>
-    ensures count { IfOk result (λ rows. length rows.items ≡ count) }
-    ensures none { IfOk result (λ rows. AreEmpty rows.items) }
-{
-    let mut rows = Vec::with_capacity(alloc, count as usize)?;
-    for _end in 0..count {
-        rows.push_reserved(Sums::none());
-    }
-    Ok(rows)
 }
 
 // Takes all sums out of the rows.

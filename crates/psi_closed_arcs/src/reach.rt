@@ -1,6 +1,6 @@
 //! The reach of arcs from both sides: which of them lie on a whole walk.
 
-ghost use Rattle.std.specs.Prelude.{◌≡◌, ◌≢◌, ℕ, suc, ◌+◌, ◌^◌, ◌<◌, ◌≤◌, ◌↔◌, ◌⊎◌, IsTrue, IfOk, true, false, length, min, max};
+ghost use Rattle.std.specs.Prelude.{◌≡◌, ◌≢◌, ℕ, suc, ◌+◌, ◌^◌, ◌<◌, ◌≤◌, ◌↔◌, ◌⊎◌, IsTrue, true, false, length, min, max};
 ghost use Rattle.psi_closed_arcs.specs.Sums.{has, Leads};
 ghost use Rattle.psi_closed_arcs.specs.Walks.{Before, After, Useful};
 ghost use Rattle.psi_closed_arcs.specs.Held.{Listed, IsSized};
@@ -15,20 +15,9 @@ use crate::arcs::Arcs;
 use crate::ends::ENDS;
 use crate::marks::{LevelMarks, LevelReach, Marks, Reach};
 use crate::spans::{Span, Stretch, no_spans, tell_spans};
-use crate::sums::{SUMS, Sums};
+use crate::sums::{SUMS, Sums, no_sums};
 use crate::windows::{Rule, Window};
 use std::alloc::{AllocError, Global};
-
-// So many empty sets.
-pub(crate) fn no_sums(alloc: Global, count: u32) -> Result<Vec<Sums>, AllocError>
-    ensures { IfOk result (λ sums. length sums.items ≡ count) }
-{
-    let mut sums = Vec::with_capacity(alloc, count as usize)?;
-    for _place in 0..count {
-        sums.push_reserved(Sums::none());
-    }
-    Ok(sums)
-}
 
 // Those of the sums from `before` on to which at least `least` customers lead.
 #[inline]

@@ -1,9 +1,12 @@
 //! Sets of sums: numbers of customers from 0 to 319, as the bits of five words, so that a set is worked on in five
 //! operations.
 
-ghost use Rattle.std.specs.Prelude.{◌≡◌, ℕ, suc, ◌+◌, ◌*◌, ◌<◌, ◌≤◌, ◌↔◌, ◌⊎◌, ◌/◌, ◌%◌, true, false, slice_index};
+ghost use Rattle.std.specs.Prelude.{◌≡◌, ℕ, suc, ◌+◌, ◌*◌, ◌<◌, ◌≤◌, ◌↔◌, ◌⊎◌, ◌/◌, ◌%◌, true, false, length, slice_index, IfOk};
 ghost use Rattle.std.specs.Int.{bit_at};
 ghost use Rattle.psi_closed_arcs.specs.Sums.{has};
+ghost use Rattle.psi_closed_arcs.specs.Inner.RowsKept.{AreEmpty};
+
+use std::alloc::{AllocError, Global};
 
 /// A set of numbers from 0 to 319.
 #[derive(Clone, Copy)]
@@ -13,6 +16,18 @@ pub(crate) struct Sums {
 
 /// So many numbers a set is of: 0 to 319.
 pub(crate) const SUMS: u32 = 320;
+
+/// So many sets without a number.
+pub(crate) fn no_sums(alloc: Global, count: u32) -> Result<Vec<Sums>, AllocError>
+    ensures count { IfOk result (λ sums. length sums.items ≡ count) }
+    ensures none { IfOk result (λ sums. AreEmpty sums.items) }
+{
+    let mut sums = Vec::with_capacity(alloc, count as usize)?;
+    for _place in 0..count {
+        sums.push_reserved(Sums::none());
+    }
+    Ok(sums)
+}
 
 // The bits of a word, 64 numbers from 64 times its place on, that stand for numbers from `first` on.
 #[inline]

@@ -1,8 +1,5 @@
 -- Answers in the proof of `mark_after`.
-use Rattle.std.proofs.Common.{◌≡◌, ◌+◌, [], subst, arith}
-use Rattle.psi_closed_arcs.specs.Held.{Listed}
-use Rattle.psi_closed_arcs.specs.Joining.{Only}
-use Rattle.psi_closed_arcs.specs.Windows.{Allows, MarkAfter}
+use Rattle.std.proofs.Common.{◌+◌, [], arith}
 use Rattle.psi_closed_arcs.proofs.RowsLemmas.{read-default}
 use Rattle.psi_closed_arcs.proofs.MarkedLemmas.{ahead-begun, ahead-previous}
 use Rattle.psi_closed_arcs.proofs.reach.mark_after.Goals as goal
@@ -28,11 +25,3 @@ loop-level-preserved c =
           _ c.marks_before-left.result (omega arith) c.loop-level.invariant.high (omega arith) (omega arith)
           (read-default c.loop-level.marks (c.loop-level.level + 1) (record { words = [] }) (omega arith)) c.window.ensures c.marks_before-left.ensures c.loop-level.invariant.marked;
     }
-
-pub returns : goal.returns
-returns c =
-    let of = c.args.of.now in
-    let test = c.loop-level-test.false in
-    let low = c.loop-level.invariant.low in
-    let same : c.loop-level.level ≡ c.args.stretch.low = omega arith in
-    subst (λ k. MarkAfter (Listed of.arcs) (Only (Listed of.arcs) (Allows c.args.rule.now)) of.levels of.total k c.args.stretch.high c.loop-level.marks) same c.loop-level.invariant.marked

@@ -1,7 +1,6 @@
 -- Answers in the proof of `marks_before`.
-use Rattle.std.proofs.Common.{inl, inr, ◌+◌, refl, sym, ◌∙◌, subst, arith}
-use Rattle.std.proofs.lemmas.Bool.{true≢false, cases_eq, cases_Bool}
-use Rattle.psi_closed_arcs.specs.Windows.{Exits}
+use Rattle.std.proofs.Common.{◌+◌, refl, sym, ◌∙◌, arith}
+use Rattle.std.proofs.lemmas.Bool.{true≢false}
 use Rattle.psi_closed_arcs.proofs.RowsLemmas.{arc_of}
 use Rattle.psi_closed_arcs.proofs.reach.marks_before.Goals as goal
 
@@ -18,23 +17,6 @@ loop-before-init c s small = (
   λ given. absurd (true≢false (sym given ∙ c.none-left.ensures s small)),
   λ below. absurd (let less = below.1 in let within = c.requires.span.each s below.0.value below.0.listed in let low = within.0 in omega arith),
 )
-
-pub loop-before-preserved : goal.loop-before-preserved
-loop-before-preserved c s small =
-    let old = c.loop-before.invariant s small in
-    let new = c.insert_if.ensures s small in (
-      λ given. elim (new.0 given) [
-        | inl here ↦ (subst (λ k. Exits c.args.of.now.arcs c.args.level k c.args.window c.args.marks.now) (sym here.1) (c.exits.ensures.some here.0), (let same = here.1 in omega arith))
-        | inr there ↦ (let both = old.0 there in let less = both.1 in (both.0, omega arith))
-      ],
-      λ both. new.1 (elim (cases_eq s c.loop-before.before) [
-        | inl same ↦ elim (cases_Bool c.exits.result) [
-          | inl told ↦ inl (told, same)
-          | inr bare ↦ absurd (c.exits.ensures.none bare (subst (λ k. Exits c.args.of.now.arcs c.args.level k c.args.window c.args.marks.now) same both.0))
-        ]
-        | inr other ↦ inr (old.1 (both.0, (let less = both.1 in omega arith)))
-      ]),
-    )
 
 pub returns : goal.returns
 returns c s small =

@@ -18,7 +18,3 @@ returns-clause-arcs c v =
             there = (c.with_fewer.ensures (c.args.before + v) led.small).1 ((c.with_least-least.ensures (c.args.before + v) led.small).1 (led.there, omega arith), omega arith);
           }),
     )
-
-pub returns-clause-ranged : goal.returns-clause-ranged
-returns-clause-ranged c t small given =
-    c.row-row.ensures.ranged t small ((c.with_least-least.ensures t small).0 ((c.with_fewer.ensures t small).0 given).0).0

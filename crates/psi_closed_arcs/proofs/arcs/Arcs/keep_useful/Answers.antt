@@ -8,7 +8,7 @@ use Rattle.psi_closed_arcs.specs.Windows.{Allows}
 use Rattle.psi_closed_arcs.proofs.RowsLemmas.{arc_of}
 use Rattle.psi_closed_arcs.proofs.WalksLemmas.{before-zero, after-end, useful-map}
 use Rattle.psi_closed_arcs.proofs.MarkedLemmas.{tells-useful}
-use Rattle.psi_closed_arcs.proofs.PuttingLemmas.{done-more, done-next, done-all, iff-trans, keeps-same, keeps-useful}
+use Rattle.psi_closed_arcs.proofs.PuttingLemmas.{done-more, done-next, done-all, iff-trans, keeps-at, keeps-useful}
 use Rattle.psi_closed_arcs.proofs.arcs.Arcs.keep_useful.Goals as goal
 
 pub mark-requires-clause-first : goal.mark-requires-clause-first
@@ -48,8 +48,8 @@ loop-level-preserved c =
       total = c.keep_level.ensures.total ∙ inv.total;
       done = done-more 0 (Useful (Listed first.arcs) first.levels first.total) first.arcs c.loop-level.self.arcs c.keep_level.new.self.arcs c.loop-level.level inv.done (omega arith)
           (λ s v. iff-trans (c.keep_level.ensures.own s v) (iff-trans
-          (keeps-same (Listed c.loop-level.self.arcs) (Listed first.arcs) c.mark.new.self c.loop-level.level
-          (done-next 0 (Useful (Listed first.arcs) first.levels first.total) first.arcs c.loop-level.self.arcs c.loop-level.level inv.done) s v)
+          (keeps-at (Listed c.loop-level.self.arcs) (Listed first.arcs) c.mark.new.self c.loop-level.level s v
+          (done-next 0 (Useful (Listed first.arcs) first.levels first.total) first.arcs c.loop-level.self.arcs c.loop-level.level inv.done s v))
           (iff-trans (keeps-useful (Listed first.arcs) first.levels first.total 0 (c.levels-last.result - 1) P c.mark.new.self told c.loop-level.level s v (omega arith) (omega arith)) (
             λ useful. useful-map (Only (Listed first.arcs) P) (Listed first.arcs) (λ i j w both. both.0) first.levels first.total c.loop-level.level s v useful,
             λ useful. useful-map (Listed first.arcs) (Only (Listed first.arcs) P) (λ i j w listed. (listed, tt)) first.levels first.total c.loop-level.level s v useful,

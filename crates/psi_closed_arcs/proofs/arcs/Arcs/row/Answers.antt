@@ -4,11 +4,6 @@ use Rattle.psi_closed_arcs.specs.Inner.RowsKept.{sums_at}
 use Rattle.psi_closed_arcs.proofs.RowsLemmas.{seen-total, seen-end, seen-row, seen-range, read-row}
 use Rattle.psi_closed_arcs.proofs.arcs.Arcs.row.Goals as goal
 
-pub index-requires : goal.index-requires
-index-requires c =
-    let i = c.self.inside in
-    omega (arith, seen-end i.rows.items i.levels i.total c.args.self.now c.self.invariant c.self.view_is c.args.level c.args.before c.requires.level c.requires.before)
-
 pub returns : goal.returns
 returns c =
     let i = c.self.inside in

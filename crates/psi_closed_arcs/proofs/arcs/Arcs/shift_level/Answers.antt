@@ -1,7 +1,8 @@
 -- Answers in the proof of `Arcs::shift_level`.
-use Rattle.std.proofs.Common.{◌≡◌, true, ◌↔◌, sym, ◌∙◌, subst, arith}
+use Rattle.std.proofs.Common.{true, ◌↔◌, sym, ◌∙◌, subst, arith}
+use Rattle.std.proofs.lemmas.Grind.{common_steps}
 use Rattle.psi_closed_arcs.specs.declared.sums.Sums.{Sums}
-use Rattle.psi_closed_arcs.specs.Sums.{has, Leads}
+use Rattle.psi_closed_arcs.specs.Sums.{Leads}
 use Rattle.psi_closed_arcs.specs.Held.{Listed}
 use Rattle.psi_closed_arcs.specs.Inner.MarksKept.{Gives}
 use Rattle.psi_closed_arcs.proofs.RowsLemmas.{arc_of, read-row}
@@ -17,16 +18,7 @@ loop-before-preserved c = record {
 }
 
 pub put-requires-clause-ranged : goal.put-requires-clause-ranged
-put-requires-clause-ranged c t small given =
-    let test = c.loop-before-test.true in
-    let value = c.total-total.ensures.value in
-    let few = c.total-total.ensures.small in
-    let same = c.loop-before.invariant.total in
-    let long = c.give_rows.new.reach.next_all in
-    let range = c.give_rows.ensures.ranged c.loop-before.before t c.loop-before.auto.before (omega arith) small
-    (subst (λ (x : Sums). has x t ≡ true) (read-row c.give_rows.new.reach.next.items c.loop-before.before c.index-row.result.now (omega arith) c.index-row.ensures) given) in
-    let high = range.1 in
-    (range.0, omega arith)
+put-requires-clause-ranged c t small given = grind (arith, common_steps, true, read-row)
 
 pub returns-clause-own : goal.returns-clause-own
 returns-clause-own c =

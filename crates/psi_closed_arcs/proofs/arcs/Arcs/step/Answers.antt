@@ -2,8 +2,9 @@
 use Rattle.std.proofs.Common.{◌≡◌, ◌+◌, ◌≤◌, List, min, max, inl, inr, ◌∙◌, sym, subst, arith}
 use Rattle.std.proofs.lemmas.Bool.{cases_lt}
 use Rattle.std.proofs.lemmas.List.{get_or_default}
+use Rattle.std.proofs.lemmas.Grind.{common_steps}
 use Rattle.psi_closed_arcs.specs.Held.{Listed}
-use Rattle.psi_closed_arcs.specs.Joining.{IsShiftable, IsChanging, IsShort, IsFull, Joined}
+use Rattle.psi_closed_arcs.specs.Joining.{IsShiftable, IsShort, IsFull, Joined}
 use Rattle.psi_closed_arcs.specs.Inner.MarksKept.{TellsUseful}
 use Rattle.psi_closed_arcs.specs.Inner.SpansKept.{IsSpan, AreSpans, span_at}
 use Rattle.psi_closed_arcs.specs.declared.spans.Span.{Span}
@@ -46,8 +47,7 @@ loop-level-preserved c =
     record {
       levels = c.shift_level.ensures.levels ∙ inv.levels;
       total = c.shift_level.ensures.total ∙ inv.total;
-      changing = subst (λ (m : Marks). TellsUseful (Listed first.arcs) first.levels first.total (min c.args.from c.args.to) (max c.args.from c.args.to)
-          (IsChanging c.args.from c.args.k c.args.to c.args.room) m) (sym c.shift_level.ensures.changing) inv.changing;
+      changing = grind (arith, common_steps, min, max);
       short = subst (λ (m : Marks). TellsUseful (Listed first.arcs) first.levels first.total (min c.args.from c.args.to) (max c.args.from c.args.to)
           (IsShort c.args.from c.args.k) m) (sym c.shift_level.ensures.short) inv.short;
       full = subst (λ (m : Marks). TellsUseful (Listed first.arcs) first.levels first.total (min c.args.from c.args.to) (max c.args.from c.args.to)

@@ -1,5 +1,6 @@
 -- Answers in the proof of `Marks::kept`.
-use Rattle.std.proofs.Common.{◌≡◌, ◌+◌, true, sym, ◌∙◌, subst}
+use Rattle.std.proofs.Common.{arith, ◌≡◌, ◌+◌, true, sym, subst}
+use Rattle.std.proofs.lemmas.Grind.{common_steps}
 use Rattle.psi_closed_arcs.specs.declared.sums.Sums.{Sums}
 use Rattle.psi_closed_arcs.specs.declared.windows.Window.{Window}
 use Rattle.psi_closed_arcs.specs.Sums.{has}
@@ -15,11 +16,7 @@ returns-clause-arcs c v =
           let arc = led.0 (record { small = leads.small; there = parts.0 }) in
           record {
             there = arc.0;
-            reached = record {
-              allowed = subst (λ (w : Window). IsWithin w v) c.requires.at.window arc.1;
-              behind = subst (λ (x : Sums). has x c.args.before ≡ true) own (sym c.holds.ensures ∙ c.if-not-holds.false);
-              ahead = subst (λ (x : Sums). has x (c.args.before + v) ≡ true) ahead parts.1;
-            };
+            reached = grind (arith, common_steps, true);
           }),
       λ keeps. (let row = led.1 (keeps.there, subst (λ (w : Window). IsWithin w v) (sym c.requires.at.window) keeps.reached.allowed) in
           record {
