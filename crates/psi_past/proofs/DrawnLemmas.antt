@@ -1,7 +1,8 @@
 -- Words that are drawn one lot after another.
-use Rattle.std.proofs.Common.{◌≡◌, ◌<◌, ℕ, ◌+◌, ◌-◌, ◌*◌, ◌%◌, ◌^◌, List, refl, sym, subst, ap, ◌∙◌, inl, inr, arith}
+use Rattle.std.proofs.Common.{rules, ◌≡◌, ◌<◌, ℕ, ◌+◌, ◌-◌, ◌*◌, ◌%◌, ◌^◌, List, refl, sym, subst, ap, ◌∙◌, inl, inr, arith}
 use Rattle.std.proofs.lemmas.Bool.{cases_lt}
 use Rattle.std.specs.Prelude.{length, slice_index}
+use Rattle.std.proofs.lemmas.Grind.{common_steps}
 use Rattle.rand_chacha.specs.ChaCha.{ChaCha, word_at}
 use Rattle.psi_past.specs.Drawn.{Draws}
 
@@ -19,8 +20,7 @@ draws-more some more both at next g h k xs ys zs first second place sum = record
         ∙ ap (λ (h : ChaCha). word_at 10 h.key h.stream (h.word_pos + (i - some))) first.moved
         ∙ ap (word_at 10 g.key g.stream) there)
   ];
-  moved = (let e : (g.word_pos + some) + more ≡ g.word_pos + both = omega arith in
-      second.moved ∙ ap (λ (h : ChaCha). record h { word_pos = h.word_pos + more }) first.moved ∙ ap (λ n. record g { word_pos = n }) e);
+  moved = grind (arith, common_steps);
 }
 
 -- four lots of equal size
@@ -44,9 +44,4 @@ draws-block block first pos g h set k xs ys zs before start place is near more =
 -- a block that is drawn into a list of its own, and put into another list
 pub draws-put : (at : ℕ) (g h : ChaCha) (list block xs ys : List ℕ) → Draws 64 0 g h list block → length ys ≡ length xs
     → ((i : ℕ) → i < at → slice_index ys i ≡ slice_index xs i) → ((i : ℕ) → i < 64 → slice_index ys (at + i) ≡ slice_index block i) → Draws 64 at g h xs ys
-draws-put at g h list block xs ys drawn same_length kept put = record {
-  same_length = same_length;
-  kept = kept;
-  drawn = λ i small. (let e : i ≡ 0 + i = omega arith in put i small ∙ ap (slice_index block) e ∙ drawn.drawn i small);
-  moved = drawn.moved;
-}
+draws-put at g h list block xs ys drawn same_length kept put = search rules

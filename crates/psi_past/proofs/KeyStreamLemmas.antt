@@ -1,8 +1,9 @@
 -- What rand_chacha promises at a place is the word of RFC 8439's block function.
-use Rattle.std.proofs.Common.{◌≡◌, ◌<◌, ◌≤◌, ℕ, zero, suc, ◌+◌, ◌/◌, ◌%◌, ◌^◌, List, [], ◌∷◌, length, refl, sym, ap, ◌∙◌, arith}
-use Rattle.std.proofs.Math.Nat.{div-div-eq-div-mul, div-eq_of_lt, mod-eq_of_lt}
+use Rattle.std.proofs.Common.{rules, ◌≡◌, ◌<◌, ◌≤◌, ℕ, zero, suc, ◌+◌, ◌/◌, ◌%◌, ◌^◌, List, [], ◌∷◌, length, refl, ap, ◌∙◌, arith}
+use Rattle.std.proofs.Math.Nat.{div-eq_of_lt, mod-eq_of_lt}
 use Rattle.std.proofs.lemmas.Bool.{lt-ltb}
 use Rattle.std.specs.Prelude.{slice_index}
+use Rattle.std.proofs.lemmas.Grind.{common_steps}
 use Rattle.rand_core.specs.Steps.{u32_at}
 use Rattle.rand_chacha.specs.Block as upstream
 use Rattle.rand_chacha.specs.ChaCha.{ChaCha, key_of, word_at, next_word}
@@ -44,10 +45,7 @@ double_rounds-is : (n : ℕ) (x : List ℕ) → column_round x ≡ upstream.colu
 unfolding double_rounds upstream.double_rounds
 double_rounds-is zero x e = refl
 double_rounds-is (suc zero) x e = double_round-is x e
-double_rounds-is (suc (suc n)) x e =
-    ap (λ s. diagonal_round (column_round s)) (double_rounds-is (suc n) x e)
-    ∙ double_round-is (upstream.double_rounds (suc n) x)
-    (column_round-after_diagonal (upstream.column_round (upstream.double_rounds n x)))
+double_rounds-is (suc (suc n)) x e = grind (arith, common_steps, double_round-is, column_round-after_diagonal, (double_rounds-is (suc n) x e))
 
 length-diagonal_round : (x : List ℕ) → length (upstream.diagonal_round x) ≡ 16
 unfolding upstream.diagonal_round
@@ -74,18 +72,15 @@ no_first stream = refl
 
 low_half : (stream : ℕ) → u32_at (nonce_bytes stream) 1 ≡ stream % 2 ^ 32
 unfolding u32_at
-low_half stream =
-    omega (arith, div-div-eq-div-mul stream 256 256, div-div-eq-div-mul stream (256 ^ 2) 256)
+low_half stream = search rules
 
 high_half : (stream : ℕ) → stream < 2 ^ 64 → u32_at (nonce_bytes stream) 2 ≡ stream / 2 ^ 32
 unfolding u32_at
-high_half stream small =
-    omega (arith, div-div-eq-div-mul stream (256 ^ 4) 256, div-div-eq-div-mul stream (256 ^ 5) 256, div-div-eq-div-mul stream (256 ^ 6) 256)
+high_half stream small = search rules
 
 initial_state-is : (key : List ℕ) (counter stream : ℕ) → counter < 2 ^ 32 → stream < 2 ^ 64
     → initial_state key counter (nonce_bytes stream) ≡ upstream.initial_state (key_of key) counter stream
-initial_state-is key counter stream small fits =
-    rw (mod-eq_of_lt small, div-eq_of_lt small, no_first stream, low_half stream, high_half stream fits) refl
+initial_state-is key counter stream small fits = grind (arith, common_steps, mod-eq_of_lt, div-eq_of_lt, no_first, low_half, high_half)
 
 -- a word of a block whose counter has 32 bits
 block_word-is : (key : List ℕ) (counter stream k : ℕ) → counter < 2 ^ 32 → stream < 2 ^ 64
@@ -104,40 +99,27 @@ block_word-is key counter stream k small fits =
 pub word_at-is : (seed stream place : ℕ) → place < 2 ^ 36 → stream < 2 ^ 64
     → word_at 10 (key_of (key_bytes seed)) stream place ≡ seed_word seed stream place
 unfolding seed_word
-word_at-is seed stream place near fits =
-    rw (lt-ltb _ _ near) (sym (block_word-is (key_bytes seed) (place / 16) stream (place % 16) (omega arith) fits))
+word_at-is seed stream place near fits = grind (arith, common_steps, lt-ltb, block_word-is)
 
 -- a generator that is moved to a place, of which 68 bits count
 pub set_word_pos-is : (g : ChaCha) (key : List ℕ) (stream next pos place : ℕ)
     → g ≡ record { key = key; stream = stream; word_pos = next } → pos ≡ place → place < 2 ^ 36
     → record g { word_pos = pos % 2 ^ 68 } ≡ record { key = key; stream = stream; word_pos = place }
-set_word_pos-is g key stream next pos place e same near =
-    let whole : pos % 2 ^ 68 ≡ place = omega arith in
-    ap (λ (h : ChaCha). record h { word_pos = pos % 2 ^ 68 }) e
-    ∙ ap (λ (n : ℕ). let h : ChaCha = record { key = key; stream = stream; word_pos = n } in h) whole
+set_word_pos-is g key stream next pos place e same near = search rules
 
 -- the generator of a seed, once it stands at a place
 pub stood-at : (g h : ChaCha) (seed stream next pos place : ℕ) → g ≡ record { key = key_of (key_bytes seed); stream = stream; word_pos = next }
     → h ≡ record { key = g.key; stream = g.stream; word_pos = pos } → pos ≡ place → h ≡ record { key = key_of (key_bytes seed); stream = stream; word_pos = place }
-stood-at g h seed stream next pos place e stands same =
-    stands
-    ∙ ap (λ (i : ChaCha). let j : ChaCha = record { key = i.key; stream = i.stream; word_pos = pos } in j) e
-    ∙ ap (λ (n : ℕ). let j : ChaCha = record { key = key_of (key_bytes seed); stream = stream; word_pos = n } in j) same
+stood-at g h seed stream next pos place e stands same = search rules
 
 -- what a generator at a place answers
 pub next_word-is : (g after : ChaCha) (seed stream place word : ℕ) → (word, after) ≡ next_word 10 g
     → g ≡ record { key = key_of (key_bytes seed); stream = stream; word_pos = place }
     → place < 2 ^ 36 → stream < 2 ^ 64 → word ≡ seed_word seed stream place
-next_word-is g after seed stream place word e at near fits =
-    ap (λ (p : _). p.0) e ∙ ap (λ (g : ChaCha). (next_word 10 g).0) at ∙ word_at-is seed stream place near fits
+next_word-is g after seed stream place word e at near fits = grind (arith, common_steps, word_at-is)
 
 -- what a generator at a place draws into a list
 pub words-drawn : (g h : ChaCha) (seed stream place : ℕ) (list filled : List ℕ) → Draws (length list) 0 g h list filled
     → g ≡ record { key = key_of (key_bytes seed); stream = stream; word_pos = place }
     → place + length list ≤ 2 ^ 36 → stream < 2 ^ 64 → AreWordsFrom (seed_word seed stream) place filled
-words-drawn g h seed stream place list filled draws at near fits = record {
-  each = λ i small. (let long = draws.same_length in
-      let e : i ≡ 0 + i = omega arith in
-      ap (slice_index filled) e ∙ draws.drawn i (omega arith) ∙ ap (λ (g : ChaCha). word_at 10 g.key g.stream (g.word_pos + i)) at
-      ∙ word_at-is seed stream (place + i) (omega arith) fits);
-}
+words-drawn g h seed stream place list filled draws at near fits = grind (arith, common_steps, word_at-is)
