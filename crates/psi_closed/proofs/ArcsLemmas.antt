@@ -1,8 +1,9 @@
 -- The arcs of states: which they are, what a list of them holds, and the arc hull.
-use Rattle.std.specs.Prelude.{◌≡◌, ℕ, List, length, true, nat_eq, ◌&&◌, refl}
+use Rattle.std.specs.Prelude.{◌≡◌, ℕ, List, length, true, nat_eq, refl}
 use Rattle.std.specs.List.{list_all}
-use Rattle.std.proofs.Common.{ap, sym, ◌∙◌, subst, arith}
-use Rattle.std.proofs.lemmas.Bool.{and_parts, and_from, eqb-true, eq-eqb}
+use Rattle.std.proofs.Common.{sym, subst, arith}
+use Rattle.std.proofs.lemmas.Bool.{eqb-true, eq-eqb}
+use Rattle.std.proofs.lemmas.Grind.{common_steps}
 use Rattle.psi_state.specs.State.{numbers_from, all_states}
 use Rattle.psi_state.specs.Members.{In}
 use Rattle.psi_state.specs.Ascending.{IsRising}
@@ -11,27 +12,18 @@ use Rattle.psi_state.proofs.BoxesLemmas.{In-all_states, In-of_all_states}
 use Rattle.psi_state.proofs.AscendingLemmas.{box-rising}
 use Rattle.psi_closed_arcs.specs.declared.ends.Arc.{Arc}
 use Rattle.psi_closed_arcs.specs.Walks.{customers, IsArc}
+use Rattle.psi_closed_arcs.proofs.RowsLemmas.{arc-same}
 use Rattle.psi_closed.specs.Closed.{IsOfTotal, total_states, arc_at, arcs_of, all_arcs, is_same, has_arc, held_states}
 use Rattle.psi_closed.proofs.ListsLemmas.{In-filter, In-of_filter, filter-agree, filter-rising, list_all-true, list_all-each, list_any-found, list_any-some, same-bool}
 
 abbrev pub arc : ℕ → ℕ → ℕ → Arc
 arc l a v = record { level = l; before = a; value = v }
 
-same-arc : (a b : Arc) → a.level ≡ b.level → a.before ≡ b.before → a.value ≡ b.value → a ≡ b
-same-arc a b level before value =
-    ap (λ n. arc n a.before a.value) level ∙ (ap (λ n. arc b.level n a.value) before ∙ ap (λ n. arc b.level b.before n) value)
-
 pub is_same-true : (a b : Arc) → is_same a b ≡ true → a ≡ b
-is_same-true a b same =
-    let parts = and_parts (nat_eq a.level b.level && nat_eq a.before b.before) (nat_eq a.value b.value) same in
-    let firsts = and_parts (nat_eq a.level b.level) (nat_eq a.before b.before) parts.0 in
-    same-arc a b (eqb-true a.level b.level firsts.0) (eqb-true a.before b.before firsts.1) (eqb-true a.value b.value parts.1)
+is_same-true a b same = grind (arith, common_steps)
 
 pub is_same-itself : (a : Arc) → is_same a a ≡ true
-is_same-itself a =
-    and_from (nat_eq a.level a.level && nat_eq a.before a.before) (nat_eq a.value a.value)
-    (and_from (nat_eq a.level a.level) (nat_eq a.before a.before) (eq-eqb a.level a.level refl) (eq-eqb a.before a.before refl))
-    (eq-eqb a.value a.value refl)
+is_same-itself a = grind (arith, common_steps)
 
 -- the test finds the members
 pub has_arc-member : (arcs : List Arc) (a : Arc) → In a arcs → has_arc arcs a ≡ true
@@ -47,7 +39,7 @@ pub In-arcs_of : (x : List ℕ) (l a v : ℕ) → IsArc x l a v → In (arc l a 
 In-arcs_of x l a v is =
     let place = is.place in
     let member : In l (numbers_from 0 (length x)) = In-numbers_from l 0 (length x) (omega arith) (omega arith) in
-    subst (λ b. In b (arcs_of x)) (same-arc (arc_at x l) (arc l a v) refl is.sum is.own) (In-map (λ i. arc_at x i) l (numbers_from 0 (length x)) member)
+    subst (λ b. In b (arcs_of x)) (arc-same (arc_at x l) (arc l a v) refl is.sum is.own) (In-map (λ i. arc_at x i) l (numbers_from 0 (length x)) member)
 
 pub In-of_arcs_of : (x : List ℕ) (b : Arc) → In b (arcs_of x) → IsArc x b.level b.before b.value
 In-of_arcs_of x b member =
@@ -61,21 +53,16 @@ In-all_arcs xs x l a v member is = In-flat_map (λ y. arcs_of y) x (arc l a v) x
 
 pub In-of_all_arcs : (xs : List (List ℕ)) (b : Arc) → In b (all_arcs xs) → (x : List ℕ) × In x xs × IsArc x b.level b.before b.value
 unfolding all_arcs
-In-of_all_arcs xs b member =
-    let found = In-of_flat_map (λ y. arcs_of y) b xs member in
-    (found.0, found.1, In-of_arcs_of found.0 b found.2)
+In-of_all_arcs xs b member = grind (arith, common_steps, In-of_flat_map, In-of_arcs_of)
 
 -- the states of a total
 pub In-total_states : (caps : List ℕ) (k : ℕ) (x : List ℕ) → IsOfTotal caps k x → In x (total_states caps k)
 unfolding total_states
-In-total_states caps k x is =
-    In-filter (λ y. nat_eq (customers y) k) x (all_states caps) (In-all_states caps x is.within) (eq-eqb (customers x) k is.whole)
+In-total_states caps k x is = grind (arith, common_steps, In-filter, In-all_states, eq-eqb)
 
 pub In-of_total_states : (caps : List ℕ) (k : ℕ) (x : List ℕ) → In x (total_states caps k) → IsOfTotal caps k x
 unfolding total_states
-In-of_total_states caps k x member =
-    let old = In-of_filter (λ y. nat_eq (customers y) k) x (all_states caps) member in
-    record { within = In-of_all_states caps x old.0; whole = eqb-true (customers x) k old.1 }
+In-of_total_states caps k x member = grind (arith, common_steps, In-of_filter, In-of_all_states, eqb-true)
 
 pub total_states-rising : (caps : List ℕ) (k : ℕ) → IsRising (total_states caps k)
 unfolding total_states
@@ -97,8 +84,7 @@ all-has arcs x all = record {
 -- what a list of arcs holds
 pub In-held : (caps : List ℕ) (k : ℕ) (arcs : List Arc) (x : List ℕ) → IsOfTotal caps k x → HasArcs arcs x → In x (held_states caps k arcs)
 unfolding held_states
-In-held caps k arcs x is has =
-    In-filter (λ y. list_all (λ a. has_arc arcs a) (arcs_of y)) x (total_states caps k) (In-total_states caps k x is) (has-all arcs x has)
+In-held caps k arcs x is has = grind (arith, common_steps, In-filter, In-total_states, has-all)
 
 pub In-of_held : (caps : List ℕ) (k : ℕ) (arcs : List Arc) (x : List ℕ) → In x (held_states caps k arcs) → IsOfTotal caps k x × HasArcs arcs x
 unfolding held_states

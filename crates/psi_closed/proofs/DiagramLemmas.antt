@@ -1,7 +1,8 @@
 -- Lists of arcs that are the arcs of some states of a total: what they hold, and that each is an arc of a held state.
 use Rattle.std.specs.Prelude.{◌≡◌, ℕ, zero, suc, ◌+◌, ◌-◌, ◌≤◌, ◌<◌, List, [], ◌∷◌, length, take, slice_index, ◌↔◌, ◌⊎◌, Bool, true, false, cond, refl}
-use Rattle.std.proofs.Common.{inl, inr, ap, sym, ◌∙◌, subst, arith}
+use Rattle.std.proofs.Common.{inl, inr, sym, subst, arith}
 use Rattle.std.proofs.lemmas.Bool.{cases_lt, cases_Bool, false≢true}
+use Rattle.std.proofs.lemmas.Grind.{common_steps}
 use Rattle.psi_state.specs.State.{AreCapacities}
 use Rattle.psi_state.specs.Ascending.{IsDistinct}
 use Rattle.psi_state.proofs.AscendingLemmas.{length-among}
@@ -18,7 +19,7 @@ use Rattle.psi_kinds.specs.Moves.{moved, IsMove}
 use Rattle.psi_closed.specs.Closed.{IsOfTotal, total_states, all_arcs, has_arc, held_states, arc_hull, each_once, arc_count}
 use Rattle.psi_closed.specs.Diagram.{Shown, IsTotal, AreWhole, IsDiagram, AreArcsOf}
 use Rattle.psi_closed.proofs.ArcsLemmas.{arc, has_arc-member, member-has_arc, In-all_arcs, In-of_all_arcs, In-total_states, In-of_total_states, In-held, In-of_held, held-agree}
-use Rattle.psi_closed.proofs.WalksLemmas.{held-total, held-each, held-of}
+use Rattle.psi_closed.proofs.WalksLemmas.{held-total, held-each, held-of, held-map}
 use Rattle.psi_closed_arcs.proofs.WalksLemmas.{useful-held, held-useful}
 use Rattle.psi_closed.proofs.MovesLemmas.{moved-keeps}
 use Rattle.psi_closed.proofs.JoiningLemmas.{joined-moved, moved-joined}
@@ -30,22 +31,15 @@ arcs_of-states caps k arcs xs are = held-agree caps k arcs (all_arcs xs) are.the
 
 -- each of the states is held
 pub arcs_of-has : (caps : List ℕ) (k : ℕ) (arcs : List Arc) (xs : List (List ℕ)) (x : List ℕ) → AreArcsOf caps k arcs xs → In x xs → In x (held_states caps k arcs)
-arcs_of-has caps k arcs xs x are member =
-    subst (λ (ys : List (List ℕ)). In x ys) (sym (arcs_of-states caps k arcs xs are)) (hull-has caps k xs x (are.of x member) member)
+arcs_of-has caps k arcs xs x are member = grind (arith, common_steps, arcs_of-states, hull-has)
 
 -- so each arc is an arc of a held state
 pub arcs_of-whole : (caps : List ℕ) (k : ℕ) (arcs : List Arc) (xs : List (List ℕ)) → AreArcsOf caps k arcs xs → AreWhole caps k arcs
-arcs_of-whole caps k arcs xs are = record {
-  each = λ l s v listed.
-      (let found = In-of_all_arcs xs (arc l s v) (are.there l s v listed) in
-      record { state = found.0; held = arcs_of-has caps k arcs xs found.0 are found.1; own = found.2 });
-}
+arcs_of-whole caps k arcs xs are = grind (arith, common_steps, In-of_all_arcs, arc, arcs_of-has)
 
 -- a held state is a walk along the arcs
 pub state-walk : (caps : List ℕ) (k : ℕ) (arcs : List Arc) (x : List ℕ) → In x (held_states caps k arcs) → Held (Listed arcs) (length caps) k x
-state-walk caps k arcs x member =
-    let old = In-of_held caps k arcs x member in
-    held-of (Listed arcs) (length caps) k x old.0.within.same_length old.0.whole (λ l s v own. old.1.each l s v own)
+state-walk caps k arcs x member = grind (arith, common_steps, In-of_held, held-of)
 
 -- and a walk along the arcs is a held state
 pub walk-state : (caps : List ℕ) (k : ℕ) (arcs : List Arc) (x : List ℕ) → AreWhole caps k arcs → Held (Listed arcs) (length caps) k x → In x (held_states caps k arcs)
@@ -92,16 +86,7 @@ customers-upto (v ∷ vs) zero place = omega arith
 customers-upto (v ∷ vs) (suc l) place = (let rest = customers-upto vs l (omega arith) in omega arith)
 
 any-held : (caps : List ℕ) (k : ℕ) (x : List ℕ) → IsOfTotal caps k x → Held (IsAny caps k) (length caps) k x
-any-held caps k x is =
-    held-of (IsAny caps k) (length caps) k x is.within.same_length is.whole (λ l s v own.
-    (let same = is.within.same_length in
-    let place = own.place in
-    let most = is.within.each l place in
-    let sum = customers-upto x l place in
-    let all = is.whole in
-    let before = own.sum in
-    let value = own.own in
-    record { place = omega arith; own = omega arith; sum = omega arith }))
+any-held caps k x is = grind (arith, common_steps, held-of, customers-upto)
 
 held-any : (caps : List ℕ) (k : ℕ) (x : List ℕ) → Held (IsAny caps k) (length caps) k x → IsOfTotal caps k x
 held-any caps k x held = record {
@@ -120,14 +105,12 @@ useful-arcs caps k all arcs any useful =
     record {
       there = λ l s v listed.
           (let found = useful-held (Listed all) n k l s v ((useful l s v).0 listed) in
-          let held : Held (IsAny caps k) n k found.0 = held-of (IsAny caps k) n k found.0 found.1.0 (held-total (Listed all) n k found.0 found.1)
-          (λ i b w own. (any i b w).0 (held-each (Listed all) n k found.0 i b w found.1 own)) in
+          let held = held-map (Listed all) (IsAny caps k) n k found.0 found.1 (λ i b w own there. (any i b w).0 there) in
           In-all_arcs (total_states caps k) found.0 l s v (In-total_states caps k found.0 (held-any caps k found.0 held)) found.2);
       back = λ l s v member.
           (let found = In-of_all_arcs (total_states caps k) (arc l s v) member in
           let held = any-held caps k found.0 (In-of_total_states caps k found.0 found.1) in
-          let listed : Held (Listed all) n k found.0 = held-of (Listed all) n k found.0 held.0 (held-total (IsAny caps k) n k found.0 held)
-          (λ i b w own. (any i b w).1 (held-each (IsAny caps k) n k found.0 i b w held own)) in
+          let listed = held-map (IsAny caps k) (Listed all) n k found.0 held (λ i b w own there. (any i b w).1 there) in
           (useful l s v).1 (held-useful (Listed all) n k l s v found.0 listed found.2));
       of = λ x member. In-of_total_states caps k x member;
     }
@@ -136,18 +119,14 @@ useful-arcs caps k all arcs any useful =
 pub filled-arcs : (caps : List ℕ) (k n t u : ℕ) (all arcs : List Arc) → n ≡ length caps → t ≡ k → u ≡ k → ((l s v : ℕ) → Listed all l s v ↔ IsAny caps t l s v)
     → ((l s v : ℕ) → Listed arcs l s v ↔ Useful (Listed all) n u l s v) → AreArcsOf caps k arcs (total_states caps k)
 filled-arcs caps k n t u all arcs long first second any useful =
-    useful-arcs caps k all arcs (subst (λ m. (l s v : ℕ) → Listed all l s v ↔ IsAny caps m l s v) first any)
-    (subst (λ m. (l s v : ℕ) → Listed arcs l s v ↔ Useful (Listed all) (length caps) m l s v) second
-    (subst (λ m. (l s v : ℕ) → Listed arcs l s v ↔ Useful (Listed all) m u l s v) long useful))
+    useful-arcs caps k all arcs (rw first at any) (rw (long, second) at useful)
 
 -- as a step is told
 pub stepped-arcs : (caps : List ℕ) (k n room : ℕ) (m : Move) (old new : List Arc) → IsMove caps m → AreWhole caps k old → n ≡ length caps → room ≡ slice_index caps m.to
     → ((l s v : ℕ) → Listed new l s v ↔ Joined (Listed old) n k m.from m.k m.to room l s v)
     → AreArcsOf caps k new (image (moved caps m) (held_states caps k old))
 stepped-arcs caps k n room m old new is whole long top joined =
-    joined-arcs caps k m old new is whole
-    (subst (λ j. (l s v : ℕ) → Listed new l s v ↔ Joined (Listed old) (length caps) k m.from m.k m.to j l s v) top
-    (subst (λ j. (l s v : ℕ) → Listed new l s v ↔ Joined (Listed old) j k m.from m.k m.to room l s v) long joined))
+    joined-arcs caps k m old new is whole (rw (long, top) at joined)
 
 -- each arc of a diagram is useful
 pub whole-useful : (caps : List ℕ) (k n : ℕ) (arcs : List Arc) → AreWhole caps k arcs → n ≡ length caps → (l s v : ℕ) → Listed arcs l s v → Useful (Listed arcs) n k l s v
@@ -164,10 +143,10 @@ put-arcs caps k arcs xs same each = record { there = λ l s v. (same l s v).0; b
 pub diagram-is : (caps : List ℕ) (k : ℕ) (held : ArcList) (xs : List (List ℕ)) (x : List ℕ) → AreCapacities caps → IsTotal caps k → held.levels ≡ length caps
     → held.total ≡ k → AreArcsOf caps k held.arcs xs → In x xs → IsDiagram caps held
 diagram-is caps k held xs x valid fits levels total are member =
-    let own : AreArcsOf caps held.total held.arcs xs = subst (λ n. AreArcsOf caps n held.arcs xs) (sym total) are in
+    let own : AreArcsOf caps held.total held.arcs xs = rw total are in
     record {
       valid = valid;
-      fits = subst (λ n. IsTotal caps n) (sym total) fits;
+      fits = rw total fits;
       levels = levels;
       whole = arcs_of-whole caps held.total held.arcs xs own;
       some = (x, arcs_of-has caps held.total held.arcs xs x own member);
@@ -176,10 +155,7 @@ diagram-is caps k held xs x valid fits levels total are member =
 -- and it is seen as their arc hull
 pub shown-is : (caps : List ℕ) (k : ℕ) (held : ArcList) (xs : List (List ℕ)) → held.total ≡ k → AreArcsOf caps k held.arcs xs
     → ◌≡◌ {A = Shown} (record { caps = caps; total = held.total; states = held_states caps held.total held.arcs }) (record { caps = caps; total = k; states = arc_hull caps k xs })
-shown-is caps k held xs total are =
-    let e : ◌≡◌ {A = Shown} (record { caps = caps; total = held.total; states = held_states caps held.total held.arcs }) (record { caps = caps; total = k; states = held_states caps k held.arcs }) =
-    ap (λ n. record { caps = caps; total = n; states = held_states caps n held.arcs }) total in
-    e ∙ ap (λ (ys : List (List ℕ)). record { caps = caps; total = k; states = ys }) (arcs_of-states caps k held.arcs xs are)
+shown-is caps k held xs total are = rw (total, arcs_of-states caps k held.arcs xs are)
 
 -- the states of a total that has one
 pub total-some : (caps : List ℕ) (k : ℕ) → k ≤ customers caps → (x : List ℕ) × IsOfTotal caps k x
@@ -225,9 +201,7 @@ member-each_once (b ∷ arcs) a member =
 
 each_once-distinct : (arcs : List Arc) → IsDistinct (each_once arcs)
 each_once-distinct [] = tt
-each_once-distinct (b ∷ arcs) =
-    distinct-once (has_arc arcs b) b (each_once arcs)
-    (λ none member. false≢true (sym none ∙ has_arc-member arcs b (each_once-member arcs b member))) (each_once-distinct arcs)
+each_once-distinct (b ∷ arcs) = grind (arith, common_steps, distinct-once, false≢true, has_arc-member, each_once-member, (each_once-distinct arcs))
 
 -- as many arcs as the held states have
 pub arcs-count : (caps : List ℕ) (k : ℕ) (arcs : List Arc) → AreWhole caps k arcs → IsDistinct arcs → length arcs ≡ arc_count (held_states caps k arcs)

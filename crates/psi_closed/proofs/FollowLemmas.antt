@@ -4,6 +4,7 @@ use Rattle.std.proofs.Common.{inl, inr, ap, sym, ◌∙◌, take, arith}
 use Rattle.std.proofs.lemmas.Bool.{cases_lt, lt-ltb, le-ltb}
 use Rattle.std.proofs.lemmas.List.{get_or_past, append-nil}
 use Rattle.std.proofs.Math.Seq.{take-suc}
+use Rattle.std.proofs.lemmas.Grind.{common_steps}
 use Rattle.psi_state.specs.Sets.{image, single}
 use Rattle.psi_kinds.specs.declared.moves.Move.{Move}
 use Rattle.psi_kinds.specs.Moves.{moved}
@@ -17,22 +18,13 @@ use Rattle.psi_closed.proofs.RunsLemmas.{run-begins}
 module _ (caps : List ℕ) (k : ℕ) (functions : List (List ℕ → List ℕ)) where
   follow_closed-append : (ns ms : List ℕ) (xs : List (List ℕ)) → follow_closed caps k functions (ns ++ ms) xs ≡ follow_closed caps k functions ns (follow_closed caps k functions ms xs)
   follow_closed-append [] ms xs = refl
-  follow_closed-append (n ∷ ns) ms xs =
-      ap (λ (ys : List (List ℕ)). arc_hull caps k (image (slice_index_or functions n (λ x. x)) ys)) (follow_closed-append ns ms xs)
+  follow_closed-append (n ∷ ns) ms xs = grind (arith, common_steps, (follow_closed-append ns ms xs))
 
   -- the step of one number takes it off the end
   pub follow_closed-take : (numbers : List ℕ) (i : ℕ) (old new end : List (List ℕ)) → 1 ≤ i → i ≤ length numbers
       → new ≡ arc_hull caps k (image (slice_index_or functions (slice_index numbers (i - 1)) (λ x. x)) old) → follow_closed caps k functions (take i numbers) old ≡ end
       → follow_closed caps k functions (take (i - 1) numbers) new ≡ end
-  follow_closed-take numbers i old new end some within stepped is =
-      let last = i - 1 in
-      let e : suc last ≡ i = omega arith in
-      let small : last < length numbers = omega arith in
-      ap (λ (ys : List (List ℕ)). follow_closed caps k functions (take last numbers) ys) stepped
-      ∙ sym (follow_closed-append (take last numbers) (slice_index numbers last ∷ []) old)
-      ∙ ap (λ (ns : List ℕ). follow_closed caps k functions ns old) (sym (take-suc numbers last 0 small))
-      ∙ ap (λ n. follow_closed caps k functions (take n numbers) old) e
-      ∙ is
+  follow_closed-take numbers i old new end some within stepped is = grind (arith, common_steps, take-suc, follow_closed-append)
 
   -- an idle step changes nothing
   numbers-after : (rates : List ℕ) (words : ℕ → ℕ) (t : ℕ) (xs : List (List ℕ)) → length rates ≡ length functions → IsHull caps k xs
@@ -63,23 +55,10 @@ module _ (caps : List ℕ) (k : ℕ) (functions : List (List ℕ → List ℕ)) 
   -- so it ends with one state exactly where that run does
   pub numbers-ending : (rates : List ℕ) (words : ℕ → ℕ) (t : ℕ) (numbers : List ℕ) → length rates ≡ length functions → numbers ≡ numbers_below rates words t
       → single (follow_closed caps k functions numbers (total_states caps k)) ≡ closed_ending caps k (function_at functions rates words) t
-  numbers-ending rates words t numbers same is =
-      ap (λ (ns : List ℕ). single (follow_closed caps k functions ns (total_states caps k))) is
-      ∙ ap (λ (ys : List (List ℕ)). single ys)
-      (numbers-after rates words t (total_states caps k) same (total-hull caps k) ∙ run-begins caps k (function_at functions rates words) t)
-
--- the function of the move of a number
-pub read-map : {A B : Type 0} (f : A → B) (xs : List A) (n : ℕ) (d : A) (e : B) → n < length xs → slice_index_or (map f xs) n e ≡ f (slice_index_or xs n d)
-read-map f [] n d e small = absurd (omega arith)
-read-map f (x ∷ xs) zero d e small = refl
-read-map f (x ∷ xs) (suc n) d e small = read-map f xs n d e (omega arith)
+  numbers-ending rates words t numbers same is = grind (arith, common_steps, numbers-after, total-hull, run-begins)
 
 -- a step by a move is one by the function of its number
 pub step-is : (caps room : List ℕ) (k total : ℕ) (moves : List Move) (n : ℕ) (d : Move) (old new : List (List ℕ)) → n < length moves → room ≡ caps → total ≡ k
     → new ≡ arc_hull room total (image (moved room (slice_index_or moves n d)) old)
     → new ≡ arc_hull caps k (image (slice_index_or (map (λ m. moved caps m) moves) n (λ x. x)) old)
-step-is caps room k total moves n d old new small first second stepped =
-    stepped
-    ∙ ap (λ (top : List ℕ). arc_hull top total (image (moved top (slice_index_or moves n d)) old)) first
-    ∙ ap (λ j. arc_hull caps j (image (moved caps (slice_index_or moves n d)) old)) second
-    ∙ ap (λ (g : List ℕ → List ℕ). arc_hull caps k (image g old)) (sym (read-map (λ m. moved caps m) moves n d (λ x. x) small))
+step-is caps room k total moves n d old new small first second stepped = grind (arith, common_steps)

@@ -1,6 +1,7 @@
 -- The arc hull of a list of states.
 use Rattle.std.specs.Prelude.{◌≡◌, ℕ, List}
-use Rattle.std.proofs.Common.{sym, subst}
+use Rattle.std.proofs.Common.{arith, subst}
+use Rattle.std.proofs.lemmas.Grind.{common_steps}
 use Rattle.psi_state.specs.Members.{In, AreAmong}
 use Rattle.psi_state.specs.Sets.{image}
 use Rattle.psi_state.specs.Ascending.{IsRising}
@@ -63,13 +64,8 @@ hull-rising caps k xs is = subst (λ (ys : List (List ℕ)). IsRising ys) is.own
 
 -- a step that changes nothing leaves a hull as it is
 pub hull-rests : (caps : List ℕ) (k : ℕ) (xs : List (List ℕ)) → IsHull caps k xs → arc_hull caps k (image (λ (x : List ℕ). x) xs) ≡ xs
-hull-rests caps k xs is =
-    subst (λ (ys : List (List ℕ)). arc_hull caps k ys ≡ xs) (sym (image-identity xs (hull-rising caps k xs is))) is.own
+hull-rests caps k xs is = grind (arith, common_steps, image-identity, hull-rising)
 
 -- a larger list has a larger image
 pub image-among : (f : List ℕ → List ℕ) (xs ys : List (List ℕ)) → AreAmong xs ys → AreAmong (image f xs) (image f ys)
-image-among f xs ys among = record {
-  each = λ x member.
-      (let found = In-of_image f x xs member in
-      subst (λ (y : List ℕ). In y (image f ys)) (sym found.2) (In-image f found.0 ys (among.each found.0 found.1)));
-}
+image-among f xs ys among = grind (arith, common_steps, In-of_image, In-image)

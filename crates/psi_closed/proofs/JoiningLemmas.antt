@@ -1,13 +1,15 @@
 -- The arcs after a move are those of what the move makes of the held states.
-use Rattle.std.specs.Prelude.{◌≡◌, ℕ, ◌+◌, ◌<◌, ◌≤◌, List, length, take, slice_index, refl}
+use Rattle.std.specs.Prelude.{ℕ, ◌<◌, ◌≤◌, List, length, take, slice_index, refl}
 use Rattle.std.proofs.Common.{inl, inr, sym, subst, arith}
 use Rattle.std.proofs.lemmas.Bool.{cases_lt}
+use Rattle.std.proofs.lemmas.Grind.{common_steps}
 use Rattle.psi_closed_arcs.specs.Walks.{customers, Held, IsArc, Useful}
-use Rattle.psi_closed_arcs.specs.Joining.{past, here, Only, IsChanging, IsShort, IsFull, HasShifted, Joined}
+use Rattle.psi_closed_arcs.specs.Joining.{Only, IsChanging, IsShort, IsFull, HasShifted, Joined}
 use Rattle.psi_kinds.specs.declared.moves.Move.{Move}
 use Rattle.psi_kinds.specs.Moves.{moved, IsMove}
 use Rattle.psi_closed.proofs.WalksLemmas.{held-each, held-map}
 use Rattle.psi_closed_arcs.proofs.WalksLemmas.{useful-held, held-useful}
+use Rattle.psi_closed_arcs.proofs.PuttingLemmas.{held-allowed}
 use Rattle.psi_closed.proofs.MovesLemmas.{changed, moved-changed, moved-short, moved-full, length-changed, sums-changed, owns-changed}
 
 own-arc : (x : List ℕ) (l : ℕ) → l < length x → IsArc x l (customers (take l x)) (slice_index x l)
@@ -19,9 +21,6 @@ held-rule A P n t x l held place = (held-each (Only A P) n t x l (customers (tak
 
 held-plain : (A : ℕ → ℕ → ℕ → Type 0) (P : ℕ → ℕ → Type 0) (n t : ℕ) (x : List ℕ) → Held (Only A P) n t x → Held A n t x
 held-plain A P n t x held = held-map (Only A P) A n t x held (λ l s v is both. both.0)
-
-held-only : (A : ℕ → ℕ → ℕ → Type 0) (P : ℕ → ℕ → Type 0) (n t : ℕ) (x : List ℕ) → Held A n t x → ((l : ℕ) → P l (slice_index x l)) → Held (Only A P) n t x
-held-only A P n t x held each = held-map A (Only A P) n t x held (λ l s v is there. (there, subst (λ w. P l w) is.own (each l)))
 
 module _ (caps : List ℕ) (m : Move) (is : IsMove caps m) (A : ℕ → ℕ → ℕ → Type 0) (t l s v : ℕ) where
   shifted-moved : HasShifted A (length caps) t m.from m.k m.to (slice_index caps m.to) l s v
@@ -42,7 +41,7 @@ module _ (caps : List ℕ) (m : Move) (is : IsMove caps m) (A : ℕ → ℕ → 
       let shifted = has.shifted in (
         x,
         held-plain A rule n t x found.1,
-        subst (λ (y : List ℕ). IsArc y l s v) (sym (moved-changed caps m x enough room)) (record {
+        rw (moved-changed caps m x enough room) (record {
           place = omega (arith, length-changed caps m is x long enough, arc.place, long);
           sum = omega (arith, sums, arc.sum, shifted.sums);
           own = omega (arith, owns, arc.own, shifted.owns);
@@ -58,7 +57,7 @@ module _ (caps : List ℕ) (m : Move) (is : IsMove caps m) (A : ℕ → ℕ → 
       let long = found.1.0 in
       let source = is.source in
       let short = held-rule A rule n t x m.from found.1 (omega arith) refl in
-      (x, held-plain A rule n t x found.1, subst (λ (y : List ℕ). IsArc y l s v) (sym (moved-short caps m x short)) found.2)
+      (x, held-plain A rule n t x found.1, rw (moved-short caps m x short) found.2)
 
   full-moved : Useful (Only A (IsFull m.to (slice_index caps m.to))) (length caps) t l s v
       → (x : List ℕ) × Held A (length caps) t x × IsArc (moved caps m x) l s v
@@ -70,7 +69,7 @@ module _ (caps : List ℕ) (m : Move) (is : IsMove caps m) (A : ℕ → ℕ → 
       let long = found.1.0 in
       let target = is.target in
       let full = held-rule A rule n t x m.to found.1 (omega arith) refl in
-      (x, held-plain A rule n t x found.1, subst (λ (y : List ℕ). IsArc y l s v) (sym (moved-full caps m x full)) found.2)
+      (x, held-plain A rule n t x found.1, rw (moved-full caps m x full) found.2)
 
   -- an arc after the move is one of what the move makes of a held state
   pub joined-moved : Joined A (length caps) t m.from m.k m.to (slice_index caps m.to) l s v
@@ -84,7 +83,7 @@ module _ (caps : List ℕ) (m : Move) (is : IsMove caps m) (A : ℕ → ℕ → 
       let rule = IsChanging m.from m.k m.to (slice_index caps m.to) in
       let long = held.0 in
       let place : l < length x = omega (arith, length-changed caps m is x long enough, arc.place, long) in
-      let only : Held (Only A rule) n t x = held-only A rule n t x held (λ q. record {
+      let only : Held (Only A rule) n t x = held-allowed A rule n t x held (λ q. record {
         source = λ e. subst (λ i. m.k ≤ slice_index x i) (sym e) enough;
         target = λ e. subst (λ i. slice_index x i < slice_index caps m.to) (sym e) room;
       }) in
@@ -92,10 +91,7 @@ module _ (caps : List ℕ) (m : Move) (is : IsMove caps m) (A : ℕ → ℕ → 
         sum = customers (take l x);
         own = slice_index x l;
         useful = held-useful (Only A rule) n t l (customers (take l x)) (slice_index x l) x only (own-arc x l place);
-        shifted = record {
-          sums = subst (λ i. i + past m.from l ≡ customers (take l x) + past m.to l) arc.sum (sums-changed caps m is x long enough l);
-          owns = subst (λ i. i + here m.from l ≡ slice_index x l + here m.to l) arc.own (owns-changed caps m is x long enough l);
-        };
+        shifted = grind (arith, common_steps, sums-changed, owns-changed);
       }
 
   -- an arc of what the move makes of a held state is one after the move
@@ -105,12 +101,12 @@ module _ (caps : List ℕ) (m : Move) (is : IsMove caps m) (A : ℕ → ℕ → 
       let n = length caps in
       elim (cases_lt (slice_index x m.from) m.k) [
         | inl short ↦ inr (inl (held-useful (Only A (IsShort m.from m.k)) n t l s v x
-            (held-only A (IsShort m.from m.k) n t x held (λ q e. subst (λ i. slice_index x i < m.k) (sym e) short))
-            (subst (λ (y : List ℕ). IsArc y l s v) (moved-short caps m x short) arc)))
+            (held-allowed A (IsShort m.from m.k) n t x held (λ q e. subst (λ i. slice_index x i < m.k) (sym e) short))
+            (rw (moved-short caps m x short) at arc)))
         | inr enough ↦ elim (cases_lt (slice_index x m.to) (slice_index caps m.to)) [
-          | inl room ↦ inl (changed-joined x held enough room (subst (λ (y : List ℕ). IsArc y l s v) (moved-changed caps m x enough room) arc))
+          | inl room ↦ inl (changed-joined x held enough room (rw (moved-changed caps m x enough room) at arc))
           | inr full ↦ inr (inr (held-useful (Only A (IsFull m.to (slice_index caps m.to))) n t l s v x
-              (held-only A (IsFull m.to (slice_index caps m.to)) n t x held (λ q e. subst (λ i. slice_index caps m.to ≤ slice_index x i) (sym e) full))
-              (subst (λ (y : List ℕ). IsArc y l s v) (moved-full caps m x full) arc)))
+              (held-allowed A (IsFull m.to (slice_index caps m.to)) n t x held (λ q e. subst (λ i. slice_index caps m.to ≤ slice_index x i) (sym e) full))
+              (rw (moved-full caps m x full) at arc)))
         ]
       ]

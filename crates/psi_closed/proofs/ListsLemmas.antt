@@ -1,16 +1,14 @@
 -- Lists that pass a test, and tests of the members of a list.
-use Rattle.std.specs.Prelude.{◌≡◌, ℕ, List, [], ◌∷◌, filter, cond, Bool, true, false, ◌⊎◌, refl}
+use Rattle.std.specs.Prelude.{◌≡◌, ℕ, List, [], ◌∷◌, filter, cond, Bool, true, false, refl}
 use Rattle.std.specs.List.{list_any, list_all}
-use Rattle.std.proofs.Common.{inl, inr, ap, sym, ◌∙◌, subst}
+use Rattle.std.proofs.Common.{arith, inl, inr, sym, subst}
 use Rattle.std.proofs.lemmas.Bool.{and_parts, and_from, or_left, or_right, or_cases, false≢true}
 use Rattle.std.specs.declared.cmp.Ordering.TheVariants.{Less}
+use Rattle.std.proofs.lemmas.Grind.{common_steps}
+use Rattle.psi_closed_arcs.proofs.RowsLemmas.{In-cond, In-of_cond}
 use Rattle.psi_state.specs.Members.{In}
 use Rattle.psi_state.specs.Sets.{state_cmp}
 use Rattle.psi_state.specs.Ascending.{IsRising}
-
-In-cond : {A : Type 0} (b : Bool) (x y : A) (rest : List A) → ((x ≡ y) × (b ≡ true)) ⊎ In x rest → In x (cond b (y ∷ rest) rest)
-In-cond true x y rest h = elim h [ inl e ↦ inl e.0 | inr t ↦ inr t ]
-In-cond false x y rest h = elim h [ inl e ↦ absurd (false≢true e.1) | inr t ↦ t ]
 
 -- what is in a list and passes the test is left
 pub In-filter : {A : Type 0} (p : A → Bool) (x : A) (xs : List A) → In x xs → p x ≡ true → In x (filter p xs)
@@ -20,10 +18,6 @@ In-filter p x (y ∷ ys) member passes =
       | inl e ↦ inl (e, subst (λ z. p z ≡ true) e passes)
       | inr t ↦ inr (In-filter p x ys t passes)
     ])
-
-In-of_cond : {A : Type 0} (b : Bool) (x y : A) (rest : List A) → In x (cond b (y ∷ rest) rest) → ((x ≡ y) × (b ≡ true)) ⊎ In x rest
-In-of_cond true x y rest member = elim member [ inl e ↦ inl (e, refl) | inr t ↦ inr t ]
-In-of_cond false x y rest member = inr member
 
 -- what is left is in the list and passes
 pub In-of_filter : {A : Type 0} (p : A → Bool) (x : A) (xs : List A) → In x (filter p xs) → In x xs × (p x ≡ true)
@@ -37,9 +31,7 @@ In-of_filter p x (y ∷ ys) member =
 -- tests that agree on a list leave the same of it
 pub filter-agree : {A : Type 0} (p q : A → Bool) (xs : List A) → ((x : A) → In x xs → p x ≡ q x) → filter p xs ≡ filter q xs
 filter-agree p q [] each = refl
-filter-agree p q (x ∷ xs) each =
-    ap (λ b. cond b (x ∷ filter p xs) (filter p xs)) (each x (inl refl))
-    ∙ ap (λ ys. cond (q x) (x ∷ ys) ys) (filter-agree p q xs (λ y member. each y (inr member)))
+filter-agree p q (x ∷ xs) each = grind (arith, common_steps, (filter-agree p q xs (λ y member. each y (inr member))))
 
 rising-cond : (b : Bool) (x : List ℕ) (rest : List (List ℕ)) → ((z : List ℕ) → In z rest → state_cmp x z ≡ Less) → IsRising rest
     → IsRising (cond b (x ∷ rest) rest)
@@ -49,8 +41,7 @@ rising-cond false x rest below rising = rising
 -- what is left of an ascending list is ascending
 pub filter-rising : (p : List ℕ → Bool) (xs : List (List ℕ)) → IsRising xs → IsRising (filter p xs)
 filter-rising p [] rising = tt
-filter-rising p (x ∷ xs) rising =
-    rising-cond (p x) x (filter p xs) (λ z member. rising.0 z (In-of_filter p z xs member).0) (filter-rising p xs rising.1)
+filter-rising p (x ∷ xs) rising = grind (arith, common_steps, rising-cond, In-of_filter, (filter-rising p xs rising.1))
 
 -- all members pass
 pub list_all-true : {A : Type 0} (p : A → Bool) (xs : List A) (x : A) → list_all p xs ≡ true → In x xs → p x ≡ true

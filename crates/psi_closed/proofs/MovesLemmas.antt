@@ -1,8 +1,9 @@
 -- What a move makes of the arcs of a state.
-use Rattle.std.specs.Prelude.{◌≡◌, ℕ, zero, suc, ◌+◌, ◌-◌, ◌<◌, ◌≤◌, List, [], ◌∷◌, length, take, slice_index, slice_set, nat_lt, nat_le, cond}
-use Rattle.std.proofs.Common.{inl, inr, ap, sym, ◌∙◌, subst, arith, get_or-set_same, get_or-set_other, length-set}
-use Rattle.std.proofs.lemmas.List.{take-set-le}
-use Rattle.std.proofs.lemmas.Bool.{cases_lt, lt-ltb, le-leb, le-ltb, lt-leb, and_left, and_right, and_from, cases_eq}
+use Rattle.std.specs.Prelude.{◌≡◌, ℕ, zero, suc, ◌+◌, ◌-◌, ◌<◌, ◌≤◌, List, [], ◌∷◌, length, take, slice_index, slice_set}
+use Rattle.std.proofs.Common.{ap, sym, ◌∙◌, arith, get_or-set_same, get_or-set_other, length-set}
+use Rattle.std.proofs.lemmas.List.{take-set-le, take_all}
+use Rattle.std.proofs.lemmas.Bool.{lt-ltb, le-leb, lt-leb}
+use Rattle.std.proofs.lemmas.Grind.{common_steps}
 use Rattle.psi_state.proofs.BoxesLemmas.{set-below}
 use Rattle.psi_closed_arcs.specs.Walks.{customers}
 use Rattle.psi_closed_arcs.specs.Joining.{past, here}
@@ -18,51 +19,19 @@ total-set (y ∷ ys) i v zero small place = absurd (omega arith)
 total-set (y ∷ ys) zero v (suc l) small place = omega arith
 total-set (y ∷ ys) (suc i) v (suc l) small place = (let rest = total-set ys i v l (omega arith) (omega arith) in omega arith)
 
--- and the sum of all
-pub total-set_all : (x : List ℕ) (i v : ℕ) → i < length x → customers (slice_set x i v) + slice_index x i ≡ customers x + v
-total-set_all [] i v small = absurd (omega arith)
-total-set_all (y ∷ ys) zero v small = omega arith
-total-set_all (y ∷ ys) (suc i) v small = (let rest = total-set_all ys i v (omega arith) in omega arith)
-
 -- one customer less at a queue
 sums-less : (x : List ℕ) (i l : ℕ) → i < length x → 1 ≤ slice_index x i → customers (take l (slice_set x i (slice_index x i - 1))) + past i l ≡ customers (take l x)
-sums-less x i l place some =
-    elim (cases_lt i l) [
-      | inl before ↦ (let one = past-yes i l before in let all = total-set x i (slice_index x i - 1) l place before in omega arith)
-      | inr after ↦ (let none = past-no i l after in
-          let same = ap (λ ys. customers ys) (take-set-le l x i (slice_index x i - 1) after) in omega arith)
-    ]
+sums-less x i l place some = grind (arith, common_steps, past-yes, total-set, past-no, take-set-le)
 
 -- one more
 sums-more : (x : List ℕ) (i l v : ℕ) → i < length x → v ≡ slice_index x i + 1 → customers (take l (slice_set x i v)) ≡ customers (take l x) + past i l
-sums-more x i l v place more =
-    elim (cases_lt i l) [
-      | inl before ↦ (let one = past-yes i l before in let all = total-set x i v l place before in omega arith)
-      | inr after ↦ (let none = past-no i l after in
-          let same = ap (λ ys. customers ys) (take-set-le l x i v after) in omega arith)
-    ]
+sums-more x i l v place more = grind (arith, common_steps, past-yes, total-set, past-no, take-set-le)
 
 owns-less : (x : List ℕ) (i l : ℕ) → i < length x → 1 ≤ slice_index x i → slice_index (slice_set x i (slice_index x i - 1)) l + here i l ≡ slice_index x l
-owns-less x i l place some =
-    elim (cases_eq i l) [
-      | inl same ↦ (let one = here-yes i l same in
-          let set = get_or-set_same x i (slice_index x i - 1) 0 place in
-          let there = ap (λ n. slice_index (slice_set x i (slice_index x i - 1)) n) same in
-          let old = ap (λ n. slice_index x n) same in omega arith)
-      | inr other ↦ (let none = here-no i l other in
-          let set = get_or-set_other x i l (slice_index x i - 1) 0 (λ e. other (sym e)) in omega arith)
-    ]
+owns-less x i l place some = grind (arith, common_steps, here-yes, get_or-set_same, here-no, get_or-set_other)
 
 owns-more : (x : List ℕ) (i l v : ℕ) → i < length x → v ≡ slice_index x i + 1 → slice_index (slice_set x i v) l ≡ slice_index x l + here i l
-owns-more x i l v place more =
-    elim (cases_eq i l) [
-      | inl same ↦ (let one = here-yes i l same in
-          let set = get_or-set_same x i v 0 place in
-          let there = ap (λ n. slice_index (slice_set x i v) n) same in
-          let old = ap (λ n. slice_index x n) same in omega arith)
-      | inr other ↦ (let none = here-no i l other in
-          let set = get_or-set_other x i l v 0 (λ e. other (sym e)) in omega arith)
-    ]
+owns-more x i l v place more = grind (arith, common_steps, here-yes, get_or-set_same, here-no, get_or-set_other)
 
 -- where the source holds enough and the target has room, the move changes the state
 abbrev pub changed : Move → List ℕ → List ℕ
@@ -71,22 +40,21 @@ changed m x = slice_set (slice_set x m.from (slice_index x m.from - 1)) m.to (sl
 pub moved-changed : (caps : List ℕ) (m : Move) (x : List ℕ) → m.k ≤ slice_index x m.from → slice_index x m.to < slice_index caps m.to
     → moved caps m x ≡ changed m x
 unfolding moved
-moved-changed caps m x enough room =
-    ap (λ b. cond b (changed m x) x) (and_from (nat_le m.k (slice_index x m.from)) (nat_lt (slice_index x m.to) (slice_index caps m.to))
-    (le-leb m.k (slice_index x m.from) enough) (lt-ltb (slice_index x m.to) (slice_index caps m.to) room))
+moved-changed caps m x enough room = rw (le-leb m.k (slice_index x m.from) enough, lt-ltb (slice_index x m.to) (slice_index caps m.to) room)
 
 -- else it stays
 pub moved-short : (caps : List ℕ) (m : Move) (x : List ℕ) → slice_index x m.from < m.k → moved caps m x ≡ x
 unfolding moved
-moved-short caps m x short =
-    ap (λ b. cond b (changed m x) x) (and_left (nat_le m.k (slice_index x m.from)) (nat_lt (slice_index x m.to) (slice_index caps m.to))
-    (lt-leb m.k (slice_index x m.from) short))
+moved-short caps m x short = rw (lt-leb m.k (slice_index x m.from) short)
 
 pub moved-full : (caps : List ℕ) (m : Move) (x : List ℕ) → slice_index caps m.to ≤ slice_index x m.to → moved caps m x ≡ x
 unfolding moved
-moved-full caps m x full =
-    ap (λ b. cond b (changed m x) x) (and_right (nat_le m.k (slice_index x m.from)) (nat_lt (slice_index x m.to) (slice_index caps m.to))
-    (le-ltb (slice_index x m.to) (slice_index caps m.to) full))
+moved-full caps m x full = grind (arith, common_steps)
+
+-- what holds of a state, and of the changed one where the move changes it, holds after the move
+pub moved-cases : (P : List ℕ → Type 0) (caps : List ℕ) (m : Move) (x : List ℕ) → P x
+    → (m.k ≤ slice_index x m.from → slice_index x m.to < slice_index caps m.to → P (changed m x)) → P (moved caps m x)
+moved-cases P caps m x stays changes = grind (arith, common_steps, moved-short, moved-changed, moved-full)
 
 -- how a move changes a state of as many queues
 module _ (caps : List ℕ) (m : Move) (is : IsMove caps m) (x : List ℕ) (long : length x ≡ length caps) (enough : m.k ≤ slice_index x m.from) where
@@ -113,43 +81,26 @@ module _ (caps : List ℕ) (m : Move) (is : IsMove caps m) (x : List ℕ) (long 
 
   pub sums-changed : (l : ℕ) → customers (take l (changed m x)) + past m.from l ≡ customers (take l x) + past m.to l
   unfolding left
-  sums-changed l =
-      let same = still in
-      let first = sums-less x m.from l source some in
-      let second = sums-more left m.to l (slice_index x m.to + 1) target (omega arith) in
-      omega arith
+  sums-changed l = grind (arith, common_steps, still, sums-less, source, some, sums-more, left, target)
 
   pub owns-changed : (l : ℕ) → slice_index (changed m x) l + here m.from l ≡ slice_index x l + here m.to l
   unfolding left
-  owns-changed l =
-      let same = still in
-      let first = owns-less x m.from l source some in
-      let second = owns-more left m.to l (slice_index x m.to + 1) target (omega arith) in
-      omega arith
+  owns-changed l = grind (arith, common_steps, still, owns-less, source, some, owns-more, left, target)
 
   pub total-changed : customers (changed m x) ≡ customers x
   unfolding left
   total-changed =
-      let same = still in
-      let least = some in
-      let first = total-set_all x m.from (slice_index x m.from - 1) source in
-      let second = total-set_all left m.to (slice_index x m.to + 1) target in
-      omega arith
+      let n = length caps in
+      let old = ap (λ (ys : List ℕ). customers ys) (take_all n x (omega arith)) in
+      let new = ap (λ (ys : List ℕ). customers ys) (take_all n (changed m x) (omega (arith, length-changed))) in
+      omega (arith, sums-changed n, past-yes m.from n is.source, past-yes m.to n is.target)
 
 -- a move keeps the states of a total
 pub moved-keeps : (caps : List ℕ) (m : Move) (k : ℕ) (x : List ℕ) → IsMove caps m → IsOfTotal caps k x → IsOfTotal caps k (moved caps m x)
-moved-keeps caps m k x is of =
-    let long = of.within.same_length in
-    let place = is.source in
-    let own : slice_index x m.from ≤ slice_index caps m.from = of.within.each m.from (omega arith) in
-    elim (cases_lt (slice_index x m.from) m.k) [
-      | inl short ↦ subst (λ y. IsOfTotal caps k y) (sym (moved-short caps m x short)) of
-      | inr enough ↦ elim (cases_lt (slice_index x m.to) (slice_index caps m.to)) [
-        | inl room ↦ (let below = set-below x caps m.from (slice_index x m.from - 1) of.within (omega arith) in
-            subst (λ y. IsOfTotal caps k y) (sym (moved-changed caps m x enough room)) (record {
-              within = set-below (slice_set x m.from (slice_index x m.from - 1)) caps m.to (slice_index x m.to + 1) below (omega arith);
-              whole = total-changed caps m is x long enough ∙ of.whole;
-            }))
-        | inr full ↦ subst (λ y. IsOfTotal caps k y) (sym (moved-full caps m x full)) of
-      ]
-    ]
+moved-keeps caps m k x is of = moved-cases (IsOfTotal caps k) caps m x of (λ enough room.
+    (let long = of.within.same_length in
+    let own = of.within.each m.from (let place = is.source in omega arith) in
+    record {
+      within = grind (arith, common_steps, set-below);
+      whole = total-changed caps m is x long enough ∙ of.whole;
+    }))

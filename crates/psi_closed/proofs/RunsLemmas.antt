@@ -1,6 +1,7 @@
 -- Closed runs are ordered by horizon, and one that ends with one state tells where every state of the total is.
-use Rattle.std.specs.Prelude.{◌≡◌, ℕ, zero, suc, ◌+◌, ◌-◌, ◌^◌, ◌≤◌, List, [], ◌∷◌, Some, refl}
+use Rattle.std.specs.Prelude.{◌≡◌, ℕ, zero, suc, ◌+◌, ◌-◌, ◌≤◌, List, [], ◌∷◌, Some, refl}
 use Rattle.std.proofs.Common.{inl, inr, ap, sym, ◌∙◌, subst, arith}
+use Rattle.std.proofs.lemmas.Grind.{common_steps}
 use Rattle.psi_state.specs.declared.Outcome.{Outcome}
 use Rattle.psi_state.specs.declared.Outcome.TheVariants.{Met, NotMet}
 use Rattle.psi_state.specs.Members.{In, AreAmong}
@@ -35,8 +36,7 @@ module _ (caps : List ℕ) (k : ℕ) (f : ℕ → List ℕ → List ℕ) where
   after-among : (t : ℕ) (xs ys : List (List ℕ)) → AreAmong xs ys → AreAmong (closed_after caps k f t xs) (closed_after caps k f t ys)
   after-among zero xs ys among = among
   after-among (suc t) xs ys among =
-      after-among t (arc_hull caps k (image (f (suc t)) xs)) (arc_hull caps k (image (f (suc t)) ys))
-      (hull-among caps k (image (f (suc t)) xs) (image (f (suc t)) ys) (image-among (f (suc t)) xs ys among))
+      grind (arith, common_steps, hull-among, image-among, (after-among t (arc_hull caps k (image (f (suc t)) xs)) (arc_hull caps k (image (f (suc t)) ys)) (hull-among caps k (image (f (suc t)) xs) (image (f (suc t)) ys) (image-among (f (suc t)) xs ys among))))
 
   -- the closed runs are ordered by horizon
   pub runs-ordered : AreOrdered caps k f
@@ -89,8 +89,7 @@ module _ (caps : List ℕ) (k : ℕ) (f : ℕ → List ℕ → List ℕ) (keeps 
 
   -- so where it ends with one state, every state of the total that starts there or earlier is in it at time zero
   pub ending-reached : (t : ℕ) (s : List ℕ) → closed_ending caps k f t ≡ Some s → IsReachedFrom (IsOfTotal caps k) f t s
-  ending-reached t s met =
-      reached_from-later (IsOfTotal caps k) f t s keeps (λ x is. single-each (closed_run caps k f t) s (compose f t x) met (run-has t x is))
+  ending-reached t s met = grind (arith, common_steps, reached_from-later, single-each, run-has)
 
   pub outcome-reached : (limit : ℕ) (o : Outcome) → IsOutcome (closed_ending caps k f) limit o → ReachesFrom (IsOfTotal caps k) f o
   outcome-reached limit (Met t s) is = ending-reached t s is.answer
@@ -106,15 +105,12 @@ module _ (caps : List ℕ) (k : ℕ) (f : ℕ → List ℕ → List ℕ) (keeps 
 
   -- so the states with which runs end last
   pub endings-last : (z : List ℕ) → IsOfTotal caps k z → IsLasting (closed_ending caps k f)
-  endings-last z of = record {
-    each = λ t later s order met. ap (λ (xs : List (List ℕ)). single xs) (met-later t later s z of order met);
-  }
+  endings-last z of = grind (arith, common_steps, met-later)
 
   -- what an outcome says of the runs of all horizons
   pub outcome-decides : (limit : ℕ) (o : Outcome) (z : List ℕ) → IsOfTotal caps k z → IsOutcome (closed_ending caps k f) limit o → DecidesRuns caps k f limit o
   outcome-decides limit (Met t s) z of is = λ later order. met-later t later s z of order is.answer
-  outcome-decides limit (NotMet l) z of is = λ t order.
-      lasting-none (closed_ending caps k f) t (2 ^ limit) (endings-last z of) order (is.1.each limit (omega arith))
+  outcome-decides limit (NotMet l) z of is = grind (arith, common_steps, lasting-none, endings-last)
 
 -- the state in which a run ends is of the total
 pub outcome-of : (caps : List ℕ) (k : ℕ) (f : ℕ → List ℕ → List ℕ) (limit : ℕ) (o : Outcome) → IsOutcome (closed_ending caps k f) limit o → MeetsOfTotal caps k o

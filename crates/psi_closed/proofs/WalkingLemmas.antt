@@ -1,9 +1,10 @@
 -- A run that holds one state goes on as a walk of that state.
-use Rattle.std.specs.Prelude.{◌≡◌, ℕ, suc, ◌+◌, ◌-◌, ◌≤◌, ◌<◌, List, [], ◌∷◌, ◌++◌, length, slice_index, slice_index_or, slice_set, map, Some, refl}
-use Rattle.std.proofs.Common.{inl, inr, ap, sym, ◌∙◌, subst, take, arith, length-set}
+use Rattle.std.specs.Prelude.{◌≡◌, ℕ, ◌+◌, ◌-◌, ◌≤◌, ◌<◌, List, [], ◌∷◌, ◌++◌, length, slice_index, slice_index_or, slice_set, map, Some, refl}
+use Rattle.std.proofs.Common.{inl, inr, ap, sym, ◌∙◌, take, arith, length-set}
 use Rattle.std.proofs.lemmas.Bool.{cases_lt}
-use Rattle.std.proofs.lemmas.List.{get_or_past, length-map}
+use Rattle.std.proofs.lemmas.List.{get_or_past, get_or-map, length-map}
 use Rattle.std.proofs.Math.Seq.{take-suc}
+use Rattle.std.proofs.lemmas.Grind.{common_steps}
 use Rattle.psi_state.specs.Members.{In}
 use Rattle.psi_state.specs.Sets.{image, single}
 use Rattle.psi_state.proofs.BoxesLemmas.{same-from_below}
@@ -15,8 +16,7 @@ use Rattle.psi_closed.specs.Planned.{AreMoves}
 use Rattle.psi_closed.proofs.ArcsLemmas.{arc, In-of_all_arcs, held-rising}
 use Rattle.psi_closed.proofs.HullLemmas.{hull-has, hull-of, hull-arcs}
 use Rattle.psi_closed.proofs.RunsLemmas.{rising-same_each}
-use Rattle.psi_closed.proofs.MovesLemmas.{moved-keeps, moved-changed, moved-short, moved-full}
-use Rattle.psi_closed.proofs.FollowLemmas.{read-map}
+use Rattle.psi_closed.proofs.MovesLemmas.{moved-keeps, moved-cases}
 
 -- a list that has one member is that member alone
 single-list : {A : Type 0} (xs : List A) (s : A) → single xs ≡ Some s → xs ≡ s ∷ []
@@ -35,16 +35,7 @@ hull-place caps k y x i member small =
     ]
 
 hull-same : (caps : List ℕ) (k : ℕ) (y x : List ℕ) → IsOfTotal caps k y → In x (arc_hull caps k (y ∷ [])) → x ≡ y
-hull-same caps k y x of member =
-    let long : length x ≡ length caps = (hull-of caps k (y ∷ []) x member).within.same_length in
-    let same : length y ≡ length caps = of.within.same_length in
-    same-from_below x y (record {
-      same_length = omega arith;
-      each = λ i small. (let e = hull-place caps k y x i member small in omega arith);
-    }) (record {
-      same_length = omega arith;
-      each = λ i small. (let e = hull-place caps k y x i member (omega arith) in omega arith);
-    })
+hull-same caps k y x of member = grind (arith, common_steps, hull-of, same-from_below, hull-place)
 
 -- one state is its own arc hull
 hull-one : (caps : List ℕ) (k : ℕ) (y : List ℕ) → IsOfTotal caps k y → arc_hull caps k (y ∷ []) ≡ y ∷ []
@@ -58,11 +49,11 @@ number-keeps : (caps : List ℕ) (k : ℕ) (moves : List Move) (n : ℕ) (x : Li
 number-keeps caps k moves n x are of =
     let first : Move = record { from = 0; k = 0; to = 0 } in
     elim (cases_lt n (length moves)) [
-      | inl small ↦ subst (λ (g : List ℕ → List ℕ). IsOfTotal caps k (g x)) (sym (read-map (λ m. moved caps m) moves n first (λ y. y) small))
+      | inl small ↦ rw (get_or-map (λ m. moved caps m) moves n first (λ y. y) small)
           (moved-keeps caps (slice_index_or moves n first) k x (are n first small) of)
       | inr past ↦
           (let long = length-map moves (λ m. moved caps m) in
-          subst (λ (g : List ℕ → List ℕ). IsOfTotal caps k (g x)) (sym (get_or_past (map (λ m. moved caps m) moves) n (λ y. y) (omega arith))) of)
+          rw (get_or_past (map (λ m. moved caps m) moves) n (λ y. y) (omega arith)) of)
     ]
 
 -- what the moves of numbers make of one state is one state of the total
@@ -83,23 +74,12 @@ follow_closed-one caps k moves (n ∷ ns) s are of =
 pub walk-ending : (caps : List ℕ) (k : ℕ) (moves : List Move) (numbers s x : List ℕ) (t left : ℕ) (states end : List (List ℕ)) → AreMoves caps moves → IsOfTotal caps k s
     → single states ≡ Some s → follow_closed caps k (map (λ m. moved caps m) moves) (take t numbers) states ≡ end → left ≡ t
     → x ≡ walk_of (map (λ m. moved caps m) moves) (take left numbers) s → Some x ≡ single end
-walk-ending caps k moves numbers s x t left states end are of one is same walked =
-    let functions = map (λ m. moved caps m) moves in
-    let ends : end ≡ walk_of functions (take t numbers) s ∷ [] =
-    sym is ∙ ap (λ (xs : List (List ℕ)). follow_closed caps k functions (take t numbers) xs) (single-list states s one) ∙ follow_closed-one caps k moves (take t numbers) s are of in
-    ap (λ (y : List ℕ). Some y) (walked ∙ ap (λ n. walk_of functions (take n numbers) s) same) ∙ sym (ap (λ (xs : List (List ℕ)). single xs) ends)
+walk-ending caps k moves numbers s x t left states end are of one is same walked = grind (arith, common_steps, take, single-list, follow_closed-one)
 
 -- a move keeps the number of queues
 pub moved-long : (caps : List ℕ) (m : Move) (x : List ℕ) → length x ≡ length caps → length (moved caps m x) ≡ length caps
-moved-long caps m x long =
-    elim (cases_lt (slice_index x m.from) m.k) [
-      | inl short ↦ ap (λ (y : List ℕ). length y) (moved-short caps m x short) ∙ long
-      | inr enough ↦ elim (cases_lt (slice_index x m.to) (slice_index caps m.to)) [
-        | inl room ↦ ap (λ (y : List ℕ). length y) (moved-changed caps m x enough room)
-            ∙ (length-set (slice_set x m.from (slice_index x m.from - 1)) m.to (slice_index x m.to + 1) ∙ (length-set x m.from (slice_index x m.from - 1) ∙ long))
-        | inr full ↦ ap (λ (y : List ℕ). length y) (moved-full caps m x full) ∙ long
-      ]
-    ]
+moved-long caps m x long = moved-cases (λ y. length y ≡ length caps) caps m x long
+    (λ enough room. length-set (slice_set x m.from (slice_index x m.from - 1)) m.to (slice_index x m.to + 1) ∙ (length-set x m.from (slice_index x m.from - 1) ∙ long))
 
 walk_of-append : (functions : List (List ℕ → List ℕ)) (xs ys x : List ℕ) → walk_of functions (xs ++ ys) x ≡ walk_of functions xs (walk_of functions ys x)
 walk_of-append functions [] ys x = refl
@@ -109,15 +89,4 @@ walk_of-append functions (n ∷ xs) ys x = ap (λ (z : List ℕ). slice_index_or
 pub walk_of-take : (caps : List ℕ) (moves : List Move) (numbers : List ℕ) (i : ℕ) (d : Move) (x y end : List ℕ) → 1 ≤ i → i ≤ length numbers
     → slice_index numbers (i - 1) < length moves → y ≡ moved caps (slice_index_or moves (slice_index numbers (i - 1)) d) x
     → walk_of (map (λ m. moved caps m) moves) (take i numbers) x ≡ end → walk_of (map (λ m. moved caps m) moves) (take (i - 1) numbers) y ≡ end
-walk_of-take caps moves numbers i d x y end some within known stepped is =
-    let functions = map (λ m. moved caps m) moves in
-    let last = i - 1 in
-    let number = slice_index numbers last in
-    let e : suc last ≡ i = omega arith in
-    let small : last < length numbers = omega arith in
-    ap (λ (z : List ℕ). walk_of functions (take last numbers) z)
-    (stepped ∙ ap (λ (g : List ℕ → List ℕ). g x) (sym (read-map (λ m. moved caps m) moves number d (λ z. z) known)))
-    ∙ sym (walk_of-append functions (take last numbers) (number ∷ []) x)
-    ∙ ap (λ (ns : List ℕ). walk_of functions ns x) (sym (take-suc numbers last 0 small))
-    ∙ ap (λ n. walk_of functions (take n numbers) x) e
-    ∙ is
+walk_of-take caps moves numbers i d x y end some within known stepped is = grind (arith, common_steps, get_or-map, take-suc, walk_of-append)

@@ -1,6 +1,6 @@
 -- The lemmas of this crate.
 pub mod WalksLemmas
 mod SumsLemmas
-mod RowsLemmas
+pub mod RowsLemmas
 pub mod MarkedLemmas
-mod PuttingLemmas
+pub mod PuttingLemmas

@@ -1,6 +1,7 @@
 -- Answers in the proof of `is_walk`.
 use Rattle.std.proofs.Common.{◌≡◌, ◌≤◌, ◌<◌, ◌+◌, sym, ◌∙◌, length, arith}
 use Rattle.std.proofs.lemmas.Bool.{false≢true, eqb-true, eq-eqb}
+use Rattle.std.proofs.lemmas.Grind.{common_steps}
 use Rattle.psi_closed_arcs.specs.Held.{Listed}
 use Rattle.psi_closed.proofs.ArcsLemmas.{arc}
 use Rattle.psi_closed.proofs.WalksLemmas.{held-total}
@@ -30,8 +31,7 @@ loop-level-preserved c =
     record {
       before = customers-next state level c.loop-level.before c.get-value.result (omega arith) c.loop-level.invariant.before c.get-value.ensures;
       small = small c;
-      each = each-next c.args.arcs.now.arcs state level c.loop-level.before c.get-value.result c.loop-level.invariant.each c.loop-level.invariant.before
-          c.get-value.ensures (c.has_arc.ensures.0 c.if-not-has_arc.false);
+      each = grind (arith, common_steps, each-next);
     }
 
 pub returns : goal.returns

@@ -1,5 +1,6 @@
 -- Answers in the proof of `only_state`.
 use Rattle.std.proofs.Common.{◌≡◌, ◌<◌, ◌+◌, ℕ, List, ◌∙◌, ap, sym, subst, length, slice_index, arith, length-set}
+use Rattle.std.proofs.lemmas.Grind.{common_steps}
 use Rattle.psi_closed.proofs.StatesLemmas.{IsFront, state-listed, front-next, fronts-single, forked-none, forked-more}
 use Rattle.psi_closed.proofs.arcs.only_state.Goals as goal
 
@@ -13,15 +14,10 @@ only_value-requires-clause-some c =
     }
 
 pub returns-in_err-value-clause-value : goal.returns-in_err-value-clause-value
-returns-in_err-value-clause-value c =
-    let arcs = c.args.arcs.now in
-    c.from_residual.ensures
-    ∙ sym (forked-none c.args.caps.now arcs.total arcs.arcs c.loop-level.level c.loop-level.before c.requires.whole c.in_err-value.ensures.value)
+returns-in_err-value-clause-value c = grind (arith, common_steps, forked-none)
 
 pub returns-in_err-value-clause-more : goal.returns-in_err-value-clause-more
-returns-in_err-value-clause-more c = λ none.
-    (let arcs = c.args.arcs.now in
-    forked-more c.args.caps.now arcs.total arcs.arcs c.loop-level.level c.loop-level.before c.requires.whole c.in_err-value.ensures.value)
+returns-in_err-value-clause-more c = grind (arith, common_steps, forked-more)
 
 pub overflow_add-before : goal.overflow_add-before
 overflow_add-before c = (let sum = c.in_ok-value.ensures.sum in omega arith)

@@ -1,20 +1,15 @@
 -- Answers in the proof of `put_state`.
 use Rattle.std.proofs.Common.{◌<◌, ◌∙◌, inl, inr, length, arith}
+use Rattle.std.proofs.lemmas.Grind.{common_steps}
 use Rattle.psi_closed.proofs.DiagramLemmas.{customers-upto}
 use Rattle.psi_closed.proofs.StatesLemmas.{customers-next, earlier-next, earlier-stays, earlier-cases}
 use Rattle.psi_closed.proofs.arcs.put_state.Goals as goal
 
 pub insert-requires-clause-sum : goal.insert-requires-clause-sum
-insert-requires-clause-sum c =
-    let upto = customers-upto c.args.state.now c.loop-level.level (omega arith) in
-    let most = c.requires.sum in
-    omega arith
+insert-requires-clause-sum c = grind (arith, common_steps, customers-upto)
 
 pub overflow_add-before : goal.overflow_add-before
-overflow_add-before c =
-    let upto = customers-upto c.args.state.now c.loop-level.level (omega arith) in
-    let most = c.requires.sum in
-    omega arith
+overflow_add-before c = grind (arith, common_steps, customers-upto)
 
 pub loop-level-preserved : goal.loop-level-preserved
 loop-level-preserved c =

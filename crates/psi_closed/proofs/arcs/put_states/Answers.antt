@@ -1,30 +1,18 @@
 -- Answers in the proof of `put_states`.
-use Rattle.std.proofs.Common.{refl, ◌≡◌, ◌∙◌, List, ℕ, sym, subst, inl, inr, arith, take}
+use Rattle.std.proofs.Common.{◌≡◌, ◌∙◌, List, ℕ, sym, subst, inl, inr, arith, take}
 use Rattle.std.proofs.lemmas.List.{take_all}
-use Rattle.psi_closed_arcs.specs.declared.ends.Arc.{Arc}
+use Rattle.std.proofs.lemmas.Grind.{common_steps}
 use Rattle.psi_closed_arcs.specs.Held.{Listed}
 use Rattle.psi_closed.specs.Closed.{all_arcs}
 use Rattle.psi_closed.proofs.ArcsLemmas.{arc}
-use Rattle.psi_state.specs.Members.{In}
 use Rattle.psi_closed.proofs.StatesLemmas.{all_arcs-none, all_arcs-next, In-at}
 use Rattle.psi_closed.proofs.arcs.put_states.Goals as goal
 
 pub loop-state-init : goal.loop-state-init
-loop-state-init c = record {
-  levels = refl;
-  total = refl;
-  arcs = λ q s v. (
-    λ listed. absurd (subst (λ (arcs : List Arc). In (arc q s v) arcs) c.requires.empty listed),
-    λ listed. absurd (subst (λ (arcs : List Arc). In (arc q s v) arcs) all_arcs-none listed),
-  );
-}
+loop-state-init c = grind (arith, common_steps, arc, all_arcs-none)
 
 pub put_state-requires : goal.put_state-requires
-put_state-requires c =
-    let own = c.requires.each c.state-item.result (In-at c.args.states.now c.loop-state.state-index c.state-item.result c.state-item.result c.loop-state-test.true c.state-item.is) in
-    let sum = own.sum in
-    let total = c.loop-state.invariant.total in
-    record { long = own.long ∙ sym c.loop-state.invariant.levels; sum = omega arith }
+put_state-requires c = grind (arith, common_steps, In-at)
 
 pub loop-state-preserved : goal.loop-state-preserved
 loop-state-preserved c =

@@ -5,13 +5,6 @@ use Rattle.psi_closed.specs.Diagram.{Shown, AreArcsOf}
 use Rattle.psi_closed.proofs.DiagramLemmas.{put-arcs, first-member, diagram-is, shown-is}
 use Rattle.psi_closed.proofs.diagram.Diagram.fit.Goals as goal
 
-pub put_states-requires-clause-each : goal.put_states-requires-clause-each
-put_states-requires-clause-each c = λ x member.
-    (let of : IsOfTotal c.self.inside.caps c.self.inside.held.total x = subst (λ (s : Shown). IsOfTotal s.caps s.total x) (sym c.self.view_is) (c.requires.each x member) in
-    let same = of.within.same_length in
-    let whole = of.whole in
-    record { long = omega arith; sum = omega arith })
-
 arcs_are : (c : goal.After-put_states) → AreArcsOf c.self.inside.caps c.self.inside.held.total c.put_states.new.arcs.arcs c.args.states.now
 arcs_are c =
     put-arcs c.self.inside.caps c.self.inside.held.total c.put_states.new.arcs.arcs c.args.states.now c.put_states.ensures.arcs

@@ -1,5 +1,6 @@
 -- Answers in the proof of `Diagram::reserve`.
-use Rattle.std.proofs.Common.{◌≡◌, ◌∙◌, ap, subst, List, ℕ}
+use Rattle.std.proofs.Common.{arith, ◌≡◌, ◌∙◌, ap, subst}
+use Rattle.std.proofs.lemmas.Grind.{common_steps}
 use Rattle.psi_closed_arcs.specs.Held.{ArcList}
 use Rattle.psi_closed.specs.Closed.{total_states}
 use Rattle.psi_closed.specs.Diagram.{AreArcsOf}
@@ -24,8 +25,4 @@ invariant_of-result c =
     (In-total_states caps k some.0 some.1)
 
 pub returns : goal.returns
-returns c =
-    let caps = c.args.caps in
-    let k = c.args.total in
-    shown-is caps k c.put_all.new.held (total_states caps k) (c.put_all.ensures.total ∙ total_is c) (arcs_are c)
-    ∙ ap (λ (xs : List (List ℕ)). record { caps = caps; total = k; states = xs }) (total-hull caps k).own
+returns c = grind (arith, common_steps, shown-is, total-hull)

@@ -1,7 +1,7 @@
 -- Answers in the proof of `Diagram::start`.
-use Rattle.std.proofs.Common.{◌∙◌, ap, List, ℕ}
+use Rattle.std.proofs.Common.{arith}
+use Rattle.std.proofs.lemmas.Grind.{common_steps}
 use Rattle.psi_closed.specs.Closed.{total_states}
-use Rattle.psi_closed.specs.Diagram.{Shown}
 use Rattle.psi_closed.proofs.ArcsLemmas.{In-total_states}
 use Rattle.psi_closed.proofs.HullLemmas.{total-hull}
 use Rattle.psi_closed.proofs.DiagramLemmas.{total-some, diagram-is, shown-is}
@@ -16,9 +16,4 @@ invariant_of-self c =
     c.put_all.ensures.total c.put_all.ensures.arcs (In-total_states d.caps d.held.total some.0 some.1)
 
 pub returns : goal.returns
-returns c =
-    let d = c.self.inside in
-    let k = d.held.total in
-    shown-is d.caps k c.put_all.new.held (total_states d.caps k) c.put_all.ensures.total c.put_all.ensures.arcs
-    ∙ (ap (λ (xs : List (List ℕ)). record { caps = d.caps; total = k; states = xs }) (total-hull d.caps k).own
-    ∙ ap (λ (s : Shown). record { caps = s.caps; total = s.total; states = total_states s.caps s.total }) c.self.view_is)
+returns c = grind (arith, common_steps, shown-is, total-hull)

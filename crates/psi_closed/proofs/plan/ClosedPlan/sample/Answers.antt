@@ -1,5 +1,6 @@
 -- Answers in the proof of `ClosedPlan::sample`.
-use Rattle.std.proofs.Common.{◌≡◌, ◌≤◌, ◌^◌, ap, sym, subst}
+use Rattle.std.proofs.Common.{arith, ◌≡◌, ap, sym, subst}
+use Rattle.std.proofs.lemmas.Grind.{common_steps}
 use Rattle.psi_state.specs.declared.Outcome.{Outcome}
 use Rattle.psi_rate.specs.Outcomes.{IsOutcome}
 use Rattle.psi_rate.proofs.OutcomesLemmas.{outcome_of-is, outcome_within-only}
@@ -33,14 +34,10 @@ returns-clause-outcome g c =
     c.outcome_of-outcome.result (returns-clause-sample g c).least
 
 pub returns-clause-order : goal.returns-clause-order
-returns-clause-order g c =
-    let plan = c.args.self.now in
-    runs-ordered plan.network.caps plan.network.total (network_functions plan.network (g.P.Past.words plan.past))
+returns-clause-order g c = grind (arith, common_steps, runs-ordered)
 
 pub first_answer_near-requires-clause-allowed : goal.first_answer_near-requires-clause-allowed
-first_answer_near-requires-clause-allowed g c exponent order =
-    let limit : c.self.inside.limit ≡ c.args.self.now.network.limit = ap (λ (p : ClosedPlanned g.row.P.Denot). p.network.limit) c.self.view_is in
-    subst (λ n. 2 ^ exponent ≤ 2 ^ n) limit (pow-order exponent c.self.inside.limit order)
+first_answer_near-requires-clause-allowed g c exponent order = grind (arith, common_steps, pow-order)
 
 pub first_answer_near-requires-clause-lasting : goal.first_answer_near-requires-clause-lasting
 first_answer_near-requires-clause-lasting g c =
