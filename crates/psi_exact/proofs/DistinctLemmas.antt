@@ -11,7 +11,7 @@ use Rattle.psi_state.specs.Ascending.{IsRising}
 use Rattle.psi_state.proofs.AscendingLemmas.{ascending-rising, insert_state-rising, rising-same, length-insert_state}
 use Rattle.psi_exact.specs.Ranks.{state_at}
 use Rattle.psi_exact.proofs.PlacesLemmas.{In-place, state_at-apart}
-use Rattle.psi_exact.specs.Inner.TableKept.{AreRanks}
+use Rattle.psi_exact.specs.Inner.RankTableKept.{AreRanks}
 use Rattle.psi_exact.specs.Distinct.{stands, distinct_count}
 
 -- a state that is there is none more

@@ -5,7 +5,7 @@ pub mod VisitsLemmas
 pub mod DigitsLemmas
 pub mod AlikeLemmas
 pub mod SpreadLemmas
-pub mod TablesLemmas
+pub mod RankTablesLemmas
 pub mod SentLemmas
 pub mod DistinctLemmas
 pub mod ImagesLemmas

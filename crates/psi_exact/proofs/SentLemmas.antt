@@ -7,8 +7,8 @@ use Rattle.psi_exact.specs.Ranks.{rank_of, state_at}
 use Rattle.psi_exact.proofs.PlacesLemmas.{state_at-below}
 use Rattle.psi_exact.proofs.WalkLemmas.{whole, rank-whole}
 use Rattle.psi_exact.specs.Mapping.{sends}
-use Rattle.psi_exact.specs.Inner.TableKept.{table_of, AreRanks}
-use Rattle.psi_exact.proofs.TablesLemmas.{sends-table_of}
+use Rattle.psi_exact.specs.Inner.RankTableKept.{table_of, AreRanks}
+use Rattle.psi_exact.proofs.RankTablesLemmas.{sends-table_of}
 
 -- what a table has for the rank of a state is the rank of the state that it sends it to
 pub record IsSent (caps ranks x y : List ℕ) : Type 0 where

@@ -22,7 +22,7 @@ use Rattle.psi_exact.specs.declared.answers.Meeting.{Meeting}
 use Rattle.psi_exact.specs.declared.answers.Meeting.TheVariants.{Constant, NotConstant}
 use Rattle.psi_exact.specs.Mapping.{Mapped, map_of, sends}
 use Rattle.psi_exact.specs.Surveys.{meeting_of, meeting_within, IsMeeting, ReachesMeeting, MeetsBelow}
-use Rattle.psi_exact.proofs.TablesLemmas.{sends-map_of, map_of-agree, image-map_of}
+use Rattle.psi_exact.proofs.RankTablesLemmas.{sends-map_of, map_of-agree, image-map_of}
 
 -- the event of a word, or none, says what the word's function is
 pub picked-event : {E : Type 0} (function : E → List ℕ → List ℕ) (events : List E) (rates : List ℕ) (word : ℕ) (o : Option E)

@@ -14,8 +14,8 @@ ghost use Rattle.psi_exact.specs.Surveys.{meeting_of, meeting_within, IsMeeting,
 use crate::answers::{Meeting, Survey};
 use crate::learned::LearnedImages;
 use crate::map_table::MapTable;
+use crate::rank_table::RankTable;
 use crate::sizes::Sizes;
-use crate::table::Table;
 use psi_event::EventLaw;
 use psi_past::Past;
 use psi_rate::System;
@@ -59,7 +59,7 @@ pub fn survey<E: EventLaw, P: Past>(
 // Learns the first events of the system, at most `most`, as far as there is space.
 fn learn<E: EventLaw>(
     system: &System<'_, E>,
-    table: &mut Table,
+    table: &mut RankTable,
     images: &mut LearnedImages,
     most: u16,
 )
@@ -82,7 +82,7 @@ fn learn<E: EventLaw>(
 fn follow_all<E: EventLaw, P: Past>(
     system: &System<'_, E>,
     past: &mut P,
-    table: &mut Table,
+    table: &mut RankTable,
     images: &LearnedImages,
     h: u8,
 ) -> Survey
@@ -126,7 +126,7 @@ fn told(found: Option<(u32, State)>, exponent: u8) -> Meeting
 fn follow<E: EventLaw, P: Past>(
     system: &System<'_, E>,
     past: &mut P,
-    table: &mut Table,
+    table: &mut RankTable,
     images: &LearnedImages,
     from: u32,
     to: u32,
@@ -153,7 +153,7 @@ fn follow<E: EventLaw, P: Past>(
 fn step<E: EventLaw, P: Past>(
     system: &System<'_, E>,
     past: &mut P,
-    table: &mut Table,
+    table: &mut RankTable,
     images: &LearnedImages,
     place: u32,
     found: Option<(u32, State)>,
@@ -183,7 +183,7 @@ fn step<E: EventLaw, P: Past>(
 fn put_before<E: EventLaw>(
     system: &System<'_, E>,
     word: u32,
-    table: &mut Table,
+    table: &mut RankTable,
     images: &LearnedImages,
 )
     requires fit { IsSystem E.capacities system.now }

@@ -8,10 +8,10 @@ mod following;
 mod images;
 mod learned;
 mod map_table;
+mod rank_table;
 mod ranks;
 mod sizes;
 mod spread;
-mod table;
 
 pub use answers::{Meeting, Survey};
 pub use following::survey;

@@ -5,7 +5,7 @@ ghost use Rattle.psi_state.specs.State.{IsBelow, all_states};
 ghost use Rattle.psi_state.specs.Sets.{image, single};
 
 use crate::learned::LearnedImages;
-use crate::table::Table;
+use crate::rank_table::RankTable;
 use psi_event::EventLaw;
 use psi_state::{Bounds, State};
 use std::alloc::{AllocError, Global};
@@ -40,7 +40,7 @@ impl From<AllocError> for MapRefusal {
 /// megabytes at most, is taken by `reserve`.
 #[derive(Drop)]
 pub struct MapTable {
-    pub(crate) table: Table,
+    pub(crate) table: RankTable,
     pub(crate) images: LearnedImages,
 }
 
@@ -74,7 +74,7 @@ impl MapTable {
         let Some(states) = Bounds::whole(&caps).volume_at_most(MOST_STATES) else {
             return Err(MapRefusal::TooManyStates);
         };
-        let table = Table::reserve(alloc, caps, states)?;
+        let table = RankTable::reserve(alloc, caps, states)?;
         let images = LearnedImages::reserve(alloc, states)?;
         Ok(MapTable { table, images })
     }

@@ -3,7 +3,7 @@
 ghost use Rattle.std.specs.Prelude.{◌≡◌, ℕ, ◌<◌, ◌≤◌, true, false, List, length, slice_index, MatchOption, IfOk};
 ghost use Rattle.psi_state.specs.State.{all_states};
 ghost use Rattle.psi_exact.specs.Mapping.{map_of, sends};
-ghost use Rattle.psi_exact.specs.Inner.TableKept.{table_of, AreRanks};
+ghost use Rattle.psi_exact.specs.Inner.RankTableKept.{table_of, AreRanks};
 ghost use Rattle.psi_exact.specs.Distinct.{distinct_count, AreAll, AreMixed};
 
 use crate::images::write_images;

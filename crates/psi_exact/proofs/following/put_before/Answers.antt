@@ -6,9 +6,9 @@ use Rattle.psi_rate.specs.Rates.{event_of}
 use Rattle.psi_rate.specs.Composition.{picked}
 use Rattle.psi_rate.proofs.FunctionsLemmas.{functions-closed}
 use Rattle.psi_exact.specs.Ranks.{AreRanksOf}
-use Rattle.psi_exact.specs.Inner.TableKept.{AreRanks}
+use Rattle.psi_exact.specs.Inner.RankTableKept.{AreRanks}
 use Rattle.psi_exact.specs.Inner.ImagesKept.{images_at}
-use Rattle.psi_exact.proofs.TablesLemmas.{ranks-images}
+use Rattle.psi_exact.proofs.RankTablesLemmas.{ranks-images}
 use Rattle.psi_exact.proofs.SurveysLemmas.{picked-event, event-caps, before-event, before-none}
 use Rattle.psi_exact.proofs.following.put_before.Goals as goal
 

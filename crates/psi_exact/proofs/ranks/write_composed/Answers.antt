@@ -1,6 +1,6 @@
 -- Answers in the proof of `write_composed`.
 use Rattle.std.proofs.Common.{arith}
-use Rattle.psi_exact.proofs.TablesLemmas.{ranks-images, ranks-looked_up, table_of-older}
+use Rattle.psi_exact.proofs.RankTablesLemmas.{ranks-images, ranks-looked_up, table_of-older}
 use Rattle.psi_exact.proofs.ranks.write_composed.Goals as goal
 
 pub look_up-requires : goal.look_up-requires

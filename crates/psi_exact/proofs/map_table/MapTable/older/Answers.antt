@@ -2,7 +2,7 @@
 use Rattle.std.proofs.Common.{List, ℕ, refl, ap, subst, ◌∙◌}
 use Rattle.psi_exact.specs.Mapping.{Mapped, map_of, sends}
 use Rattle.psi_event.specs.Law.{IsClosed}
-use Rattle.psi_exact.proofs.TablesLemmas.{every-older}
+use Rattle.psi_exact.proofs.RankTablesLemmas.{every-older}
 use Rattle.psi_exact.proofs.map_table.MapTable.older.Goals as goal
 
 pub returns-clause-every : goal.returns-clause-every

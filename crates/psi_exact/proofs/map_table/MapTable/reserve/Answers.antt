@@ -1,5 +1,5 @@
 -- Answers in the proof of `MapTable::reserve`.
-use Rattle.psi_exact.proofs.TablesLemmas.{every-map_of}
+use Rattle.psi_exact.proofs.RankTablesLemmas.{every-map_of}
 use Rattle.psi_exact.proofs.map_table.MapTable.reserve.Goals as goal
 
 pub returns-clause-every : goal.returns-clause-every

@@ -13,7 +13,7 @@ use Rattle.psi_event.specs.Law.{IsClosed}
 use Rattle.psi_exact.specs.Ranks.{rank_of, state_at, AreRanksOf}
 use Rattle.psi_exact.proofs.PlacesLemmas.{state_at-rank_of, rank_of-small, state_at-below, state_at-member, state_at-apart, rank_of-state_at}
 use Rattle.psi_exact.specs.Mapping.{Mapped, map_of, sends, IsMapOf}
-use Rattle.psi_exact.specs.Inner.TableKept.{table_of, AreRanks}
+use Rattle.psi_exact.specs.Inner.RankTableKept.{table_of, AreRanks}
 use Rattle.psi_exact.specs.Distinct.{AreAll, AreMixed}
 
 abbrev images_of : List ℕ → List (List ℕ) → Mapped

@@ -1,10 +1,10 @@
--- Answers in the proof of `Table::at`.
+-- Answers in the proof of `RankTable::at`.
 use Rattle.std.proofs.Common.{ℕ, List, ap, sym, ◌∙◌, subst}
 use Rattle.psi_state.specs.State.{IsBelow}
 use Rattle.psi_exact.proofs.WalkLemmas.{In-whole}
 use Rattle.psi_exact.specs.Mapping.{Mapped, sends}
 use Rattle.psi_exact.proofs.SentLemmas.{sent-at}
-use Rattle.psi_exact.proofs.table.Table.at.Goals as goal
+use Rattle.psi_exact.proofs.rank_table.RankTable.at.Goals as goal
 
 pub rank-requires-clause-member : goal.rank-requires-clause-member
 rank-requires-clause-member c =

@@ -1,4 +1,4 @@
--- Answers in the proof of `Table::constant`.
+-- Answers in the proof of `RankTable::constant`.
 use Rattle.std.proofs.Common.{◌<◌, ℕ, List, length, Some, refl, ap, sym, ◌∙◌, subst, arith}
 use Rattle.psi_state.specs.State.{Corners, IsBelow, box, all_states}
 use Rattle.psi_state.specs.Sets.{image, single}
@@ -7,8 +7,8 @@ use Rattle.psi_exact.proofs.PlacesLemmas.{state_at-below}
 use Rattle.psi_exact.proofs.WalkLemmas.{rank-whole}
 use Rattle.psi_exact.specs.Mapping.{Mapped, sends}
 use Rattle.psi_exact.specs.Distinct.{AreAll, AreMixed}
-use Rattle.psi_exact.proofs.TablesLemmas.{some-rank, single-all, single-mixed}
-use Rattle.psi_exact.proofs.table.Table.constant.Goals as goal
+use Rattle.psi_exact.proofs.RankTablesLemmas.{some-rank, single-all, single-mixed}
+use Rattle.psi_exact.proofs.rank_table.RankTable.constant.Goals as goal
 
 pub common-requires : goal.common-requires
 common-requires c =

@@ -1,10 +1,10 @@
--- Answers in the proof of `Table::reset`.
+-- Answers in the proof of `RankTable::reset`.
 use Rattle.std.proofs.Common.{◌≡◌, ℕ, List, length, ap, sym, ◌∙◌}
 use Rattle.std.proofs.lemmas.List.{with_items_is}
 use Rattle.psi_exact.specs.Mapping.{Mapped, map_of}
-use Rattle.psi_exact.specs.Inner.TableKept.{table_of}
-use Rattle.psi_exact.proofs.TablesLemmas.{table_of-itself}
-use Rattle.psi_exact.proofs.table.Table.reset.Goals as goal
+use Rattle.psi_exact.specs.Inner.RankTableKept.{table_of}
+use Rattle.psi_exact.proofs.RankTablesLemmas.{table_of-itself}
+use Rattle.psi_exact.proofs.rank_table.RankTable.reset.Goals as goal
 
 pub returns : goal.returns
 returns c =

@@ -1,13 +1,13 @@
--- Answers in the proof of `Table::follow`.
+-- Answers in the proof of `RankTable::follow`.
 use Rattle.std.proofs.Common.{◌≡◌, ◌<◌, ℕ, List, length, slice_index, ap, sym, ◌∙◌, subst, arith, Vec, Global}
 use Rattle.std.proofs.lemmas.List.{with_items_is}
 use Rattle.psi_state.specs.State.{all_states}
 use Rattle.psi_event.specs.Law.{IsClosed}
 use Rattle.psi_exact.specs.Ranks.{AreRanksOf}
 use Rattle.psi_exact.specs.Mapping.{Mapped, map_of, sends}
-use Rattle.psi_exact.specs.Inner.TableKept.{table_of, AreRanks}
-use Rattle.psi_exact.proofs.TablesLemmas.{ranks-looked_up, table_of-older}
-use Rattle.psi_exact.proofs.table.Table.follow.Goals as goal
+use Rattle.psi_exact.specs.Inner.RankTableKept.{table_of, AreRanks}
+use Rattle.psi_exact.proofs.RankTablesLemmas.{ranks-looked_up, table_of-older}
+use Rattle.psi_exact.proofs.rank_table.RankTable.follow.Goals as goal
 
 pub look_up_all-requires : goal.look_up_all-requires
 look_up_all-requires c =

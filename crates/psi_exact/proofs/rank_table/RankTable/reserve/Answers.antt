@@ -1,10 +1,10 @@
--- Answers in the proof of `Table::reserve`.
+-- Answers in the proof of `RankTable::reserve`.
 use Rattle.std.proofs.Common.{◌≡◌, ℕ, List, length, ap, sym, ◌∙◌}
 use Rattle.std.proofs.lemmas.List.{with_items_is}
 use Rattle.psi_state.specs.State.{all_states}
-use Rattle.psi_exact.specs.Inner.TableKept.{table_of}
-use Rattle.psi_exact.proofs.TablesLemmas.{table_of-itself}
-use Rattle.psi_exact.proofs.table.Table.reserve.Goals as goal
+use Rattle.psi_exact.specs.Inner.RankTableKept.{table_of}
+use Rattle.psi_exact.proofs.RankTablesLemmas.{table_of-itself}
+use Rattle.psi_exact.proofs.rank_table.RankTable.reserve.Goals as goal
 
 pub returns : goal.returns
 returns c =

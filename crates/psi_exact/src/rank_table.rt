@@ -16,31 +16,31 @@ use std::marker::Model;
 /// A map of all states within given capacities, kept as the rank of the state that each is sent to, with
 /// room for as many ranks again.
 #[derive(Drop)]
-pub(crate) struct Table {
+pub(crate) struct RankTable {
     caps: State,
     ranks: Vec<u16>,
     spare: Vec<u16>,
 }
 
-impl Model for Table {
+impl Model for RankTable {
     ghost use Rattle.psi_exact.specs.Mapping.{Mapped};
-    ghost use Rattle.psi_exact.specs.Inner.TableKept.{table_of, IsTable};
+    ghost use Rattle.psi_exact.specs.Inner.RankTableKept.{table_of, IsRankTable};
 
     ghost Value = { Mapped };
 
     ghost view = { λ t. table_of t.caps t.ranks.items };
 
-    ghost invariant = { λ t. IsTable t.caps t.ranks.items t.spare.items };
+    ghost invariant = { λ t. IsRankTable t.caps t.ranks.items t.spare.items };
 }
 
-impl Table {
+impl RankTable {
     ghost use Rattle.psi_exact.specs.Mapping.{map_of, sends};
     ghost use Rattle.psi_exact.specs.Ranks.{AreRanksOf};
-    ghost use Rattle.psi_exact.specs.Inner.TableKept.{AreRanks};
+    ghost use Rattle.psi_exact.specs.Inner.RankTableKept.{AreRanks};
     ghost use Rattle.psi_exact.specs.Inner.ImagesKept.{AreImages, IsSameImages, IsOneMore};
 
     /// Makes the table of the map that sends each of all states to itself; `states` is their number.
-    pub(crate) fn reserve(alloc: Global, caps: State, states: u32) -> Result<Table, AllocError>
+    pub(crate) fn reserve(alloc: Global, caps: State, states: u32) -> Result<RankTable, AllocError>
         requires all { states ≡ length (all_states caps) }
         requires few { states ≤ 65536 }
         ensures { IfOk result (λ table. table ≡ map_of caps (λ x. x)) }
@@ -48,7 +48,7 @@ impl Table {
         let mut ranks = zeroed(alloc, states)?;
         let spare = zeroed(alloc, states)?;
         number(ranks.as_mut_slice());
-        Ok(Table { caps, ranks, spare })
+        Ok(RankTable { caps, ranks, spare })
     }
 
     /// Lets the map send each state to itself again.

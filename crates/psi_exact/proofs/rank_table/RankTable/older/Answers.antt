@@ -1,10 +1,10 @@
--- Answers in the proof of `Table::older`.
+-- Answers in the proof of `RankTable::older`.
 use Rattle.std.proofs.Common.{◌≡◌, ◌≤◌, ℕ, List, length, ap, sym, ◌∙◌, subst, Vec, Global}
 use Rattle.std.proofs.lemmas.List.{with_items_is}
 use Rattle.psi_state.specs.State.{all_states}
 use Rattle.psi_exact.specs.Mapping.{Mapped, map_of, sends}
-use Rattle.psi_exact.specs.Inner.TableKept.{table_of, AreRanks}
-use Rattle.psi_exact.proofs.table.Table.older.Goals as goal
+use Rattle.psi_exact.specs.Inner.RankTableKept.{table_of, AreRanks}
+use Rattle.psi_exact.proofs.rank_table.RankTable.older.Goals as goal
 
 pub write_composed-requires : goal.write_composed-requires
 write_composed-requires g c =

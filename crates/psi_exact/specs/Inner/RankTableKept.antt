@@ -14,7 +14,7 @@ pub record AreRanks (caps ranks : List ℕ) : Type 0 where
   pub each : (r : ℕ) → r < length (all_states caps) → slice_index ranks r < length (all_states caps)
 
 -- what every table keeps: its ranks fit 16 bits, and there is room to make the next ones
-pub record IsTable (caps ranks spare : List ℕ) : Type 0 where
+pub record IsRankTable (caps ranks spare : List ℕ) : Type 0 where
   pub few : length (all_states caps) ≤ 65536
   pub own : AreRanks caps ranks
   pub room : length spare ≡ length (all_states caps)

@@ -1,12 +1,12 @@
--- Answers in the proof of `Table::image_size`.
+-- Answers in the proof of `RankTable::image_size`.
 use Rattle.std.proofs.Common.{ℕ, List, length, ap, sym, ◌∙◌}
 use Rattle.psi_state.specs.State.{all_states}
 use Rattle.psi_state.specs.Sets.{image}
 use Rattle.psi_exact.specs.Mapping.{Mapped, sends}
 use Rattle.psi_exact.specs.Distinct.{distinct_count}
-use Rattle.psi_exact.proofs.TablesLemmas.{image-table_of}
+use Rattle.psi_exact.proofs.RankTablesLemmas.{image-table_of}
 use Rattle.psi_exact.proofs.DistinctLemmas.{length-ranks}
-use Rattle.psi_exact.proofs.table.Table.image_size.Goals as goal
+use Rattle.psi_exact.proofs.rank_table.RankTable.image_size.Goals as goal
 
 pub returns-clause-size : goal.returns-clause-size
 returns-clause-size c =
