@@ -1,8 +1,8 @@
 -- States that an event moves alike, as its envelopes tell.
 use Rattle.std.specs.Prelude.{◌≡◌, ℕ, zero, suc, ◌+◌, ◌<◌, ◌≤◌, ◌⊎◌, List, [], ◌∷◌, length, slice_index, slice_set, refl}
-use Rattle.std.proofs.Common.{inl, inr, ap, sym, ◌∙◌, subst, arith, length-set, get_or-set_same, get_or-set_other}
-use Rattle.std.proofs.lemmas.Bool.{cases_lt, cases_eq}
+use Rattle.std.proofs.Common.{ap, sym, ◌∙◌, subst, arith, length-set, get_or-set_same, get_or-set_other}
 use Rattle.std.proofs.lemmas.List.{set_past, length-replicate}
+use Rattle.std.proofs.lemmas.Grind.{common_steps}
 use Rattle.psi_state.specs.State.{Corners, IsBelow, zeros, box}
 use Rattle.psi_state.specs.Sets.{image}
 use Rattle.psi_state.specs.Hull.{IsTight}
@@ -47,22 +47,7 @@ pick-none (suc s ∷ ss) (v ∷ x) (suc q) none = pick-none ss x q none
 
 -- it is within the span
 pub pick-below : (caps : List ℕ) (f : List ℕ → List ℕ) (span x : List ℕ) → IsSpan caps f span → IsBelow x caps → IsBelow (pick span x) span
-pick-below caps f span x is within =
-    let same = is.same_length in
-    let long = within.same_length in
-    let count = length-pick span x (omega arith) in
-    record {
-      same_length = count;
-      each = λ q small. elim (cases_eq (slice_index span q) 0) [
-        | inl none ↦ (let here = pick-none span x q none in omega arith)
-        | inr some ↦ (let here = pick-there span x q (omega arith) (omega arith) in
-            let most = within.each q (omega arith) in
-            elim (is.each q (omega arith)) [
-              | inl full ↦ omega arith
-              | inr kept ↦ absurd (some kept.0)
-            ])
-      ];
-    }
+pick-below caps f span x is within = grind (arith, common_steps, length-pick, pick-none, pick-there)
 
 -- where each state of the span has one move, states that agree in it are moved alike
 pub alike-moves : (caps : List ℕ) (f : List ℕ → List ℕ) (span : List ℕ) → IsSpan caps f span
@@ -79,30 +64,11 @@ alike-moves caps f span is moves = record {
 
 -- a state within the span is one within the capacities
 pub below-span : (caps : List ℕ) (f : List ℕ → List ℕ) (span y : List ℕ) → IsSpan caps f span → IsBelow y span → IsBelow y caps
-below-span caps f span y is within = record {
-  same_length = within.same_length ∙ is.same_length;
-  each = λ q small.
-      (let same = is.same_length in
-      let long = within.same_length in
-      let most = within.each q small in
-      elim (is.each q (omega arith)) [
-        | inl full ↦ omega arith
-        | inr kept ↦ (let none = kept.0 in omega arith)
-      ]);
-}
+below-span caps f span y is within = grind (arith, common_steps)
 
 -- a state with this number at a place is below the capacities with it there
 below-set : (x caps : List ℕ) (q n : ℕ) → IsBelow x caps → slice_index x q ≡ n → IsBelow x (slice_set caps q n)
-below-set x caps q n within is = record {
-  same_length = within.same_length ∙ sym (length-set {A = ℕ} caps q n);
-  each = λ i small. (let long = within.same_length in
-      elim (cases_eq i q) [
-        | inl e ↦ (let here : slice_index (slice_set caps q n) q ≡ n = get_or-set_same {A = ℕ} caps q n 0 (omega arith) in
-            subst (λ k. slice_index x k ≤ slice_index (slice_set caps q n) k) (sym e) (omega arith))
-        | inr ne ↦ (let there : slice_index (slice_set caps q n) i ≡ slice_index caps i = get_or-set_other {A = ℕ} caps q i n 0 ne in
-            let most = within.each i small in omega arith)
-      ]);
-}
+below-set x caps q n within is = grind (arith, common_steps, length-set, get_or-set_same, get_or-set_other)
 
 -- the box of all states with this number at a place
 abbrev pub with_number : List ℕ → ℕ → ℕ → Corners
@@ -126,52 +92,15 @@ stays-each caps f q n b new closed small is tight low high x within here =
 
 -- the lower corner of a state's box is below the upper one, and this below the capacities
 pub top-above : (caps : List ℕ) (f : List ℕ → List ℕ) (span y top : List ℕ) → IsSpan caps f span → IsBelow y span → IsTop caps span y top → IsBelow y top
-top-above caps f span y top is within up = record {
-  same_length = sym up.same_length;
-  each = λ q small. (let most = within.each q small in
-      elim (cases_eq (slice_index span q) 0) [
-        | inl none ↦ omega arith
-        | inr some ↦ (let same = up.same q small (omega arith) in omega arith)
-      ]);
-}
+top-above caps f span y top is within up = grind (arith, common_steps)
 
 pub top-below : (caps : List ℕ) (f : List ℕ → List ℕ) (span y top : List ℕ) → IsSpan caps f span → IsBelow y span → IsTop caps span y top → IsBelow top caps
-top-below caps f span y top is within up =
-    let below = below-span caps f span y is within in
-    let long = up.same_length in
-    record {
-      same_length = long ∙ below.same_length;
-      each = λ q small. (let most = below.each q (omega arith) in
-          elim (cases_eq (slice_index span q) 0) [
-            | inl none ↦ (let full = up.full q (omega arith) none in omega arith)
-            | inr some ↦ (let same = up.same q (omega arith) (omega arith) in omega arith)
-          ]);
-    }
+top-below caps f span y top is within up = grind (arith, common_steps, below-span)
 
 -- a state that agrees with y in the span is in its box
 in-top : (caps : List ℕ) (f : List ℕ → List ℕ) (span y top x : List ℕ) → IsSpan caps f span → IsBelow y span → IsTop caps span y top → IsBelow x caps → AgreeIn span x y
     → IsBetween y top x
-in-top caps f span y top x is below up within agree =
-    let same = is.same_length in
-    let long = below.same_length in
-    let longer = within.same_length in
-    let count = up.same_length in
-    record {
-      low = record {
-        same_length = omega arith;
-        each = λ q small. elim (cases_eq (slice_index span q) 0) [
-          | inl none ↦ (let most = below.each q small in omega arith)
-          | inr some ↦ (let here = agree.each q (omega arith) (omega arith) in omega arith)
-        ];
-      };
-      high = record {
-        same_length = omega arith;
-        each = λ q small. elim (cases_eq (slice_index span q) 0) [
-          | inl none ↦ (let full = up.full q (omega arith) none in let most = within.each q small in omega arith)
-          | inr some ↦ (let here = agree.each q (omega arith) (omega arith) in let top_is = up.same q (omega arith) (omega arith) in omega arith)
-        ];
-      };
-    }
+in-top caps f span y top x is below up within agree = grind (arith, common_steps)
 
 -- where the image of the box has one number for each queue of the span, its states have one move
 pub one-move : (caps : List ℕ) (f : List ℕ → List ℕ) (span y top : List ℕ) (b new : Corners) → IsSpan caps f span → IsClosed caps f → IsBelow y span → IsTop caps span y top
@@ -192,25 +121,14 @@ one-move caps f span y top b new is closed below up is_box tight one = record {
       let long_z = to_z.low.same_length in
       record {
         each = λ q small some.
-            (let point = one q small some in
-            let a = to_x.low.each q (omega arith) in
-            let b = to_x.high.each q (omega arith) in
-            let c = to_z.low.each q (omega arith) in
-            let d = to_z.high.each q (omega arith) in
-            omega arith);
+            grind (arith, common_steps);
       });
 }
 
 -- a place of a list that was written at p
 pub set-next : (xs : List ℕ) (p v q : ℕ) → p < length xs → q < p + 1
     → ((q < p) × (slice_index (slice_set xs p v) q ≡ slice_index xs q)) ⊎ ((q ≡ p) × (slice_index (slice_set xs p v) q ≡ v))
-set-next xs p v q small most =
-    elim (cases_lt q p) [
-      | inl less ↦ inl (less, get_or-set_other {A = ℕ} xs p q v 0 (λ e. omega arith))
-      | inr past ↦ (let same : q ≡ p = omega arith in
-          let here : slice_index (slice_set xs p v) p ≡ v = get_or-set_same {A = ℕ} xs p v 0 small in
-          inr (same, ap (λ k. slice_index (slice_set xs p v) k) same ∙ here))
-    ]
+set-next xs p v q small most = grind (arith, common_steps, get_or-set_other, get_or-set_same)
 
 -- the image of a state's box has corners of as many numbers as the span
 pub one-length : (caps : List ℕ) (f : List ℕ → List ℕ) (span y top : List ℕ) (b new : Corners) → IsSpan caps f span → IsClosed caps f → IsBelow y span → IsTop caps span y top
@@ -234,12 +152,7 @@ set_of q n c = record { lo = slice_set c.lo q n; hi = slice_set c.hi q n }
 
 pub whole-with_number : (caps own : List ℕ) (q n : ℕ) (whole b : Corners) → own ≡ caps → whole ≡ record { lo = zeros own; hi = own }
     → b ≡ record { lo = slice_set whole.lo q n; hi = slice_set whole.hi q n } → IsWith caps q n whole b
-whole-with_number caps own q n whole b same is made =
-    let all : whole ≡ record { lo = zeros caps; hi = caps } = is ∙ ap (λ (xs : List ℕ). all_of xs) same in
-    record {
-      count = ap (λ (c : Corners). length c.lo) all ∙ length-replicate {A = ℕ} (length caps) 0;
-      same = made ∙ ap (λ (c : Corners). set_of q n c) all;
-    }
+whole-with_number caps own q n whole b same is made = grind (arith, common_steps, length-replicate)
 
 -- its upper corner is below the capacities
 pub with_number-below : (caps : List ℕ) (q n : ℕ) → n ≤ slice_index caps q → IsBelow (slice_set caps q n) caps
@@ -260,9 +173,4 @@ with_number-length caps f q n b new closed small is tight =
     low_below = zeros-below caps (slice_set caps q n) (length-set {A = ℕ} caps q n)
 
     both : IsBelow (slice_set (zeros caps) q n) (slice_set caps q n)
-    both = elim (cases_lt q (length caps)) [
-      | inl inside ↦ set-below (zeros caps) (slice_set caps q n) q n low_below (let here : slice_index (slice_set caps q n) q ≡ n = get_or-set_same {A = ℕ} caps q n 0 inside in omega arith)
-      | inr past ↦ subst (λ (xs : List ℕ). IsBelow (slice_set (zeros caps) q n) xs) (sym (set_past {X = ℕ} caps q n past))
-          (subst (λ (xs : List ℕ). IsBelow xs caps) (sym (set_past {X = ℕ} (zeros caps) q n (let e : length (zeros caps) ≡ length caps = length-replicate {A = ℕ} (length caps) 0 in omega arith)))
-          (zeros-below caps caps refl))
-    ]
+    both = grind (arith, common_steps, set-below, get_or-set_same, set_past, length-replicate, zeros-below)

@@ -2,6 +2,7 @@
 use Rattle.std.specs.Prelude.{◌≡◌, ℕ, zero, suc, ◌+◌, ◌-◌, ◌*◌, ◌<◌, ◌≤◌, List, [], ◌∷◌, length, slice_index, slice_set, drop, refl}
 use Rattle.std.proofs.Common.{ap, sym, ◌∙◌, arith}
 use Rattle.std.proofs.Math.Nat.{suc-mul, zero-mul, mul_assoc, mul-le-mul_right}
+use Rattle.std.proofs.lemmas.Grind.{common_steps}
 use Rattle.psi_state.specs.State.{IsBelow, zeros, all_states}
 use Rattle.psi_state.specs.Volume.{volume, place_in}
 use Rattle.psi_state.proofs.BoxesLemmas.{below-head, below-tail, zeros-below}
@@ -33,10 +34,7 @@ size-all caps = length-box (zeros caps) caps ∙ size-volume caps
 number-place : (caps x : List ℕ) → place_in (zeros caps) caps x ≡ number caps x
 number-place [] x = refl
 number-place (c ∷ cs) [] = refl
-number-place (c ∷ cs) (v ∷ x) =
-    let whole : v - 0 ≡ v = omega arith in
-    ap (λ n. n * volume (zeros cs) cs + place_in (zeros cs) cs x) whole
-    ∙ (ap (λ n. v * n + place_in (zeros cs) cs x) (size-volume cs) ∙ ap (λ n. v * size cs + n) (number-place cs x))
+number-place (c ∷ cs) (v ∷ x) = grind (arith, common_steps, size-volume, (number-place cs x))
 
 -- the number of the digits is the rank
 pub rank-number : (caps x : List ℕ) → IsBelow x caps → rank_of caps x ≡ number caps x
@@ -143,11 +141,7 @@ pub record IsParted (caps x : List ℕ) (q : ℕ) : Type 0 where
   pub whole : number caps x ≡ steps * size (drop q caps) + number (drop q caps) (drop q x)
 
 pub parted : (caps x : List ℕ) (q : ℕ) → length x ≡ length caps → q ≤ length caps → IsParted caps x q
-parted caps x zero same small = record {
-  steps = 0;
-  first = number-none caps x ∙ sym (zero-mul (size caps));
-  whole = (let none = zero-mul (size caps) in omega arith);
-}
+parted caps x zero same small = grind (arith, common_steps, number-none, zero-mul)
 parted [] x (suc q) same small = absurd (omega arith)
 parted (c ∷ cs) [] (suc q) same small = absurd (omega arith)
 parted (c ∷ cs) (v ∷ x) (suc q) same small =

@@ -1,7 +1,8 @@
 -- Counting the different ranks of a table counts the states that it sends to.
 use Rattle.std.specs.Prelude.{◌≡◌, ℕ, suc, ◌<◌, List, [], ◌∷◌, Bool, true, false, length, map, nat_eq, if◌then◌else◌, ◌||◌, refl}
-use Rattle.std.proofs.Common.{inl, inr, ap, sym, ◌∙◌, subst, arith}
+use Rattle.std.proofs.Common.{inl, inr, ap, sym, ◌∙◌, arith}
 use Rattle.std.proofs.lemmas.Bool.{cases_Bool, cases_eq, eq-eqb, eqb-true, false≢true}
+use Rattle.std.proofs.lemmas.Grind.{common_steps}
 use Rattle.psi_state.specs.State.{all_states}
 use Rattle.psi_state.specs.Members.{In}
 use Rattle.psi_state.proofs.MembersLemmas.{In-map, In-of_map}
@@ -16,12 +17,7 @@ use Rattle.psi_exact.specs.Distinct.{stands, distinct_count}
 
 -- a state that is there is none more
 insert_state-there : (x : List ℕ) (ys : List (List ℕ)) → IsRising ys → In x ys → insert_state x ys ≡ ys
-insert_state-there x ys rising member =
-    rising-same (insert_state x ys) ys (insert_state-rising x ys rising) rising
-    (record {
-      there = λ z found. elim (In-of_insert_state z x ys found) [ inl e ↦ subst (λ (y : List ℕ). In y ys) (sym e) member | inr there ↦ there ];
-      back = λ z found. In-insert_state z x ys (inr found);
-    })
+insert_state-there x ys rising member = grind (arith, common_steps, rising-same, insert_state-rising, In-of_insert_state, In-insert_state)
 
 stands-In : (n : ℕ) (xs : List ℕ) → stands n xs ≡ true → In n xs
 stands-In n [] is = absurd (false≢true is)
@@ -50,11 +46,7 @@ In-stands n (x ∷ xs) member =
 -- a rank that doesn't stand in the list has a state that none of the list has
 state-away : (caps xs : List ℕ) (x : ℕ) → ((r : ℕ) → In r (x ∷ xs) → r < length (all_states caps)) → stands x xs ≡ false
     → In (state_at caps x) (map (state_at caps) xs) → ⊥
-state-away caps xs x small absent member =
-    let found = In-of_map (state_at caps) (state_at caps x) xs member in
-    let same : x ≡ found.0 = state_at-apart caps x found.0 (small x (inl refl)) (small found.0 (inr found.1)) found.2 in
-    let there = In-stands x xs (subst (λ r. In r xs) (sym same) found.1) in
-    false≢true (sym absent ∙ there)
+state-away caps xs x small absent member = grind (arith, common_steps, In-of_map, state_at-apart, In-stands, false≢true)
 
 -- as many states as different ranks
 pub length-distinct : (caps xs : List ℕ) → ((r : ℕ) → In r xs → r < length (all_states caps)) → length (ascending (map (state_at caps) xs)) ≡ distinct_count xs

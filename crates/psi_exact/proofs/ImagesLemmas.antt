@@ -7,6 +7,7 @@ use Rattle.std.proofs.lemmas.Option.{get_or_from_slice_get, slice_get-map}
 use Rattle.std.proofs.lemmas.List.{drop-append-le, take-append-le, length-drop}
 use Rattle.std.proofs.Math.Seq.{drop-append_seam, take-length}
 use Rattle.std.proofs.Math.Nat.{mul-le-mul_right}
+use Rattle.std.proofs.lemmas.Grind.{common_steps}
 use Rattle.psi_state.specs.State.{all_states}
 use Rattle.psi_exact.specs.Ranks.{AreRanksOf}
 use Rattle.psi_exact.specs.declared.learned.LearnedImages.{LearnedImages}
@@ -20,11 +21,7 @@ range-front xs ys a n within =
 
 -- and what comes after is the stretch from its end on
 range-behind : (xs ys : List ℕ) (a n : ℕ) → a ≡ length xs → n ≡ length ys → slice_range (xs ++ ys) a (a + n) ≡ ys
-range-behind xs ys a n first last =
-    let count : a + n - a ≡ length ys = omega arith in
-    ap (λ k. take k (drop a (xs ++ ys))) count
-    ∙ (ap (λ k. take (length ys) (drop k (xs ++ ys))) first
-    ∙ (ap (λ (zs : List ℕ). take (length ys) zs) (drop-append_seam xs ys) ∙ take-length ys))
+range-behind xs ys a n first last = grind (arith, common_steps, drop-append_seam, take-length)
 
 -- the ranks of a known event are the same where one more is known
 images-front : (caps : List ℕ) (f : List ℕ → List ℕ) (m n : LearnedImages) (count k : ℕ) → AreImages count m → AreImages count n → IsOneMore caps f m n → k < m.known
@@ -40,25 +37,14 @@ images-front caps f m n count k old new more small =
 -- and those of the new one stand after them
 images-behind : (caps : List ℕ) (f : List ℕ → List ℕ) (m n : LearnedImages) → AreImages (length (all_states caps)) m → AreImages (length (all_states caps)) n
     → (more : IsOneMore caps f m n) → images_at n m.known ≡ more.images
-images-behind caps f m n old new more =
-    let same : n.size ≡ m.size = new.same ∙ sym old.same in
-    ap (λ s. slice_range n.ranks.items (m.known * s) (m.known * s + s)) same
-    ∙ (ap (λ (xs : List ℕ). slice_range xs (m.known * m.size) (m.known * m.size + m.size)) more.ranks
-    ∙ range-behind m.ranks.items more.images (m.known * m.size) m.size (sym old.whole) (old.same ∙ sym more.are.whole))
+images-behind caps f m n old new more = grind (arith, common_steps, range-behind)
 
 pub learned-none : (caps : List ℕ) (functions : List (List ℕ → List ℕ)) (m : LearnedImages) → m.known ≡ 0 → AreLearned caps functions m
 learned-none caps functions m none = record { each = λ k small. absurd (omega arith) }
 
 pub learned-same : (caps : List ℕ) (functions : List (List ℕ → List ℕ)) (m n : LearnedImages) (count : ℕ) → AreImages count m → AreImages count n → IsSameImages m n
     → AreLearned caps functions m → AreLearned caps functions n
-learned-same caps functions m n count old new same learned = record {
-  each = λ k small.
-      (let known = same.known in
-      let size : n.size ≡ m.size = new.same ∙ sym old.same in
-      let is : images_at n k ≡ images_at m k =
-      ap (λ s. slice_range n.ranks.items (k * s) (k * s + s)) size ∙ ap (λ (xs : List ℕ). slice_range xs (k * m.size) (k * m.size + m.size)) same.ranks in
-      subst (λ (xs : List ℕ). AreRanksOf caps (slice_index_or functions k (λ x. x)) xs) (sym is) (learned.each k (omega arith)));
-}
+learned-same caps functions m n count old new same learned = grind (arith, common_steps)
 
 -- one event more is known
 pub learned-next : {E : Type 0} (caps : List ℕ) (function : E → List ℕ → List ℕ) (events : List E) (e : E) (m n : LearnedImages) → slice_get events m.known ≡ Some e

@@ -1,7 +1,8 @@
 -- The map of a table of ranks.
 use Rattle.std.specs.Prelude.{◌≡◌, ℕ, ◌<◌, ◌≤◌, List, [], ◌∷◌, length, map, slice_index, Some, None, refl}
-use Rattle.std.proofs.Common.{inl, inr, ap, sym, ◌∙◌, subst, arith}
+use Rattle.std.proofs.Common.{inr, ap, sym, ◌∙◌, subst, arith}
 use Rattle.std.proofs.lemmas.List.{ext_get_or, get_or-map, length-map}
+use Rattle.std.proofs.lemmas.Grind.{common_steps}
 use Rattle.psi_state.specs.State.{IsBelow, zeros, all_states}
 use Rattle.psi_state.specs.Members.{In}
 use Rattle.psi_state.proofs.BoxesLemmas.{In-of_all_states}
@@ -21,10 +22,7 @@ images_of caps xs = record { caps = caps; images = xs }
 
 map-agree : {A B : Type 0} (f g : A → B) (xs : List A) → ((x : A) → In x xs → f x ≡ g x) → map f xs ≡ map g xs
 map-agree f g [] same = refl
-map-agree f g (x ∷ xs) same =
-    let first = same x (inl refl) in
-    let rest = map-agree f g xs (λ y member. same y (inr member)) in
-    cc
+map-agree f g (x ∷ xs) same = grind (arith, common_steps, (map-agree f g xs (λ y member. same y (inr member))))
 
 -- the map of a function sends each state to what the function makes of it
 pub sends-map_of : (caps : List ℕ) (f : List ℕ → List ℕ) (x : List ℕ) → IsBelow x caps → sends (map_of caps f) x ≡ f x
@@ -39,10 +37,7 @@ every-map_of caps f table is = subst (λ (t : Mapped). IsMapOf t f) (sym is) (λ
 -- and an event before a map is on every state the event with the function after it
 pub every-older : (caps : List ℕ) (e f : List ℕ → List ℕ) (old new : Mapped) → IsClosed caps e → old.caps ≡ caps → new ≡ map_of old.caps (λ x. sends old (e x)) → IsMapOf old f
     → IsMapOf new (λ x. f (e x))
-every-older caps e f old new closed same is before =
-    subst (λ (t : Mapped). IsMapOf t (λ x. f (e x))) (sym is)
-    (λ x within. sends-map_of old.caps (λ y. sends old (e y)) x within
-    ∙ before (e x) (subst (λ (cs : List ℕ). IsBelow (e x) cs) (sym same) (closed.each x (subst (λ (cs : List ℕ). IsBelow x cs) same within))))
+every-older caps e f old new closed same is before = grind (arith, common_steps, sends-map_of)
 
 -- functions that agree on the states of the capacities have one map
 pub map_of-agree : (caps : List ℕ) (f g : List ℕ → List ℕ) → ((x : List ℕ) → IsBelow x caps → f x ≡ g x) → map_of caps f ≡ map_of caps g
@@ -94,14 +89,7 @@ ranks-images caps f images closed are = record {
 -- what a table has for ranks is a table
 pub ranks-looked_up : (caps ranks images next : List ℕ) → AreRanks caps ranks → AreRanks caps images → length next ≡ length images
     → ((r : ℕ) → r < length next → slice_index next r ≡ slice_index ranks (slice_index images r)) → AreRanks caps next
-ranks-looked_up caps ranks images next own are count looked = record {
-  whole = count ∙ are.whole;
-  each = λ r small.
-      (let whole = are.whole in
-      let is = looked r (omega arith) in
-      let fits = own.each (slice_index images r) (are.each r small) in
-      omega arith);
-}
+ranks-looked_up caps ranks images next own are count looked = grind (arith, common_steps)
 
 -- looking up the ranks of a function's images puts the function before the map
 pub table_of-older : (caps ranks images next : List ℕ) (f : List ℕ → List ℕ) → IsClosed caps f → AreRanks caps ranks → AreRanksOf caps f images
@@ -117,11 +105,7 @@ table_of-older caps ranks images next f closed own are count looked =
 
 -- the set of what a table sends all states to is that of the states of its ranks
 pub image-table_of : (caps ranks : List ℕ) → AreRanks caps ranks → image (sends (table_of caps ranks)) (all_states caps) ≡ ascending (map (state_at caps) ranks)
-image-table_of caps ranks are =
-    ap (λ (table : Mapped). ascending table.images)
-    (sym (table_of-map_of caps ranks (sends (table_of caps ranks)) are.whole
-    (λ r small. sym (sends-table_of caps ranks (state_at caps r) are (state_at-below caps r small)
-    ∙ ap (λ k. state_at caps (slice_index ranks k)) (rank_of-state_at caps r small)))))
+image-table_of caps ranks are = grind (arith, common_steps, table_of-map_of, sends-table_of, state_at-below, rank_of-state_at)
 
 -- where all ranks of a table are one, it sends all states to one
 pub single-all : (caps ranks : List ℕ) (n : ℕ) → AreRanks caps ranks → AreAll n ranks

@@ -1,7 +1,7 @@
 -- What the runs of regions say of the composed map.
 use Rattle.std.specs.Prelude.{◌≡◌, ℕ, suc, ◌^◌, ◌≤◌, List, Some}
-use Rattle.std.proofs.Common.{inl, inr, sym, ◌∙◌, arith}
-use Rattle.std.proofs.lemmas.Bool.{cases_lt}
+use Rattle.std.proofs.Common.{sym, ◌∙◌, arith}
+use Rattle.std.proofs.lemmas.Grind.{common_steps}
 use Rattle.psi_state.specs.State.{zeros, all_states}
 use Rattle.psi_state.proofs.BoxesLemmas.{In-of_all_states}
 use Rattle.psi_state.proofs.StatesLemmas.{In-zeros, zeros-caps}
@@ -29,10 +29,7 @@ pub meets-by : (split : ℕ) (caps : List ℕ) (f : ℕ → List ℕ → List �
     → ending_at split f caps t ≡ Some s → IsMeeting (meeting_at f caps) h m → MeetsBy t s m
 meets-by split caps f h t s (Constant u r) closed some most met is =
     let here = ending-meets split caps f t s closed met in
-    let order : u ≤ t = elim (cases_lt t u) [
-      | inl less ↦ (let none = is.earlier.each t some less in absurd cc)
-      | inr more ↦ more
-    ] in
+    let order : u ≤ t = grind (arith, common_steps) in
     let own = (meeting_at-reached caps f u r closed is.answer).each (zeros caps) t (zeros-caps caps) order in
     let other = (meeting_at-reached caps f t s closed here).each (zeros caps) t (zeros-caps caps) (omega arith) in
     record { order = order; state = sym own ∙ other }

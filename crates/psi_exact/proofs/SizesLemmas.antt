@@ -1,7 +1,8 @@
 -- The sizes of images, one after another.
-use Rattle.std.specs.Prelude.{◌≡◌, ℕ, zero, suc, ◌+◌, ◌-◌, ◌^◌, ◌<◌, List, [], ◌∷◌, ◌++◌, length, map, drop, replicate, slice_set, refl}
+use Rattle.std.specs.Prelude.{◌≡◌, ℕ, zero, suc, ◌+◌, ◌-◌, ◌^◌, ◌<◌, List, [], ◌∷◌, ◌++◌, length, drop, replicate, slice_set, refl}
 use Rattle.std.proofs.Common.{ap, sym, ◌∙◌, arith}
 use Rattle.std.proofs.lemmas.List.{drop-set-lt, drop-drop, drop-replicate, map-append, length-map}
+use Rattle.std.proofs.lemmas.Grind.{common_steps}
 use Rattle.psi_state.specs.State.{numbers_from}
 use Rattle.psi_rate.specs.Composition.{image_at}
 use Rattle.psi_exact.specs.Sizes.{sizes_before}
@@ -29,13 +30,7 @@ length-numbers_from first (suc n) = ap suc (length-numbers_from (suc first) n)
 -- the sizes go on with that of the next power of two
 pub sizes-next : (f : ℕ → List ℕ → List ℕ) (caps : List ℕ) (n size : ℕ) → size ≡ length (image_at f caps (2 ^ n))
     → sizes_before f caps n ++ size ∷ [] ≡ sizes_before f caps (n + 1)
-sizes-next f caps n size is =
-    let next : suc n ≡ n + 1 = omega arith in
-    let last : n ≡ 0 + n = omega arith in
-    let size_at = λ (k : ℕ). length (image_at f caps (2 ^ k)) in
-    sym (sym (ap (λ k. sizes_before f caps k) next)
-    ∙ (ap (λ (xs : List ℕ). map size_at xs) (numbers_from-more 0 n ∙ ap (λ k. numbers_from 0 n ++ k ∷ []) (sym last))
-    ∙ (map-append size_at (numbers_from 0 n) (n ∷ []) ∙ ap (λ k. sizes_before f caps n ++ k ∷ []) (sym is))))
+sizes-next f caps n size is = grind (arith, common_steps, numbers_from-more, map-append)
 
 pub length-sizes : (f : ℕ → List ℕ → List ℕ) (caps : List ℕ) (n : ℕ) → length (sizes_before f caps n) ≡ n
 length-sizes f caps n = length-map (numbers_from 0 n) (λ k. length (image_at f caps (2 ^ k))) ∙ length-numbers_from 0 n

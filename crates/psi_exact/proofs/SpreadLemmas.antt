@@ -5,6 +5,7 @@ use Rattle.std.proofs.lemmas.Bool.{cases_lt, cases_eq}
 use Rattle.std.proofs.lemmas.List.{ext_get_or, get_or_past}
 use Rattle.std.proofs.Math.ListN.{drop_of_length-le}
 use Rattle.std.proofs.Math.Nat.{suc-mul, zero-mul, mul_comm, mul-le-mul_right}
+use Rattle.std.proofs.lemmas.Grind.{common_steps}
 use Rattle.psi_state.specs.State.{IsBelow, all_states}
 use Rattle.psi_state.proofs.BoxesLemmas.{set-below}
 use Rattle.psi_event.specs.Law.{IsClosed}
@@ -25,16 +26,7 @@ filled-all caps f span ranks whole filled = record {
 
 -- a state without customers outside the span is within it
 pub base-below : (caps : List ℕ) (f : List ℕ → List ℕ) (span x : List ℕ) (count : ℕ) → IsSpan caps f span → IsBelow x caps → length caps ≤ count → IsBase span x count → IsBelow x span
-base-below caps f span x count is within most base = record {
-  same_length = within.same_length ∙ sym is.same_length;
-  each = λ q small.
-      (let long = within.same_length in
-      let high = within.each q small in
-      elim (is.each q (omega arith)) [
-        | inl full ↦ omega arith
-        | inr kept ↦ (let none = kept.0 in let here = base.each q (omega arith) none in omega arith)
-      ]);
-}
+base-below caps f span x count is within most base = grind (arith, common_steps)
 
 -- one rank that is right is written, so all that were right are so still
 pub right-set : (caps : List ℕ) (f : List ℕ → List ℕ) (ranks x y : List ℕ) (place rank : ℕ) → IsBelow x caps → IsBelow y caps → place ≡ rank_of caps y → rank ≡ rank_of caps (f y)
@@ -55,32 +47,12 @@ right-set caps f ranks x y place rank first second at is small right =
 pub cut-itself : (q : ℕ) (x : List ℕ) → ((i : ℕ) → q ≤ i → slice_index x i ≡ 0) → cut q x ≡ x
 cut-itself q x none =
     ext_get_or 0 (cut q x) x (length-cut q x)
-    (λ i small. elim (cases_lt i q) [
-      | inl less ↦ cut-first q x i less
-      | inr past ↦ cut-behind q x i past ∙ sym (none i past)
-    ])
+    (λ i small. grind (arith, common_steps, cut-first, cut-behind))
 
 -- the first numbers of a state without customers outside the span, among them, are within the front of the span
 pub cut-below : (caps : List ℕ) (f : List ℕ → List ℕ) (span front x : List ℕ) (q : ℕ) → IsSpan caps f span → IsFront span q front → IsBelow x caps → IsBase span x q
     → IsBelow (cut q x) front
-cut-below caps f span front x q is ahead within base =
-    let same = is.same_length in
-    let long = within.same_length in
-    let fronts = ahead.same_length in
-    let count = length-cut q x in
-    record {
-      same_length = omega arith;
-      each = λ i small. elim (cases_lt i q) [
-        | inl less ↦ (let here = cut-first q x i less in
-            let own = ahead.same i less in
-            let most = within.each i (omega arith) in
-            elim (is.each i (omega arith)) [
-              | inl full ↦ omega arith
-              | inr kept ↦ (let here_none : slice_index x i ≡ 0 = base.each i less kept.0 in omega arith)
-            ])
-        | inr past ↦ (let here = cut-behind q x i past in omega arith)
-      ];
-    }
+cut-below caps f span front x q is ahead within base = grind (arith, common_steps, length-cut, cut-first, cut-behind)
 
 -- a kept queue without customers, where all others stay, changes what the event makes by just these
 alike-add : (caps : List ℕ) (f : List ℕ → List ℕ) (span x : List ℕ) (q : ℕ) → IsSpan caps f span → MovesAlike caps f span → IsClosed caps f → IsBelow x caps → q < length caps
@@ -250,25 +222,11 @@ front-whole span n is = record { same_length = refl; same = λ q small. refl; no
 
 -- the front with one number less
 pub front-less : (span front new : List ℕ) (n : ℕ) → 0 < n → n ≤ length span → IsFront span n front → new ≡ slice_set front (n - 1) 0 → IsFront span (n - 1) new
-front-less span front new n some few front_is is =
-    let count = front_is.same_length in
-    subst (λ (xs : List ℕ). IsFront span (n - 1) xs) (sym is)
-    (record {
-      same_length = length-set {A = ℕ} front (n - 1) 0 ∙ front_is.same_length;
-      same = λ q small. get_or-set_other {A = ℕ} front (n - 1) q 0 0 (λ e. omega arith) ∙ front_is.same q (omega arith);
-      none = λ q past. elim (cases_eq q (n - 1)) [
-        | inl e ↦ ap (λ k. slice_index (slice_set front (n - 1) 0) k) e ∙ get_or-set_same {A = ℕ} front (n - 1) 0 0 (omega arith)
-        | inr ne ↦ get_or-set_other {A = ℕ} front (n - 1) q 0 0 ne ∙ front_is.none q (omega arith)
-      ];
-    })
+front-less span front new n some few front_is is = grind (arith, common_steps, length-set, get_or-set_other, get_or-set_same)
 
 -- a state within the front has no customers after it
 pub front-none : (span front y : List ℕ) (q i : ℕ) → IsFront span q front → IsBelow y front → q ≤ i → slice_index y i ≡ 0
-front-none span front y q i front_is within past =
-    elim (cases_lt i (length y)) [
-      | inl small ↦ (let most = within.each i small in let none = front_is.none i past in omega arith)
-      | inr behind ↦ get_or_past y i 0 behind
-    ]
+front-none span front y q i front_is within past = grind (arith, common_steps, get_or_past)
 
 -- it is one within the capacities
 pub front-below : (caps : List ℕ) (f : List ℕ → List ℕ) (span front y : List ℕ) (q : ℕ) → IsSpan caps f span → IsFront span q front → IsBelow y front → IsBelow y caps
@@ -289,15 +247,7 @@ stride-first caps n past = sym (ap (λ (xs : List ℕ). length (all_states xs)) 
 -- one queue more
 pub stride-next : (caps : List ℕ) (n stride c : ℕ) → 0 < n → n ≤ length caps → stride ≡ length (all_states (drop n caps)) → c ≡ slice_index caps (n - 1)
     → stride * (c + 1) ≡ length (all_states (drop (n - 1) caps))
-stride-next caps n stride c some few is wide =
-    let down : suc (n - 1) ≡ n = omega arith in
-    let width : suc (slice_index caps (n - 1)) ≡ c + 1 = omega arith in
-    mul_comm stride (c + 1)
-    ∙ (sym (size-all (drop (n - 1) caps)
-    ∙ (size-drop caps (n - 1) (omega arith)
-    ∙ (ap (λ k. k * size (drop (suc (n - 1)) caps)) width
-    ∙ (ap (λ k. (c + 1) * size (drop k caps)) down
-    ∙ ap (λ k. (c + 1) * k) (sym (is ∙ size-all (drop n caps))))))))
+stride-next caps n stride c some few is wide = grind (arith, common_steps, mul_comm, size-all, size-drop, size)
 
 pub stride-most : (caps : List ℕ) (n : ℕ) → length (all_states (drop n caps)) ≤ length (all_states caps)
 stride-most caps n = (let own = size-all caps in let other = size-all (drop n caps) in let most = size-most caps n in omega arith)

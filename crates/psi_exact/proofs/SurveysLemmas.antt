@@ -4,6 +4,7 @@ use Rattle.std.specs.Option.{option_map, unwrap_or, is_some}
 use Rattle.std.proofs.Common.{ap, sym, ◌∙◌, subst, arith}
 use Rattle.std.proofs.lemmas.Bool.{false≢true}
 use Rattle.std.proofs.lemmas.Option.{slice_get-map, unwrap_or-slice_get, slice_get_within, get_or_from_slice_get}
+use Rattle.std.proofs.lemmas.Grind.{common_steps}
 use Rattle.psi_state.specs.State.{IsBelow, zeros, all_states}
 use Rattle.psi_state.proofs.BoxesLemmas.{In-all_states}
 use Rattle.psi_state.proofs.StatesLemmas.{zeros-caps}
@@ -42,10 +43,7 @@ event-caps capacities caps events k e same is =
 -- an event that is put before the map of a function
 pub before-event : (caps : List ℕ) (f g h : List ℕ → List ℕ) (old new : Mapped) → IsClosed caps g → h ≡ g → old ≡ map_of caps f
     → new ≡ map_of old.caps (λ x. sends old (g x)) → new ≡ map_of caps (λ x. f (h x))
-before-event caps f g h old new closed same is made =
-    made ∙ (ap (λ (t : Mapped). map_of t.caps (λ x. sends t (g x))) is
-    ∙ (map_of-agree caps (λ x. sends (map_of caps f) (g x)) (λ x. f (g x)) (λ x within. sends-map_of caps f (g x) (closed.each x within))
-    ∙ ap (λ (k : List ℕ → List ℕ). map_of caps (λ x. f (k x))) (sym same)))
+before-event caps f g h old new closed same is made = grind (arith, common_steps, map_of-agree, sends-map_of)
 
 -- and none
 pub before-none : (caps : List ℕ) (f h : List ℕ → List ℕ) (table : Mapped) → h ≡ (λ x. x) → table ≡ map_of caps f → table ≡ map_of caps (λ x. f (h x))
@@ -94,20 +92,10 @@ constant-stays caps f t later other s closed met first second =
 
 -- a meeting that was found stays the least one
 pub found-stays : (run : ℕ → Option (List ℕ)) (place : ℕ) (found : ℕ × List ℕ) → TellsLeast run place (Some found) → TellsLeast run (place + 1) (Some found)
-found-stays run place found is = record {
-  some = is.some;
-  within = (let within = is.within in omega arith);
-  answer = is.answer;
-  earlier = is.earlier;
-}
+found-stays run place found is = grind (arith, common_steps)
 
 pub found-here : (run : ℕ → Option (List ℕ)) (place : ℕ) (s : List ℕ) → HasNoneBelow run (suc place) → Some s ≡ run (place + 1) → TellsLeast run (place + 1) (Some (place + 1, s))
-found-here run place s none is = record {
-  some = omega arith;
-  within = omega arith;
-  answer = sym is;
-  earlier = record { each = λ k some small. none.each k some (omega arith) };
-}
+found-here run place s none is = grind (arith, common_steps)
 
 pub none-here : (run : ℕ → Option (List ℕ)) (place : ℕ) → HasNoneBelow run (suc place) → None ≡ run (place + 1) → TellsLeast run (place + 1) None
 none-here run place none is =

@@ -1,6 +1,7 @@
 -- The states within some capacities one after another, each with a fact that it has once it was visited.
 use Rattle.std.specs.Prelude.{◌≡◌, ℕ, List, [], ◌∷◌, ◌⊎◌, refl}
-use Rattle.std.proofs.Common.{inl, inr, sym, subst}
+use Rattle.std.proofs.Common.{arith, inl, sym, subst}
+use Rattle.std.proofs.lemmas.Grind.{common_steps}
 use Rattle.psi_state.specs.State.{IsBelow, all_states}
 use Rattle.psi_state.specs.Members.{In}
 use Rattle.psi_state.proofs.BoxesLemmas.{In-all_states, In-of_all_states}
@@ -21,21 +22,8 @@ visits-first caps P x left rest visited is = visited.within x (subst (λ (xs : L
 -- one state more has the fact, and the others have it still
 pub visits-next : (caps : List ℕ) (P Q : List ℕ → Type 0) (x : List ℕ) (left rest : List (List ℕ)) → AreVisited caps P left → left ≡ x ∷ rest → Q x
     → ((y : List ℕ) → IsBelow y caps → P y → Q y) → AreVisited caps Q rest
-visits-next caps P Q x left rest visited is here kept = record {
-  within = λ y member. visited.within y (subst (λ (xs : List (List ℕ)). In y xs) (sym is) (inr member));
-  each = λ y within. elim (visited.each y within) [
-    | inl member ↦ elim (subst (λ (xs : List (List ℕ)). In y xs) is member) [
-      | inl same ↦ inr (subst (λ (z : List ℕ). Q z) (sym same) here)
-      | inr behind ↦ inl behind
-    ]
-    | inr fact ↦ inr (kept y within fact)
-  ];
-}
+visits-next caps P Q x left rest visited is here kept = grind (arith, common_steps)
 
 -- where no state is left, each has it
 pub visits-end : (caps : List ℕ) (P : List ℕ → Type 0) (left : List (List ℕ)) → AreVisited caps P left → left ≡ [] → (x : List ℕ) → IsBelow x caps → P x
-visits-end caps P left visited is x within =
-    elim (visited.each x within) [
-      | inl member ↦ absurd (subst (λ (xs : List (List ℕ)). In x xs) is member)
-      | inr fact ↦ fact
-    ]
+visits-end caps P left visited is x within = grind (arith, common_steps)

@@ -5,6 +5,7 @@ use Rattle.std.proofs.lemmas.Bool.{cases_lt}
 use Rattle.std.proofs.lemmas.List.{get_or-set_same, get_or-set_other, length-drop}
 use Rattle.std.proofs.Math.Seq.{drop-cons}
 use Rattle.std.proofs.Math.ListN.{drop_of_length-le}
+use Rattle.std.proofs.lemmas.Grind.{common_steps}
 use Rattle.psi_state.specs.State.{Corners, IsBelow, zeros, box, all_states}
 use Rattle.psi_state.specs.Members.{In}
 use Rattle.psi_state.proofs.BoxesLemmas.{In-all_states}
@@ -60,12 +61,4 @@ none-left caps r whole is none =
 pub images-next : (caps : List ℕ) (f : List ℕ → List ℕ) (ranks : List ℕ) (r place : ℕ) (x y : List ℕ) (rest : List (List ℕ)) → IsNext caps r x rest → y ≡ f x
     → place ≡ rank_of caps y → length ranks ≡ length (all_states caps) → ((k : ℕ) → k < r → slice_index ranks k ≡ rank_of caps (f (state_at caps k)))
     → (k : ℕ) → k < r + 1 → slice_index (slice_set ranks r place) k ≡ rank_of caps (f (state_at caps k))
-images-next caps f ranks r place x y rest next made is room done k small =
-    elim (cases_lt k r) [
-      | inl less ↦ get_or-set_other ranks r k place 0 (λ e. omega arith) ∙ done k less
-      | inr more ↦ (let same : k ≡ r = omega arith in
-          let fits : r < length ranks = (let s = next.small in omega arith) in
-          ap (λ n. slice_index (slice_set ranks r place) n) same
-          ∙ (get_or-set_same ranks r place 0 fits
-          ∙ (is ∙ (ap (λ (z : List ℕ). rank_of caps z) (made ∙ ap f (sym next.state)) ∙ ap (λ n. rank_of caps (f (state_at caps n))) (sym same)))))
-    ]
+images-next caps f ranks r place x y rest next made is room done k small = grind (arith, common_steps, get_or-set_other, get_or-set_same)
