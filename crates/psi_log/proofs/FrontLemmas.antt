@@ -10,7 +10,7 @@ use Rattle.psi_state.specs.State.{Corners}
 use Rattle.psi_log_format.specs.declared.header.Header.{Header}
 use Rattle.psi_log_format.specs.Log.{LogRegion, Entry, greatest_horizon}
 use Rattle.psi_log_words.specs.Refusal.{Refusal, refused, ◌>>=◌, holds_or}
-use Rattle.psi_log_words.specs.Words.{is_feed, cut_at, line_of, words_of, read_version, read_named}
+use Rattle.psi_log_words.specs.Words.{is_feed, cut_at, line_of, tokens_of, read_version, read_named}
 use Rattle.psi_log_words.specs.declared.refusals.LogCause.TheVariants.{TooLong}
 use Rattle.psi_log_words.proofs.WordLemmas.{bind_ok, ok_same}
 use Rattle.psi_log_scan.specs.Lines.{named_line, read_header, read_step}
@@ -80,16 +80,16 @@ of_line {A = A} n f =
 -- so are the lines of a name and a number, and the one of the region at which the run begins
 named_front : (n : ℕ) (name : List ℕ) (least most : ℕ) → IsFront (named_line n name least most)
 unfolding named_line
-named_front n name least most = of_line n (λ (line : List ℕ). read_named n name least most (words_of line))
+named_front n name least most = of_line n (λ (line : List ℕ). read_named n name least most (tokens_of line))
 
 begin_front : (queues : ℕ) → IsFront (begin_line queues)
 unfolding begin_line
-begin_front queues = of_line 6 (λ (line : List ℕ). read_begin queues (words_of line))
+begin_front queues = of_line 6 (λ (line : List ℕ). read_begin queues (tokens_of line))
 
 -- a step
 step_front : (h : Header) (n : ℕ) (before : Option Corners) → IsFront (next_step h n before)
 unfolding next_step
-step_front h n before = of_line n (λ (line : List ℕ). read_step h n before (words_of line))
+step_front h n before = of_line n (λ (line : List ℕ). read_step h n before (tokens_of line))
 
 pub next_front : (h : Header) (n : ℕ) (before : Option Corners) (text rest more : List ℕ) (e : Entry) → next_step h n before text ≡ Ok (e, rest) → next_step h n before (text ++ more) ≡ Ok (e, rest ++ more)
 next_front h n before text rest more e read = (step_front h n before text (e, rest) read).1 more

@@ -4,7 +4,7 @@ use Rattle.std.proofs.Common.{sym, ◌∙◌}
 use Rattle.psi_log_format.specs.declared.header.Header.{Header}
 use Rattle.psi_log_format.specs.Log.{LogRegion, Entry}
 use Rattle.psi_log_words.specs.Refusal.{Refusal, refused, ◌>>=◌, holds_or}
-use Rattle.psi_log_words.specs.Words.{line_of, words_of}
+use Rattle.psi_log_words.specs.Words.{line_of, tokens_of}
 use Rattle.psi_log_words.specs.declared.refusals.LogCause.TheVariants.{TrailingText, TooLong}
 use Rattle.psi_log_scan.specs.Lines.{read_header}
 use Rattle.psi_log_words.specs.Regions.{box_before}
@@ -27,12 +27,12 @@ three (Ok x) b c m k = two (b x) (c x) (m x) k
 three (Err refusal) b c m k = refl
 
 steps_left : (c : Cursor) (steps : Result (List Entry × List ℕ) Refusal)
-    → (steps >>= (λ (s : List Entry × List ℕ). line_of (7 + c.header.horizon) s.1 >>= (λ (l : List ℕ × List ℕ). read_end (7 + c.header.horizon) c.header.queues (words_of l.0) >>= (λ (final : List ℕ).
+    → (steps >>= (λ (s : List Entry × List ℕ). line_of (7 + c.header.horizon) s.1 >>= (λ (l : List ℕ × List ℕ). read_end (7 + c.header.horizon) c.header.queues (tokens_of l.0) >>= (λ (final : List ℕ).
     holds_or (refused (8 + c.header.horizon) TrailingText) (length l.1 == 0) >>= (λ (u : Unit {0}). Ok (log_of c s.0 final))))))
     ≡ (steps >>= (λ (s : List Entry × List ℕ). ended c.header s.1 >>= (λ (final : List ℕ). Ok (log_of c s.0 final))))
 unfolding ended
 steps_left c (Ok s) =
-    sym (three (line_of (7 + c.header.horizon) s.1) (λ (l : List ℕ × List ℕ). read_end (7 + c.header.horizon) c.header.queues (words_of l.0))
+    sym (three (line_of (7 + c.header.horizon) s.1) (λ (l : List ℕ × List ℕ). read_end (7 + c.header.horizon) c.header.queues (tokens_of l.0))
     (λ (l : List ℕ × List ℕ) (final : List ℕ). holds_or (refused (8 + c.header.horizon) TrailingText) (length l.1 == 0)) (λ (l : List ℕ × List ℕ) (final : List ℕ) (u : Unit {0}). final)
     (λ (final : List ℕ). Ok (log_of c s.0 final)))
 steps_left c (Err refusal) = refl
@@ -47,18 +47,18 @@ behind_header h text = lines (line_of 6 text)
   where
     begins : (rest : List ℕ) (begin : Result LogRegion Refusal)
         → (begin >>= (λ (b : LogRegion). read_steps h h.horizon 7 (box_before h.version b) rest >>= (λ (s : List Entry × List ℕ).
-        line_of (7 + h.horizon) s.1 >>= (λ (l : List ℕ × List ℕ). read_end (7 + h.horizon) h.queues (words_of l.0) >>= (λ (final : List ℕ).
+        line_of (7 + h.horizon) s.1 >>= (λ (l : List ℕ × List ℕ). read_end (7 + h.horizon) h.queues (tokens_of l.0) >>= (λ (final : List ℕ).
         holds_or (refused (8 + h.horizon) TrailingText) (length l.1 == 0) >>= (λ (u : Unit {0}). Ok (log_of (cursor_of h (b, rest)) s.0 final)))))))
         ≡ ((begin >>= (λ (b : LogRegion). Ok (b, rest))) >>= (λ (b : LogRegion × List ℕ). left_of (cursor_of h b)))
     begins rest (Ok b) = steps_left (cursor_of h (b, rest)) (read_steps h h.horizon 7 (box_before h.version b) rest)
     begins rest (Err refusal) = refl
 
     lines : (line : Result (List ℕ × List ℕ) Refusal)
-        → (line >>= (λ (l : List ℕ × List ℕ). read_begin h.queues (words_of l.0) >>= (λ (b : LogRegion). read_steps h h.horizon 7 (box_before h.version b) l.1 >>= (λ (s : List Entry × List ℕ).
-        line_of (7 + h.horizon) s.1 >>= (λ (m : List ℕ × List ℕ). read_end (7 + h.horizon) h.queues (words_of m.0) >>= (λ (final : List ℕ).
+        → (line >>= (λ (l : List ℕ × List ℕ). read_begin h.queues (tokens_of l.0) >>= (λ (b : LogRegion). read_steps h h.horizon 7 (box_before h.version b) l.1 >>= (λ (s : List Entry × List ℕ).
+        line_of (7 + h.horizon) s.1 >>= (λ (m : List ℕ × List ℕ). read_end (7 + h.horizon) h.queues (tokens_of m.0) >>= (λ (final : List ℕ).
         holds_or (refused (8 + h.horizon) TrailingText) (length m.1 == 0) >>= (λ (u : Unit {0}). Ok (log_of (cursor_of h (b, l.1)) s.0 final))))))))
-        ≡ ((line >>= (λ (l : List ℕ × List ℕ). read_begin h.queues (words_of l.0) >>= (λ (b : LogRegion). Ok (b, l.1)))) >>= (λ (b : LogRegion × List ℕ). left_of (cursor_of h b)))
-    lines (Ok l) = begins l.1 (read_begin h.queues (words_of l.0))
+        ≡ ((line >>= (λ (l : List ℕ × List ℕ). read_begin h.queues (tokens_of l.0) >>= (λ (b : LogRegion). Ok (b, l.1)))) >>= (λ (b : LogRegion × List ℕ). left_of (cursor_of h b)))
+    lines (Ok l) = begins l.1 (read_begin h.queues (tokens_of l.0))
     lines (Err refusal) = refl
 
 -- a text is read up to its steps, and then what is left of it

@@ -9,7 +9,7 @@ use Rattle.psi_log_format.specs.Text.{line_text, numbers_text, region_words, hea
 use Rattle.psi_log_words.specs.Refusal.{refused, ◌>>=◌, holds_or, Gives}
 use Rattle.psi_log_words.specs.declared.refusals.LogError.{LogError}
 use Rattle.psi_log_words.specs.declared.refusals.LogError.TheVariants.{Refused, OutOfMemory}
-use Rattle.psi_log_words.specs.Words.{line_of, words_of}
+use Rattle.psi_log_words.specs.Words.{line_of, tokens_of}
 use Rattle.psi_log_words.specs.declared.refusals.LogCause.TheVariants.{TrailingText, TooLong}
 use Rattle.psi_log_words.proofs.WordLemmas.{bind_ok, ok_same, held}
 use Rattle.psi_log_words.specs.Regions.{box_before}
@@ -33,23 +33,23 @@ joined text h b es e rest more last p q r s =
 after_found : (text : List ℕ) (h : Header) (rest : List ℕ) (c : Certificate) → length text ≤ 33554432 → text ≡ header_text h ++ rest → IsHeader h → after_header h rest ≡ Ok c → IsLogOf text c
 unfolding log_text begin_text end_text after_header
 after_found text h rest c few is header r =
-    let line = bind_ok (line_of 6 rest) (λ (l : List ℕ × List ℕ). read_begin h.queues (words_of l.0) >>= (λ (b : LogRegion). read_steps h h.horizon 7 (box_before h.version b) l.1 >>= (λ (s : List Entry × List ℕ).
-    line_of (7 + h.horizon) s.1 >>= (λ (m : List ℕ × List ℕ). read_end (7 + h.horizon) h.queues (words_of m.0) >>= (λ (x : List ℕ).
+    let line = bind_ok (line_of 6 rest) (λ (l : List ℕ × List ℕ). read_begin h.queues (tokens_of l.0) >>= (λ (b : LogRegion). read_steps h h.horizon 7 (box_before h.version b) l.1 >>= (λ (s : List Entry × List ℕ).
+    line_of (7 + h.horizon) s.1 >>= (λ (m : List ℕ × List ℕ). read_end (7 + h.horizon) h.queues (tokens_of m.0) >>= (λ (x : List ℕ).
     holds_or (refused (8 + h.horizon) TrailingText) (length m.1 == 0) >>= (λ (u : Unit {0}). Ok (record { header = h; begin = b; entries = s.0; final = x }))))))) c r in
-    let b = bind_ok (read_begin h.queues (words_of line.0.0)) (λ (b : LogRegion). read_steps h h.horizon 7 (box_before h.version b) line.0.1 >>= (λ (s : List Entry × List ℕ).
-    line_of (7 + h.horizon) s.1 >>= (λ (m : List ℕ × List ℕ). read_end (7 + h.horizon) h.queues (words_of m.0) >>= (λ (x : List ℕ).
+    let b = bind_ok (read_begin h.queues (tokens_of line.0.0)) (λ (b : LogRegion). read_steps h h.horizon 7 (box_before h.version b) line.0.1 >>= (λ (s : List Entry × List ℕ).
+    line_of (7 + h.horizon) s.1 >>= (λ (m : List ℕ × List ℕ). read_end (7 + h.horizon) h.queues (tokens_of m.0) >>= (λ (x : List ℕ).
     holds_or (refused (8 + h.horizon) TrailingText) (length m.1 == 0) >>= (λ (u : Unit {0}). Ok (record { header = h; begin = b; entries = s.0; final = x })))))) c line.2 in
     let s = bind_ok (read_steps h h.horizon 7 (box_before h.version b.0) line.0.1) (λ (s : List Entry × List ℕ).
-    line_of (7 + h.horizon) s.1 >>= (λ (m : List ℕ × List ℕ). read_end (7 + h.horizon) h.queues (words_of m.0) >>= (λ (x : List ℕ).
+    line_of (7 + h.horizon) s.1 >>= (λ (m : List ℕ × List ℕ). read_end (7 + h.horizon) h.queues (tokens_of m.0) >>= (λ (x : List ℕ).
     holds_or (refused (8 + h.horizon) TrailingText) (length m.1 == 0) >>= (λ (u : Unit {0}). Ok (record { header = h; begin = b.0; entries = s.0; final = x }))))) c b.2 in
-    let m = bind_ok (line_of (7 + h.horizon) s.0.1) (λ (m : List ℕ × List ℕ). read_end (7 + h.horizon) h.queues (words_of m.0) >>= (λ (x : List ℕ).
+    let m = bind_ok (line_of (7 + h.horizon) s.0.1) (λ (m : List ℕ × List ℕ). read_end (7 + h.horizon) h.queues (tokens_of m.0) >>= (λ (x : List ℕ).
     holds_or (refused (8 + h.horizon) TrailingText) (length m.1 == 0) >>= (λ (u : Unit {0}). Ok (record { header = h; begin = b.0; entries = s.0.0; final = x })))) c s.2 in
-    let x = bind_ok (read_end (7 + h.horizon) h.queues (words_of m.0.0)) (λ (x : List ℕ).
+    let x = bind_ok (read_end (7 + h.horizon) h.queues (tokens_of m.0.0)) (λ (x : List ℕ).
     holds_or (refused (8 + h.horizon) TrailingText) (length m.0.1 == 0) >>= (λ (u : Unit {0}). Ok (record { header = h; begin = b.0; entries = s.0.0; final = x }))) c m.2 in
     let u = bind_ok (holds_or (refused (8 + h.horizon) TrailingText) (length m.0.1 == 0)) (λ (u : Unit {0}). Ok (record { header = h; begin = b.0; entries = s.0.0; final = x.0 })) c x.2 in
-    let begin = begin_found h.queues (words_of line.0.0) b.0 header.some header.few b.1 in
+    let begin = begin_found h.queues (tokens_of line.0.0) b.0 header.some header.few b.1 in
     let steps = steps_found h h.horizon 7 b.0 line.0.1 s.0 header begin.1 s.1 in
-    let end = end_found (7 + h.horizon) h.queues (words_of m.0.0) x.0 x.1 in
+    let end = end_found (7 + h.horizon) h.queues (tokens_of m.0.0) x.0 x.1 in
     let over : m.0.1 ≡ [] = nil_from_length m.0.1 (eqb-true (length m.0.1) 0 (held (refused (8 + h.horizon) TrailingText) (length m.0.1 == 0) u.0 u.1)) in
     let last : s.0.1 ≡ line_text (codes "end" ∷ numbers_text x.0 ∷ []) =
     words_found (7 + h.horizon) s.0.1 m.0 (codes "end" ∷ numbers_text x.0 ∷ []) m.1 end.0

@@ -5,7 +5,7 @@ use Rattle.psi_state.specs.declared.outcome.Step.{Step}
 use Rattle.psi_log_format.specs.declared.header.Header.{Header}
 use Rattle.psi_log_format.specs.Log.{LogRegion, Entry, IsHeader, IsRegion, IsState}
 use Rattle.psi_log_words.specs.Refusal.{refused, ◌>>=◌, holds_or}
-use Rattle.psi_log_words.specs.Words.{line_of, words_of}
+use Rattle.psi_log_words.specs.Words.{line_of, tokens_of}
 use Rattle.psi_log_words.specs.declared.refusals.LogCause.TheVariants.{TrailingText, TooLong}
 use Rattle.psi_log_words.proofs.WordLemmas.{bind_ok, ok_same}
 use Rattle.psi_log_scan.specs.Lines.{read_header, read_step}
@@ -24,9 +24,9 @@ pub next_found : (h : Header) (n : ℕ) (before : LogRegion) (text : List ℕ) (
     → next_step h n (box_before h.version before) text ≡ Ok x → IsRegion h.queues x.0.region
 unfolding next_step
 next_found h n before text x is region r =
-    let line = bind_ok (line_of n text) (λ (line : List ℕ × List ℕ). read_step h n (box_before h.version before) (words_of line.0) >>= (λ (e : Entry). Ok (e, line.1))) x r in
-    let entry = bind_ok (read_step h n (box_before h.version before) (words_of line.0.0)) (λ (e : Entry). Ok (e, line.0.1)) x line.2 in
-    let found = step_found h n before (words_of line.0.0) entry.0 is region entry.1 in
+    let line = bind_ok (line_of n text) (λ (line : List ℕ × List ℕ). read_step h n (box_before h.version before) (tokens_of line.0) >>= (λ (e : Entry). Ok (e, line.1))) x r in
+    let entry = bind_ok (read_step h n (box_before h.version before) (tokens_of line.0.0)) (λ (e : Entry). Ok (e, line.0.1)) x line.2 in
+    let found = step_found h n before (tokens_of line.0.0) entry.0 is region entry.1 in
     subst (λ (p : Entry × List ℕ). IsRegion h.queues p.0.region) (ok_same (entry.0, line.0.1) x entry.2) found.1.region
 
 -- what a reader holds after a step that leaves the region in its place
@@ -69,9 +69,9 @@ module _ (h : Header) (done : ℕ) (rest rest' : List ℕ) (slot spare : RegionS
 begin_line_found : (queues : ℕ) (text : List ℕ) (x : LogRegion × List ℕ) → 1 ≤ queues → queues ≤ 32 → begin_line queues text ≡ Ok x → IsRegion queues x.0
 unfolding begin_line
 begin_line_found queues text x some few r =
-    let line = bind_ok (line_of 6 text) (λ (l : List ℕ × List ℕ). read_begin queues (words_of l.0) >>= (λ (b : LogRegion). Ok (b, l.1))) x r in
-    let begin = bind_ok (read_begin queues (words_of line.0.0)) (λ (b : LogRegion). Ok (b, line.0.1)) x line.2 in
-    subst (λ (p : LogRegion × List ℕ). IsRegion queues p.0) (ok_same (begin.0, line.0.1) x begin.2) (begin_found queues (words_of line.0.0) begin.0 some few begin.1).1
+    let line = bind_ok (line_of 6 text) (λ (l : List ℕ × List ℕ). read_begin queues (tokens_of l.0) >>= (λ (b : LogRegion). Ok (b, l.1))) x r in
+    let begin = bind_ok (read_begin queues (tokens_of line.0.0)) (λ (b : LogRegion). Ok (b, line.0.1)) x line.2 in
+    subst (λ (p : LogRegion × List ℕ). IsRegion queues p.0) (ok_same (begin.0, line.0.1) x begin.2) (begin_found queues (tokens_of line.0.0) begin.0 some few begin.1).1
 
 abbrev cursor : Header → LogRegion × List ℕ → Cursor
 cursor h b = record { header = h; done = 0; before = b.0; region = b.0; rest = b.1 }
@@ -92,11 +92,11 @@ begun_found text c r =
 pub ended_found : (h : Header) (text x : List ℕ) → ended h text ≡ Ok x → IsState h.queues x
 unfolding ended
 ended_found h text x r =
-    let line = bind_ok (line_of (7 + h.horizon) text) (λ (l : List ℕ × List ℕ). read_end (7 + h.horizon) h.queues (words_of l.0) >>= (λ (final : List ℕ).
+    let line = bind_ok (line_of (7 + h.horizon) text) (λ (l : List ℕ × List ℕ). read_end (7 + h.horizon) h.queues (tokens_of l.0) >>= (λ (final : List ℕ).
     holds_or (refused (8 + h.horizon) TrailingText) (length l.1 == 0) >>= (λ (u : Unit {0}). Ok final))) x r in
-    let end = bind_ok (read_end (7 + h.horizon) h.queues (words_of line.0.0)) (λ (final : List ℕ). holds_or (refused (8 + h.horizon) TrailingText) (length line.0.1 == 0) >>= (λ (u : Unit {0}). Ok final)) x line.2 in
+    let end = bind_ok (read_end (7 + h.horizon) h.queues (tokens_of line.0.0)) (λ (final : List ℕ). holds_or (refused (8 + h.horizon) TrailingText) (length line.0.1 == 0) >>= (λ (u : Unit {0}). Ok final)) x line.2 in
     let over = bind_ok (holds_or (refused (8 + h.horizon) TrailingText) (length line.0.1 == 0)) (λ (u : Unit {0}). Ok end.0) x end.2 in
-    let found = end_found (7 + h.horizon) h.queues (words_of line.0.0) end.0 end.1 in
+    let found = end_found (7 + h.horizon) h.queues (tokens_of line.0.0) end.0 end.1 in
     subst (λ (y : List ℕ). IsState h.queues y) (ok_same end.0 x over.2) found.1
 
 pub ended_count : (h : Header) (text x : List ℕ) → ended h text ≡ Ok x → length x ≡ h.queues

@@ -6,7 +6,7 @@ use Rattle.psi_state.specs.State.{Corners}
 use Rattle.psi_log_format.specs.declared.header.Header.{Header}
 use Rattle.psi_log_format.specs.Log.{Entry}
 use Rattle.psi_log_words.specs.Refusal.{Refusal, ◌>>=◌, IsLogError}
-use Rattle.psi_log_words.specs.Words.{line_of, words_of}
+use Rattle.psi_log_words.specs.Words.{line_of, tokens_of}
 use Rattle.psi_log_words.specs.declared.refusals.LogError.{LogError}
 use Rattle.psi_log_words.specs.declared.refusals.LogError.TheVariants.{Refused, OutOfMemory}
 use Rattle.psi_log_words.proofs.WordLemmas.{bind_ok, ok_same}
@@ -17,7 +17,7 @@ use Rattle.psi_log.specs.Reading.{read_steps}
 
 -- one line with its step
 pub next_ok : (h : Header) (n : ℕ) (before : Option Corners) (text : List ℕ) (line : List ℕ × List ℕ) (e : Entry) → line_of n text ≡ Ok line
-    → read_step h n before (words_of line.0) ≡ Ok e → next_step h n before text ≡ Ok (e, line.1)
+    → read_step h n before (tokens_of line.0) ≡ Ok e → next_step h n before text ≡ Ok (e, line.1)
 unfolding next_step
 next_ok h n before text line e cut read = rw (cut, read) refl
 
@@ -27,7 +27,7 @@ next_line_refused h n before text (Refused l cause) fails = rw fails refl
 next_line_refused h n before text OutOfMemory fails = tt
 
 pub next_step_refused : (h : Header) (n : ℕ) (before : Option Corners) (text : List ℕ) (line : List ℕ × List ℕ) (error : LogError) → line_of n text ≡ Ok line
-    → IsLogError error (read_step h n before (words_of line.0)) → IsLogError error (next_step h n before text)
+    → IsLogError error (read_step h n before (tokens_of line.0)) → IsLogError error (next_step h n before text)
 unfolding next_step
 next_step_refused h n before text line (Refused l cause) cut fails = rw (cut, fails) refl
 next_step_refused h n before text line OutOfMemory cut fails = tt
@@ -47,10 +47,10 @@ pub next_turn : (h : Header) (k count n : ℕ) (before next : Option Corners) (t
     → behind (front ++ e ∷ []) (read_steps h count (n + 1) next rest) ≡ whole
 unfolding next_step read_steps
 next_turn h k count n before next text rest front e whole size read from same =
-    let line = bind_ok (line_of n text) (λ (line : List ℕ × List ℕ). read_step h n before (words_of line.0) >>= (λ (d : Entry). Ok (d, line.1))) (e, rest) read in
-    let entry = bind_ok (read_step h n before (words_of line.0.0)) (λ (d : Entry). Ok (d, line.0.1)) (e, rest) line.2 in
+    let line = bind_ok (line_of n text) (λ (line : List ℕ × List ℕ). read_step h n before (tokens_of line.0) >>= (λ (d : Entry). Ok (d, line.1))) (e, rest) read in
+    let entry = bind_ok (read_step h n before (tokens_of line.0.0)) (λ (d : Entry). Ok (d, line.0.1)) (e, rest) line.2 in
     let both : (entry.0, line.0.1) ≡ (e, rest) = ok_same _ _ entry.2 in
-    let step : read_step h n before (words_of line.0.0) ≡ Ok e = entry.1 ∙ ap (λ (p : Entry × List ℕ). Ok p.0) both in
+    let step : read_step h n before (tokens_of line.0.0) ≡ Ok e = entry.1 ∙ ap (λ (p : Entry × List ℕ). Ok p.0) both in
     let after : line.0.1 ≡ rest = ap (λ (p : Entry × List ℕ). p.1) both in
     sym (behind_more front e (read_steps h count (n + 1) next rest)) ∙ rw (size, line.1, step, after, sym from) at same
 
@@ -75,7 +75,7 @@ pub next_refused : (h : Header) (count n : ℕ) (before : Option Corners) (text 
 unfolding read_steps next_step
 next_refused h count n before text front (Refused l cause) whole fails k size same =
     let refused : read_steps h (suc count) n before text ≡ Err (record { line = l; cause = cause }) =
-    two_refused (record { line = l; cause = cause }) (line_of n text) (λ (line : List ℕ × List ℕ). read_step h n before (words_of line.0)) (λ (line : List ℕ × List ℕ) (e : Entry). (e, line.1))
+    two_refused (record { line = l; cause = cause }) (line_of n text) (λ (line : List ℕ × List ℕ). read_step h n before (tokens_of line.0)) (λ (line : List ℕ × List ℕ) (e : Entry). (e, line.1))
     (λ (line : List ℕ × List ℕ) (e : Entry). read_steps h count (n + 1) (box_before h.version e.region) line.1 >>= (λ (m : List Entry × List ℕ). Ok (e ∷ m.0, m.1))) fails in
     sym same ∙ ap (λ (j : ℕ). behind front (read_steps h j n before text)) size ∙ ap (behind front) refused
 next_refused h count n before text front OutOfMemory whole fails k size same = tt

@@ -7,7 +7,7 @@ use Rattle.psi_log_format.specs.declared.header.Header.{Header}
 use Rattle.psi_log_format.specs.Log.{LogRegion, Entry, IsHeader, IsRegion, IsEntry}
 use Rattle.psi_log_format.specs.Text.{line_text, next_words, step_text, entries_text}
 use Rattle.psi_log_words.specs.Refusal.{◌>>=◌}
-use Rattle.psi_log_words.specs.Words.{line_of, words_of}
+use Rattle.psi_log_words.specs.Words.{line_of, tokens_of}
 use Rattle.psi_log_words.proofs.WordLemmas.{bind_ok, ok_same}
 use Rattle.psi_log_words.specs.Regions.{box_before}
 use Rattle.psi_log_scan.specs.Lines.{read_step}
@@ -24,10 +24,10 @@ steps_found h zero n before text x is region r =
     (ok_same ([], text) x r) (refl, refl, λ e there. absurd there)
 steps_found h (suc count) n before text x is region r =
     let line = bind_ok (line_of n text)
-    (λ (l : List ℕ × List ℕ). read_step h n (box_before h.version before) (words_of l.0) >>= (λ (e : Entry). read_steps h count (n + 1) (box_before h.version e.region) l.1 >>= (λ (m : List Entry × List ℕ). Ok (e ∷ m.0, m.1)))) x r in
-    let entry = bind_ok (read_step h n (box_before h.version before) (words_of line.0.0)) (λ (e : Entry). read_steps h count (n + 1) (box_before h.version e.region) line.0.1 >>= (λ (m : List Entry × List ℕ). Ok (e ∷ m.0, m.1))) x line.2 in
+    (λ (l : List ℕ × List ℕ). read_step h n (box_before h.version before) (tokens_of l.0) >>= (λ (e : Entry). read_steps h count (n + 1) (box_before h.version e.region) l.1 >>= (λ (m : List Entry × List ℕ). Ok (e ∷ m.0, m.1)))) x r in
+    let entry = bind_ok (read_step h n (box_before h.version before) (tokens_of line.0.0)) (λ (e : Entry). read_steps h count (n + 1) (box_before h.version e.region) line.0.1 >>= (λ (m : List Entry × List ℕ). Ok (e ∷ m.0, m.1))) x line.2 in
     let more = bind_ok (read_steps h count (n + 1) (box_before h.version entry.0.region) line.0.1) (λ (m : List Entry × List ℕ). Ok (entry.0 ∷ m.0, m.1)) x entry.2 in
-    let head = step_found h n before (words_of line.0.0) entry.0 is region entry.1 in
+    let head = step_found h n before (tokens_of line.0.0) entry.0 is region entry.1 in
     let tail = steps_found h count (n + 1) entry.0.region line.0.1 more.0 is head.1.region more.1 in
     subst (λ (p : List Entry × List ℕ). (text ≡ entries_text h.version before p.0 ++ p.1) × (length p.0 ≡ suc count) × ((e : Entry) → In e p.0 → IsEntry h e))
     (ok_same (entry.0 ∷ more.0.0, more.0.1) x more.2) (

@@ -3,7 +3,7 @@ use Rattle.std.specs.Prelude.{◌≡◌, ◌==◌, ℕ, ◌+◌, ◌≤◌, List
 use Rattle.psi_log_format.specs.declared.header.Header.{Header}
 use Rattle.psi_log_format.specs.Log.{LogRegion, Entry, Certificate, IsHeader, IsRegion}
 use Rattle.psi_log_words.specs.Refusal.{Refusal, refused, ◌>>=◌, holds_or}
-use Rattle.psi_log_words.specs.Words.{line_of, words_of}
+use Rattle.psi_log_words.specs.Words.{line_of, tokens_of}
 use Rattle.psi_log_words.specs.declared.refusals.LogCause.TheVariants.{TrailingText, TooLong}
 use Rattle.psi_log_scan.specs.Lines.{read_header}
 use Rattle.psi_log_words.specs.Regions.{box_before}
@@ -27,7 +27,7 @@ EndsAs text rest = (front : List ℕ) × (text ≡ front ++ rest)
 unfoldable pub begin_line : ℕ → List ℕ → Result (LogRegion × List ℕ) Refusal
 begin_line queues text = do
   line ← line_of 6 text
-  begin ← read_begin queues (words_of line.0)
+  begin ← read_begin queues (tokens_of line.0)
   Ok (begin, line.1)
 
 -- a text read up to its first step
@@ -46,7 +46,7 @@ next_of c = next_step c.header (7 + c.done) (box_before c.header.version c.regio
 unfoldable pub ended : Header → List ℕ → Result (List ℕ) Refusal
 ended h text = do
   line ← line_of (7 + h.horizon) text
-  final ← read_end (7 + h.horizon) h.queues (words_of line.0)
+  final ← read_end (7 + h.horizon) h.queues (tokens_of line.0)
   over ← holds_or (refused (8 + h.horizon) TrailingText) (length line.1 == 0)
   Ok final
 

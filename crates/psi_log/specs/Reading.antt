@@ -5,7 +5,7 @@ use Rattle.psi_state.specs.State.{Corners}
 use Rattle.psi_log_format.specs.declared.header.Header.{Header}
 use Rattle.psi_log_format.specs.Log.{LogRegion, Entry, Certificate}
 use Rattle.psi_log_words.specs.Refusal.{Refusal, refused, ◌>>=◌, holds_or}
-use Rattle.psi_log_words.specs.Words.{line_of, words_of, has_pieces}
+use Rattle.psi_log_words.specs.Words.{line_of, tokens_of, has_pieces}
 use Rattle.psi_log_scan.specs.Lines.{read_header, read_step}
 use Rattle.psi_log_words.specs.declared.refusals.LogCause.TheVariants.{Shape, TrailingText, TooLong}
 use Rattle.psi_log_words.specs.Regions.{form_of, read_state, box_before, read_given}
@@ -32,7 +32,7 @@ module _ (h : Header) where
   read_steps zero n before text = Ok ([], text)
   read_steps (suc count) n before text = do
     line ← line_of n text
-    entry ← read_step h n before (words_of line.0)
+    entry ← read_step h n before (tokens_of line.0)
     more ← read_steps count (n + 1) (box_before h.version entry.region) line.1
     Ok (entry ∷ more.0, more.1)
 
@@ -40,10 +40,10 @@ module _ (h : Header) where
   unfoldable pub after_header : List ℕ → Result Certificate Refusal
   after_header text = do
     line ← line_of 6 text
-    begin ← read_begin h.queues (words_of line.0)
+    begin ← read_begin h.queues (tokens_of line.0)
     steps ← read_steps h.horizon 7 (box_before h.version begin) line.1
     last ← line_of (7 + h.horizon) steps.1
-    final ← read_end (7 + h.horizon) h.queues (words_of last.0)
+    final ← read_end (7 + h.horizon) h.queues (tokens_of last.0)
     over ← holds_or (refused (8 + h.horizon) TrailingText) (length last.1 == 0)
     Ok (record { header = h; begin = begin; entries = steps.0; final = final })
 

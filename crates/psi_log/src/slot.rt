@@ -9,7 +9,7 @@ ghost use Rattle.psi_log_scan.specs.Scanned.{next_step};
 ghost use Rattle.psi_log_format.specs.Listed.{shown, HasWidth};
 ghost use Rattle.psi_log.specs.Inner.SlotsViews.{region_in, either, HasQueues, IsFilled, IsChangedBox, GoesOn};
 
-use crate::steps::read_by_words;
+use crate::steps::read_by_tokens;
 use psi_log_format::{BorrowedRegion, Header, ListedRegion, StateList};
 use psi_log_scan::{
     LastSet, has_byte, has_name, has_word, read_changes, read_changes_onto, read_like_set,
@@ -278,7 +278,7 @@ fn words_onto<'t>(
     ensures refused { IfErr result (λ error. IsLogError error (next_step header.now line (box_before header.now.version (region_in from.now)) text.now)) }
 {
     let before = from.box_in(header.version);
-    let read = read_by_words(header, line, before, text, words, &mut to.states);
+    let read = read_by_tokens(header, line, before, text, words, &mut to.states);
     let (read, rest) = match read {
         Ok(read) => read,
         Err(error) => return Err(error),

@@ -64,7 +64,7 @@ fn read_step(
 ///
 /// The line's first refusal; `OutOfMemory`.
 #[tactic(auto, using(crate::proofs::StepLemmas::next_ok, crate::proofs::StepLemmas::next_line_refused, crate::proofs::StepLemmas::next_step_refused))]
-pub(crate) fn read_by_words<'t>(
+pub(crate) fn read_by_tokens<'t>(
     header: &Header,
     line: u32,
     before: Option<&Bounds>,

@@ -11,7 +11,7 @@ use Rattle.psi_log_format.specs.declared.header.Header.{Header}
 use Rattle.psi_log_format.specs.Log.{LogRegion, in_box, in_set, Entry, greatest_horizon, IsHeader, IsRegion, IsEntry}
 use Rattle.psi_log_format.specs.Text.{line_text, number_words, next_words, step_text}
 use Rattle.psi_log_words.specs.Refusal.{refused, ◌>>=◌, holds_or}
-use Rattle.psi_log_words.specs.Words.{line_of, words_of, number_in, read_named}
+use Rattle.psi_log_words.specs.Words.{line_of, tokens_of, number_in, read_named}
 use Rattle.psi_log_words.specs.declared.refusals.LogCause.TheVariants.{Shape}
 use Rattle.psi_log_words.proofs.WordLemmas.{bind_ok, ok_same, held, same_word, own_word, lacks, split-join, join-split, lacks-join, line_found, line_again}
 use Rattle.psi_log_words.proofs.NumberLemmas.{number_found, number_again, decimal_lacks}
@@ -22,7 +22,7 @@ use Rattle.psi_log_scan.specs.Lines.{named_line, read_step}
 use Rattle.psi_log_scan.specs.Scanned.{next_step}
 
 -- a line that was cut from a text, by its words
-pub words_found : (n : ℕ) (text : List ℕ) (line : List ℕ × List ℕ) (words : List (List ℕ)) → line_of n text ≡ Ok line → words_of line.0 ≡ words → text ≡ line_text words ++ line.1
+pub words_found : (n : ℕ) (text : List ℕ) (line : List ℕ × List ℕ) (words : List (List ℕ)) → line_of n text ≡ Ok line → tokens_of line.0 ≡ words → text ≡ line_text words ++ line.1
 unfolding line_text
 words_found n text line words h is =
     line_found n text line h
@@ -39,7 +39,7 @@ unfolding line_text line_of_words
 words_line n words rest feeds =
     ap (line_of n) (append_assoc (join_with_byte 32 words) (codes "\n") rest) ∙ line_again n (join_with_byte 32 words) rest (lacks-join 10 32 words refl feeds)
 
-pub words_again : (word : List ℕ) (words : List (List ℕ)) → list_all (lacks 32) (word ∷ words) ≡ true → words_of (line_of_words (word ∷ words)) ≡ word ∷ words
+pub words_again : (word : List ℕ) (words : List (List ℕ)) → list_all (lacks 32) (word ∷ words) ≡ true → tokens_of (line_of_words (word ∷ words)) ≡ word ∷ words
 unfolding line_of_words
 words_again word words spaces = split-join 32 word words spaces
 
@@ -66,9 +66,9 @@ pub named_line_found : (n : ℕ) (name : List ℕ) (least most : ℕ) (text : Li
     → (text ≡ line_text (number_words name x.0) ++ x.1) × (least ≤ x.0) × (x.0 ≤ most)
 unfolding named_line
 named_line_found n name least most text x small h =
-    let line = bind_ok (line_of n text) (λ (l : List ℕ × List ℕ). read_named n name least most (words_of l.0) >>= (λ (v : ℕ). Ok (v, l.1))) x h in
-    let number = bind_ok (read_named n name least most (words_of line.0.0)) (λ (v : ℕ). Ok (v, line.0.1)) x line.2 in
-    let found = named_found n name least most (words_of line.0.0) number.0 small number.1 in
+    let line = bind_ok (line_of n text) (λ (l : List ℕ × List ℕ). read_named n name least most (tokens_of l.0) >>= (λ (v : ℕ). Ok (v, l.1))) x h in
+    let number = bind_ok (read_named n name least most (tokens_of line.0.0)) (λ (v : ℕ). Ok (v, line.0.1)) x line.2 in
+    let found = named_found n name least most (tokens_of line.0.0) number.0 small number.1 in
     subst (λ (p : ℕ × List ℕ). (text ≡ line_text (number_words name p.0) ++ p.1) × (least ≤ p.0) × (p.0 ≤ most)) (ok_same (number.0, line.0.1) x number.2)
     (words_found n text line.0 (number_words name number.0) line.1 found.0, found.1, found.2)
 

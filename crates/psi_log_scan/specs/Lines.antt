@@ -5,7 +5,7 @@ use Rattle.psi_state.specs.State.{Corners}
 use Rattle.psi_log_format.specs.declared.header.Header.{Header}
 use Rattle.psi_log_format.specs.Log.{Entry, greatest_horizon}
 use Rattle.psi_log_words.specs.Refusal.{Refusal, refused, ◌>>=◌, holds_or}
-use Rattle.psi_log_words.specs.Words.{line_of, words_of, number_in, read_version, read_named}
+use Rattle.psi_log_words.specs.Words.{line_of, tokens_of, number_in, read_version, read_named}
 use Rattle.psi_log_words.specs.declared.refusals.LogCause.TheVariants.{Shape}
 use Rattle.psi_log_words.specs.Regions.{form_of, read_given}
 
@@ -13,7 +13,7 @@ use Rattle.psi_log_words.specs.Regions.{form_of, read_given}
 unfoldable pub named_line : ℕ → List ℕ → ℕ → ℕ → List ℕ → Result (ℕ × List ℕ) Refusal
 named_line n name least most text = do
   line ← line_of n text
-  number ← read_named n name least most (words_of line.0)
+  number ← read_named n name least most (tokens_of line.0)
   Ok (number, line.1)
 
 -- the five lines of the header, and what follows them

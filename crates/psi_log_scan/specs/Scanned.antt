@@ -9,7 +9,7 @@ use Rattle.psi_log_format.specs.Log.{Entry, in_set, IsState, IsSet}
 use Rattle.psi_log_format.specs.Text.{numbers_text, region_words, Change, change_text}
 use Rattle.psi_log_format.specs.Room.{Puts, spaced_words}
 use Rattle.psi_log_words.specs.Refusal.{Refusal, ◌>>=◌}
-use Rattle.psi_log_words.specs.Words.{line_of, words_of}
+use Rattle.psi_log_words.specs.Words.{line_of, tokens_of}
 use Rattle.psi_log_words.specs.Regions.{queues_ascend, is_change, changed}
 use Rattle.psi_log_scan.specs.Lines.{read_step}
 
@@ -51,5 +51,5 @@ pub record AreChanged (queues : ℕ) (from : Corners) (text : List ℕ) (at end 
 unfoldable pub next_step : Header → ℕ → Option Corners → List ℕ → Result (Entry × List ℕ) Refusal
 next_step h n before text = do
   line ← line_of n text
-  entry ← read_step h n before (words_of line.0)
+  entry ← read_step h n before (tokens_of line.0)
   Ok (entry, line.1)

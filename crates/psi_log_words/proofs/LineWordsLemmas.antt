@@ -8,7 +8,7 @@ use Rattle.std.proofs.lemmas.List.Elements.{All-from_get_or}
 use Rattle.std.proofs.lemmas.List.Splits.{slice_split_none, slice_split_first}
 use Rattle.std.proofs.lemmas.List.Sums.{prefix_len-le-length, position_or_len_is, fails_before_first, passes_at_first}
 use Rattle.psi_log_words.specs.Refusal.{refused}
-use Rattle.psi_log_words.specs.Words.{is_feed, is_space, cut_at, line_of, words_of}
+use Rattle.psi_log_words.specs.Words.{is_feed, is_space, cut_at, line_of, tokens_of}
 use Rattle.psi_log_words.specs.declared.refusals.LogCause.TheVariants.{Truncated}
 
 -- the front of a list stays when its own front is taken first
@@ -36,7 +36,7 @@ pub record AreWords (text : List ℕ) (at first : ℕ) (front : List (List ℕ))
   pub line : at ≤ position_or_len is_feed text
   pub start : first ≤ at
   pub plain : (k : ℕ) → first ≤ k → k < at → is_space (get_or text k 0) ≡ false
-  pub words : front ++ words_of (drop first (before_first is_feed text)) ≡ words_of (before_first is_feed text)
+  pub words : front ++ tokens_of (drop first (before_first is_feed text)) ≡ tokens_of (before_first is_feed text)
 
 pub words_none : (text : List ℕ) → AreWords text 0 0 []
 words_none text = record { line = omega arith; start = omega arith; plain = λ k least less. absurd (omega arith); words = refl }
@@ -94,22 +94,22 @@ words_space text at first words more word are small other space is then =
     position_or_len_is is_space (drop first (before_first is_feed text)) (at - first) 0 (omega arith)
     (λ k less. ap is_space (line_at text first k (omega arith)) ∙ are.plain (first + k) (omega arith) (omega arith))
     (λ less. ap is_space (line_at text first (at - first) (omega arith)) ∙ ap (λ (k : ℕ). is_space (get_or text k 0)) there ∙ space) in
-    let cut : words_of (drop first (before_first is_feed text))
-    ≡ before_first is_space (drop first (before_first is_feed text)) ∷ words_of (after_first is_space (drop first (before_first is_feed text))) =
+    let cut : tokens_of (drop first (before_first is_feed text))
+    ≡ before_first is_space (drop first (before_first is_feed text)) ∷ tokens_of (after_first is_space (drop first (before_first is_feed text))) =
     slice_split_first is_space (drop first (before_first is_feed text)) 0 (omega arith) in
     let front : before_first is_space (drop first (before_first is_feed text)) ≡ word =
     ap (λ (k : ℕ). take k (drop first (before_first is_feed text))) place ∙ line_front text first at start are.line ∙ sym is in
     let behind : after_first is_space (drop first (before_first is_feed text)) ≡ drop (at + 1) (before_first is_feed text) =
     drop-drop (position_or_len is_space (drop first (before_first is_feed text)) + 1) first (before_first is_feed text)
     ∙ ap (λ (k : ℕ). drop k (before_first is_feed text)) (omega arith) in
-    let both : word ∷ words_of (drop (at + 1) (before_first is_feed text)) ≡ words_of (drop first (before_first is_feed text)) =
-    sym (cut ∙ two front (ap words_of behind)) in
+    let both : word ∷ tokens_of (drop (at + 1) (before_first is_feed text)) ≡ tokens_of (drop first (before_first is_feed text)) =
+    sym (cut ∙ two front (ap tokens_of behind)) in
     record {
       line = line;
       start = omega arith;
       plain = λ k least less. absurd (omega arith);
-      words = ap (λ (ws : List (List ℕ)). ws ++ words_of (drop (at + 1) (before_first is_feed text))) then
-          ∙ append_assoc words (word ∷ []) (words_of (drop (at + 1) (before_first is_feed text))) ∙ ap (λ (ws : List (List ℕ)). words ++ ws) both ∙ are.words;
+      words = ap (λ (ws : List (List ℕ)). ws ++ tokens_of (drop (at + 1) (before_first is_feed text))) then
+          ∙ append_assoc words (word ∷ []) (tokens_of (drop (at + 1) (before_first is_feed text))) ∙ ap (λ (ws : List (List ℕ)). words ++ ws) both ∙ are.words;
     }
   where
     two : {a b : List ℕ} {xs ys : List (List ℕ)} → a ≡ b → xs ≡ ys → a ∷ xs ≡ b ∷ ys
@@ -117,7 +117,7 @@ words_space text at first words more word are small other space is then =
 
 pub words_feed : (n : ℕ) (text : List ℕ) (at first : ℕ) (words more : List (List ℕ)) (word : List ℕ) → AreWords text at first words → at < length text
     → get_or text at 0 ≡ 10 → word ≡ take (at - first) (drop first text) → more ≡ words ++ word ∷ []
-    → (line_of n text ≡ Ok (before_first is_feed text, drop (at + 1) text)) × (more ≡ words_of (before_first is_feed text))
+    → (line_of n text ≡ Ok (before_first is_feed text, drop (at + 1) text)) × (more ≡ tokens_of (before_first is_feed text))
 unfolding line_of
 words_feed n text at first words more word are small feed is then =
     let start = are.start in
@@ -125,7 +125,7 @@ words_feed n text at first words more word are small feed is then =
     let here : position_or_len is_feed text ≡ at =
     position_or_len_is is_feed text at 0 (omega arith) (λ k less. fails_before_first is_feed text k 0 (omega arith)) (λ less. eq-eqb (get_or text at 0) 10 feed) in
     let long : length (drop first (before_first is_feed text)) ≡ at - first = line_length text first ∙ ap (λ (k : ℕ). k - first) here in
-    let last : words_of (drop first (before_first is_feed text)) ≡ drop first (before_first is_feed text) ∷ [] =
+    let last : tokens_of (drop first (before_first is_feed text)) ≡ drop first (before_first is_feed text) ∷ [] =
     slice_split_none is_space (drop first (before_first is_feed text)) (All-from_get_or (λ b. is_space b ≡ false) (drop first (before_first is_feed text)) 0
     (λ k less. ap is_space (line_at text first k (omega arith)) ∙ are.plain (first + k) (omega arith) (omega arith))) in
     let same : drop first (before_first is_feed text) ≡ word =
@@ -175,7 +175,7 @@ kept_space text at first front more word kept small other space is then = record
 
 pub kept_feed : (n : ℕ) (text : List ℕ) (at first : ℕ) (front more : List (List ℕ)) (word : List ℕ) → AreKept text at first front → at < length text
     → get_or text at 0 ≡ 10 → word ≡ take (at - first) (drop first text) → more ≡ take 4101 (front ++ word ∷ [])
-    → (line_of n text ≡ Ok (before_first is_feed text, drop (at + 1) text)) × (more ≡ take 4101 (words_of (before_first is_feed text)))
+    → (line_of n text ≡ Ok (before_first is_feed text, drop (at + 1) text)) × (more ≡ take 4101 (tokens_of (before_first is_feed text)))
 kept_feed n text at first front more word kept small feed is then =
     let whole = words_feed n text at first kept.words (kept.words ++ word ∷ []) word kept.are small feed is refl in
     (whole.0, front_next front more kept.words word kept.cut then ∙ ap (take 4101) whole.1)

@@ -27,9 +27,9 @@ cut_at n text (Some at) = Ok (take at text, drop (at + 1) text)
 unfoldable pub line_of : ℕ → List ℕ → Result (List ℕ × List ℕ) Refusal
 line_of n text = cut_at n text (position is_feed text)
 
--- the words of a line: two are parted by each space
-abbrev pub words_of : List ℕ → List (List ℕ)
-words_of line = slice_split is_space line
+-- the words of a line, its tokens: two are parted by each space
+abbrev pub tokens_of : List ℕ → List (List ℕ)
+tokens_of line = slice_split is_space line
 
 -- the pieces of a word: two are parted by each comma
 abbrev pub pieces_of : List ℕ → List (List ℕ)

@@ -4,7 +4,7 @@ ghost use Rattle.std.specs.Prelude.{◌≡◌, ◌∷◌, [], ◌++◌, ◌+◌,
 ghost use Rattle.std.specs.List.{position, before_first, count_by};
 ghost use Rattle.std.specs.Str.{bytes_eq};
 ghost use Rattle.psi_log_words.specs.Refusal.{Gives, IsLogError};
-ghost use Rattle.psi_log_words.specs.Words.{is_feed, is_comma, line_of, words_of, has_pieces, read_version, read_named};
+ghost use Rattle.psi_log_words.specs.Words.{is_feed, is_comma, line_of, tokens_of, has_pieces, read_version, read_named};
 
 use crate::numbers::number_in;
 use crate::refusals::{LogCause, LogError};
@@ -63,7 +63,7 @@ pub fn read_words<'t>(
     words: &mut Vec<&'t [u8]>,
 ) -> Result<&'t [u8], LogError>
     ensures line { IfOk result (λ rest. line_of line text.now ≡ Ok (before_first is_feed text.now, rest.now)) }
-    ensures words { OnOk result (map (λ word. word.now) words.new.items ≡ take 4101 (words_of (before_first is_feed text.now))) }
+    ensures words { OnOk result (map (λ word. word.now) words.new.items ≡ take 4101 (tokens_of (before_first is_feed text.now))) }
     ensures refused { IfErr result (λ error. IsLogError error (line_of line text.now)) }
 {
     words.clear();

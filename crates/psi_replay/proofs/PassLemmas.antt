@@ -7,7 +7,7 @@ use Rattle.psi_log_format.specs.Log.{LogRegion, Entry, Certificate}
 use Rattle.std.proofs.lemmas.Bool.{lt-leb}
 use Rattle.psi_log_words.specs.Refusal.{Refusal, refused, ◌>>=◌, holds_or, IsLogError}
 use Rattle.psi_log_words.specs.declared.refusals.LogCause.TheVariants.{TooLong}
-use Rattle.psi_log_words.specs.Words.{line_of, words_of}
+use Rattle.psi_log_words.specs.Words.{line_of, tokens_of}
 use Rattle.psi_log_words.specs.declared.refusals.LogError.{LogError}
 use Rattle.psi_log_words.specs.declared.refusals.LogError.TheVariants.{Refused, OutOfMemory}
 use Rattle.psi_log_words.proofs.WordLemmas.{bind_ok, ok_same}
@@ -78,10 +78,10 @@ module _ (caps : List ℕ) (limit : ℕ) (events : ℕ → ℕ) (f : Functions) 
       → lines_left caps limit events f h count n region text before ≡ lines_left caps limit events f h k m e.region rest (and_then before (judge_step caps limit events f n count region e))
   unfolding lines_left next_step read_steps
   lines_more count k n m region text rest e before next size then =
-      let line = bind_ok (line_of n text) (λ (line : List ℕ × List ℕ). read_step h n (box_before h.version region) (words_of line.0) >>= (λ (e : Entry). Ok (e, line.1))) (e, rest) next in
-      let entry = bind_ok (read_step h n (box_before h.version region) (words_of line.0.0)) (λ (e : Entry). Ok (e, line.0.1)) (e, rest) line.2 in
+      let line = bind_ok (line_of n text) (λ (line : List ℕ × List ℕ). read_step h n (box_before h.version region) (tokens_of line.0) >>= (λ (e : Entry). Ok (e, line.1))) (e, rest) next in
+      let entry = bind_ok (read_step h n (box_before h.version region) (tokens_of line.0.0)) (λ (e : Entry). Ok (e, line.0.1)) (e, rest) line.2 in
       let both : (entry.0, line.0.1) ≡ (e, rest) = ok_same _ _ entry.2 in
-      let step : read_step h n (box_before h.version region) (words_of line.0.0) ≡ Ok e = entry.1 ∙ ap (λ (p : Entry × List ℕ). Ok p.0) both in
+      let step : read_step h n (box_before h.version region) (tokens_of line.0.0) ≡ Ok e = entry.1 ∙ ap (λ (p : Entry × List ℕ). Ok p.0) both in
       let behind : line.0.1 ≡ rest = ap (λ (p : Entry × List ℕ). p.1) both in
       rw (size, then, line.1, step, behind) (stepped n k region e (read_steps h k (n + 1) (box_before h.version e.region) rest) before)
 
@@ -99,11 +99,11 @@ module _ (caps : List ℕ) (limit : ℕ) (events : ℕ → ℕ) (f : Functions) 
       entries rest (Err refusal) is = cc
 
       lines : (line : Result (List ℕ × List ℕ) Refusal)
-          → (line >>= (λ (line : List ℕ × List ℕ). read_step h n (box_before h.version region) (words_of line.0) >>= (λ (e : Entry). entry_end line.1 e))) ≡ Err (record { line = l; cause = cause })
-          → ((line >>= (λ (line : List ℕ × List ℕ). read_step h n (box_before h.version region) (words_of line.0) >>= (λ (e : Entry). read_steps h k (n + 1) (box_before h.version e.region) line.1
+          → (line >>= (λ (line : List ℕ × List ℕ). read_step h n (box_before h.version region) (tokens_of line.0) >>= (λ (e : Entry). entry_end line.1 e))) ≡ Err (record { line = l; cause = cause })
+          → ((line >>= (λ (line : List ℕ × List ℕ). read_step h n (box_before h.version region) (tokens_of line.0) >>= (λ (e : Entry). read_steps h k (n + 1) (box_before h.version e.region) line.1
           >>= (λ (m : List Entry × List ℕ). steps_end e m))))
           >>= (λ (s : List Entry × List ℕ). lines_end (and_then before (judge_steps caps limit events f n (suc k) region s.0)) s.1)) ≡ Err (record { line = l; cause = cause })
-      lines (Ok line) is = entries line.1 (read_step h n (box_before h.version region) (words_of line.0)) is
+      lines (Ok line) is = entries line.1 (read_step h n (box_before h.version region) (tokens_of line.0)) is
       lines (Err refusal) is = cc
 
   -- after the last one the region is the last

@@ -1,4 +1,4 @@
--- Answers in the proof of `steps::read_by_words`.
+-- Answers in the proof of `steps::read_by_tokens`.
 use Rattle.std.proofs.Common.{◌∙◌, map, sym, ap, subst, arith}
 use Rattle.std.specs.Prelude.{Result, option_copied}
 use Rattle.std.proofs.lemmas.Grind.{common_steps}
@@ -7,7 +7,7 @@ use Rattle.psi_log_words.specs.Refusal.{Refusal, IsLogError}
 use Rattle.psi_log_scan.specs.Lines.{read_step}
 use Rattle.psi_log_scan.proofs.CutLemmas.{step_cut}
 use Rattle.psi_log.proofs.StepLemmas.{next_ok, next_step_refused}
-use Rattle.psi_log.proofs.steps.read_by_words.Goals as goal
+use Rattle.psi_log.proofs.steps.read_by_tokens.Goals as goal
 
 pub returns-in_err-read-clause-refused : goal.returns-in_err-read-clause-refused
 returns-in_err-read-clause-refused c =
