@@ -11,31 +11,14 @@ use Rattle.std.proofs.lemmas.Grind.{common_steps}
 use Rattle.std.proofs.lemmas.List.{take_all, take_more, take_more_set, length-set, nil_from_length, take-append-drop, take-append-le, drop-append-le, drop-drop, drop-take, take-take, length-drop}
 use Rattle.std.proofs.lemmas.List.Folds.{list_all-append}
 use Rattle.std.proofs.lemmas.Nat.{mul-le}
-use Rattle.std.proofs.Math.Nat.{suc-mul}
+use Rattle.std.proofs.Math.Nat.{add-mul, suc-mul}
 use Rattle.psi_log_format.specs.Rows.{rows, States}
 
 pub length_rows : (count queues : ℕ) (numbers : List ℕ) → length (rows count queues numbers) ≡ count
 length_rows zero queues numbers = refl
 length_rows (suc count) queues numbers = ap suc (length_rows count queues (drop queues numbers))
 
--- one state more
-pub rows_push : (count queues : ℕ) (numbers x : List ℕ) → length numbers ≡ count * queues → length x ≡ queues
-    → rows (count + 1) queues (numbers ++ x) ≡ rows count queues numbers ++ x ∷ []
-rows_push zero queues numbers x long same =
-    let none : numbers ≡ [] = nil_from_length numbers (omega arith) in
-    let whole : take queues x ≡ x = take_all queues x (omega arith) in
-    rw (none, whole) refl
-rows_push (suc count) queues numbers x long same =
-    let next : suc count + 1 ≡ suc (count + 1) = omega arith in
-    let size : suc count * queues ≡ count * queues + queues = suc-mul count queues in
-    let room : queues ≤ length numbers = omega arith in
-    let first : take queues (numbers ++ x) ≡ take queues numbers = take-append-le queues numbers x room in
-    let behind : drop queues (numbers ++ x) ≡ drop queues numbers ++ x = drop-append-le queues numbers x room in
-    let rest : rows (count + 1) queues (drop queues numbers ++ x) ≡ rows count queues (drop queues numbers) ++ x ∷ [] =
-    rows_push count queues (drop queues numbers) x (omega (arith, length-drop queues numbers)) same in
-    rw (next, first, behind, rest) refl
-
--- and so many more
+-- so many states more
 pub rows_append : (count more queues : ℕ) (numbers others : List ℕ) → length numbers ≡ count * queues → rows (count + more) queues (numbers ++ others) ≡ rows count queues numbers ++ rows more queues others
 rows_append zero more queues numbers others long =
     let none : numbers ≡ [] = nil_from_length numbers (omega arith) in
@@ -50,6 +33,12 @@ rows_append (suc count) more queues numbers others long =
     let rest : rows (count + more) queues (drop queues numbers ++ others) ≡ rows count queues (drop queues numbers) ++ rows more queues others =
     rows_append count more queues (drop queues numbers) others (omega (arith, length-drop queues numbers)) in
     rw (next, first, behind, rest) refl
+
+-- one state more
+pub rows_push : (count queues : ℕ) (numbers x : List ℕ) → length numbers ≡ count * queues → length x ≡ queues
+    → rows (count + 1) queues (numbers ++ x) ≡ rows count queues numbers ++ x ∷ []
+rows_push count queues numbers x long same =
+    rows_append count 1 queues numbers x long ∙ ap (λ (y : List ℕ). rows count queues numbers ++ y ∷ []) (take_all queues x (omega arith))
 
 pub rows_get : (count queues : ℕ) (numbers : List ℕ) (i : ℕ) → i < count → slice_get (rows count queues numbers) i ≡ Some (take queues (drop (i * queues) numbers))
 rows_get zero queues numbers i small = absurd (omega arith)
@@ -93,19 +82,10 @@ rows_part total queues first count size numbers small is =
     ap (λ (n : ℕ). rows count queues (take n (drop (first * queues) numbers))) is
     ∙ rows_front count (total - (first + count)) queues (drop (first * queues) numbers) ∙ ap (take count) (sym behind)
 
-pub sum_mul : (first count queues : ℕ) → first * queues + count * queues ≡ (first + count) * queues
-sum_mul zero count queues = (let all : zero + count ≡ count = omega arith in rw all (omega arith))
-sum_mul (suc first) count queues =
-    let next : suc first + count ≡ suc (first + count) = omega arith in
-    let one = suc-mul first queues in
-    let more = suc-mul (first + count) queues in
-    let rest = sum_mul first count queues in
-    rw next (omega arith)
-
 pub rows_until : (total queues first count : ℕ) → first + count ≤ total → first * queues + count * queues ≤ total * queues
 rows_until total queues first count small =
     let most = mul-le (first + count) queues total queues small (omega arith) in
-    let sum = sum_mul first count queues in
+    let sum = add-mul first count queues in
     omega arith
 
 -- the first number in which two states differ tells which one is below

@@ -11,7 +11,6 @@
 mod digits;
 mod header;
 mod line_buf;
-mod lines;
 mod listed_region;
 mod pieces;
 mod put;

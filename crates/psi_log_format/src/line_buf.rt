@@ -7,7 +7,9 @@ ghost use Rattle.psi_log_format.specs.Text.{region_words, move_words, header_tex
 use crate::OutOfMemory;
 use crate::digits::{Digits, small_numbers};
 use crate::header::Header;
-use crate::lines::{put_begin, put_end, put_header, put_step_box, put_step_move, put_step_set};
+use crate::pieces::{put_named, put_state, put_step};
+use crate::put::put;
+use crate::regions::{put_box, put_move, put_set};
 use psi_state::{Bounds, State, Step};
 use std::alloc::Global;
 use std::marker::Model;
@@ -78,11 +80,17 @@ impl LineBuf {
     }
 
     /// Holds the five lines of a header.
+    #[tactic(auto, unfolding(crate::specs::Text::header_text))]
     pub fn header(&mut self, h: &Header)
         ensures { self.new ≡ header_text h.now }
     {
         lengthen(&mut self.bytes, 200);
-        self.len = put_header(&mut self.bytes, 0, h);
+        let out = self.bytes.as_mut_slice();
+        let version = put_named(out, 0, b"psi-log", h.version as u64);
+        let queues = put_named(out, version, b"queues", h.queues as u64);
+        let seed = put_named(out, queues, b"seed", h.seed);
+        let stream = put_named(out, seed, b"stream", h.stream);
+        self.len = put_named(out, stream, b"horizon", h.horizon as u64);
     }
 
     /// Holds the line of the box at which a run begins.
@@ -90,7 +98,10 @@ impl LineBuf {
         ensures { self.new ≡ begin_text (in_box b.now) }
     {
         lengthen(&mut self.bytes, 400);
-        self.len = put_begin(&mut self.bytes, 0, &self.table, b);
+        let out = self.bytes.as_mut_slice();
+        let named = put(out, 0, b"begin");
+        let told = put_box(out, named, &self.table, b);
+        self.len = put(out, told, b"\n");
     }
 
     /// Holds the line of a step with the box after it, written whole.
@@ -127,7 +138,10 @@ impl LineBuf {
         ensures { self.new ≡ self.old ++ step_text s.now (region_words (in_box b.now)) }
     {
         lengthen(&mut self.bytes, self.len + 450);
-        self.len = put_step_box(&mut self.bytes, self.len, &self.table, s, b);
+        let out = self.bytes.as_mut_slice();
+        let numbered = put_step(out, self.len, &self.table, s);
+        let told = put_box(out, numbered, &self.table, b);
+        self.len = put(out, told, b"\n");
     }
 
     /// Appends the line of a step with the set of states after it, in ascending order. What the buffer holds
@@ -137,7 +151,10 @@ impl LineBuf {
         ensures { self.new ≡ self.old ++ step_text s.now (region_words (in_set states.now)) }
     {
         lengthen(&mut self.bytes, self.len + 51 + 193 * states.len());
-        self.len = put_step_set(&mut self.bytes, self.len, &self.table, s, states);
+        let out = self.bytes.as_mut_slice();
+        let numbered = put_step(out, self.len, &self.table, s);
+        let told = put_set(out, numbered, &self.table, states);
+        self.len = put(out, told, b"\n");
     }
 
     /// Appends the line of a step with the box `to` after it, written by what changed from the box `from` before
@@ -148,7 +165,10 @@ impl LineBuf {
         ensures { self.new ≡ self.old ++ step_text s.now (move_words from.now to.now) }
     {
         lengthen(&mut self.bytes, self.len + 1200);
-        self.len = put_step_move(&mut self.bytes, self.len, &self.table, s, from, to);
+        let out = self.bytes.as_mut_slice();
+        let numbered = put_step(out, self.len, &self.table, s);
+        let told = put_move(out, numbered, &self.table, from, to);
+        self.len = put(out, told, b"\n");
     }
 
     /// Holds the line of the state at time zero.
@@ -156,7 +176,10 @@ impl LineBuf {
         ensures { self.new ≡ end_text x.now }
     {
         lengthen(&mut self.bytes, 200);
-        self.len = put_end(&mut self.bytes, 0, &self.table, x);
+        let out = self.bytes.as_mut_slice();
+        let named = put(out, 0, b"end");
+        let told = put_state(out, named, &self.table, x);
+        self.len = put(out, told, b"\n");
     }
 
     /// Returns the bytes that it holds.

@@ -1,7 +1,8 @@
 -- Answers in the proof of `StateList::push_rows`.
 use Rattle.std.proofs.Common.{◌∙◌, ap, ◌+◌, ◌*◌, ◌++◌, length, length-append, arith}
+use Rattle.std.proofs.Math.Nat.{add-mul}
 use Rattle.psi_log_format.specs.Rows.{rows, States}
-use Rattle.psi_log_format.proofs.RowsLemmas.{rows_append, sum_mul}
+use Rattle.psi_log_format.proofs.RowsLemmas.{rows_append}
 use Rattle.psi_log_format.proofs.state_list.StateList.push_rows.Goals as goal
 
 pub invariant_of-self-2 : goal.invariant_of-self-2
@@ -9,7 +10,7 @@ invariant_of-self-2 c =
     let inside = c.self.inside in
     let queues = ap (λ (s : States). c.args.count * s.queues) c.self.view_is in
     let all = ap length c.in_ok-push_all.ensures.pushed ∙ length-append inside.numbers.items c.args.numbers.now in
-    let sum = sum_mul inside.count c.args.count inside.queues in
+    let sum = add-mul inside.count c.args.count inside.queues in
     let long = c.self.invariant.2 in
     let more = c.requires in (
       c.self.invariant.0,
