@@ -9,7 +9,7 @@ use Rattle.psi_log_format.specs.Log.{in_set, IsState, IsSet}
 use Rattle.psi_log_format.specs.Text.{numbers_text, region_words}
 use Rattle.psi_log_format.specs.Room.{spaced_words}
 use Rattle.psi_log_format.proofs.JoinedLemmas.{then}
-use Rattle.psi_log_words.proofs.LineWordsLemmas.{rest_of}
+use Rattle.std.proofs.lemmas.List.{take_rest}
 use Rattle.psi_log_words.proofs.StateLemmas.{rising_found}
 use Rattle.psi_log_scan.specs.Scanned.{Stands, TellsSet, with_comma, with_commas}
 use Rattle.psi_log_scan.proofs.ScanLemmas.{commas_none, text_last, is_state}
@@ -32,7 +32,7 @@ like_begin text word row at some is = record {
 -- bytes of a text that are those of another one
 alike_part : (text word : List ℕ) (end place same : ℕ) → take same (take (length text - end) (drop end text)) ≡ take same (take (length word - place) (drop place word))
     → take same (drop end text) ≡ take same (drop place word)
-alike_part text word end place same is = ap (take same) (sym (rest_of text end)) ∙ is ∙ ap (take same) (rest_of word place)
+alike_part text word end place same is = ap (take same) (sym (take_rest text end)) ∙ is ∙ ap (take same) (take_rest word place)
 
 -- a part of a text stands in it
 part_stands : (text part : List ℕ) (end n : ℕ) → n ≡ length part → take n (drop end text) ≡ part → Stands text end (end + n) part

@@ -179,7 +179,3 @@ pub kept_feed : (n : ℕ) (text : List ℕ) (at first : ℕ) (front more : List 
 kept_feed n text at first front more word kept small feed is then =
     let whole = words_feed n text at first kept.words (kept.words ++ word ∷ []) word kept.are small feed is refl in
     (whole.0, front_next front more kept.words word kept.cut then ∙ ap (take 4101) whole.1)
-
--- what follows a place
-pub rest_of : (text : List ℕ) (at : ℕ) → take (length text - at) (drop at text) ≡ drop at text
-rest_of text at = take_all (length text - at) (drop at text) (omega (arith, length-drop at text))

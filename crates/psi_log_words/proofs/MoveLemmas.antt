@@ -1,12 +1,14 @@
 -- Boxes by what changed: the changes from one box to another, made in the one, give the other.
-use Rattle.std.specs.Prelude.{◌≡◌, ℕ, zero, suc, ◌+◌, ◌<◌, ◌≤◌, List, [], ◌∷◌, length, map, filter, slice_index, slice_set, true, false, not, ◌&&◌, ◌==◌, nat_lt, nat_le, refl}
+use Rattle.std.specs.Prelude.{◌≡◌, ℕ, zero, suc, ◌+◌, ◌<◌, ◌≤◌, List, [], ◌∷◌, length, map, filter, slice_index, slice_set, Bool, true, false, not, ◌&&◌, ◌==◌, nat_lt, nat_le, refl}
 use Rattle.std.specs.List.{list_all}
 use Rattle.std.proofs.Common.{get_or, set, ap, sym, ◌∙◌, subst, arith, inl, inr}
 use Rattle.std.proofs.lemmas.Bool.{and_parts, and_from, le-leb, lt-ltb, ltb-true, eq-eqb, eqb-true, not-false, cases_Bool, cases_eq}
 use Rattle.std.proofs.lemmas.List.{length-set, get_or-set_same, get_or-set_other, ext_get_or}
 use Rattle.psi_state.specs.State.{Corners, numbers_from}
 use Rattle.psi_state.specs.Members.{In}
+use Rattle.psi_state.proofs.MembersLemmas.{In-of_map, In-of_numbers_from}
 use Rattle.psi_log_format.specs.Text.{Change, differs, change_to, changes}
+use Rattle.psi_log_words.proofs.NumberLemmas.{all_from}
 use Rattle.psi_log_words.specs.Regions.{queues_ascend, is_change, changed}
 
 -- each queue is at least this one, where the queues ascend
@@ -71,17 +73,8 @@ false_same from to q h =
     (not-false (slice_index from.lo q == slice_index to.lo q && slice_index from.hi q == slice_index to.hi q) h) in
     record { lo = eqb-true _ _ parts.0; hi = eqb-true _ _ parts.1 }
 
-listed_yes : (from to : Corners) (s n : ℕ) → differs from to s ≡ true → listed from to s (suc n) ≡ change_to to s ∷ listed from to (suc s) n
-listed_yes from to s n h = rw h refl
-
-listed_other : (from to : Corners) (s n : ℕ) → differs from to s ≡ false → listed from to s (suc n) ≡ listed from to (suc s) n
-listed_other from to s n h = rw h refl
-
 change_same : (c d : Change) → c.queue ≡ d.queue → c.least ≡ d.least → c.greatest ≡ d.greatest → c ≡ d
 change_same c d e f g = λ i. record { queue = e i; least = f i; greatest = g i }
-
-list_of : {A : Type 0} {a b : A} {xs ys : List A} → a ≡ b → xs ≡ ys → a ∷ xs ≡ b ∷ ys
-list_of e f = cc
 
 -- a queue that changed first is as its change has it
 first_changed : (b : Corners) (c : Change) (cs : List Change) (s : ℕ) → queues_ascend (c ∷ cs) ≡ true → s ≡ c.queue → s < length b.lo → s < length b.hi
@@ -108,8 +101,7 @@ scan : (from : Corners) (n : ℕ) (b : Corners) (cs : List Change) (s : ℕ) →
 scan from zero b [] s agree above ascend are small lo hi = refl
 scan from zero b (c ∷ cs) s agree above ascend are small lo hi = (let less : c.queue < s + zero = small c (inl refl) in absurd (omega arith))
 scan from (suc n) b [] s agree above ascend are small lo hi =
-    listed_other from b s n (same_false from b s (agree_back b from s (agree s (omega arith))))
-    ∙ scan from n b [] (suc s) (λ q more. agree q (omega arith)) tt refl refl (λ c there. absurd there) (omega arith) (omega arith)
+    rw (same_false from b s (agree_back b from s (agree s (omega arith)))) (scan from n b [] (suc s) (λ q more. agree q (omega arith)) tt refl refl (λ c there. absurd there) (omega arith) (omega arith))
 scan from (suc n) b (c ∷ cs) s agree above ascend are small lo hi = elim (cases_eq s c.queue) [
   | inl here ↦ (let value = first_changed b c cs s ascend here (omega arith) (omega arith) in
       let parts = and_parts (is_change from c) (list_all (is_change from) cs) are in
@@ -120,13 +112,12 @@ scan from (suc n) b (c ∷ cs) s agree above ascend are small lo hi = elim (case
       (at_least_below (suc c.queue) (suc s) cs (omega arith) rest.0) rest.1 parts.1
       (λ d there. (let less : d.queue < s + suc n = small d (inr there) in omega arith))
       (omega (arith, length-set b.lo c.queue c.least)) (omega (arith, length-set b.hi c.queue c.greatest)) in
-      listed_yes from (changed b (c ∷ cs)) s n differ ∙ list_of (change_same (change_to (changed b (c ∷ cs)) s) c here value.0 value.1) more)
+      rw differ (cc (change_same (change_to (changed b (c ∷ cs)) s) c here value.0 value.1, more)))
   | inr other ↦ (let less : s < c.queue = omega arith in
       let stays : Agree (changed b (c ∷ cs)) b s = changed_below b (c ∷ cs) s c.queue less (omega arith) ascend in
-      listed_other from (changed b (c ∷ cs)) s n
-      (same_false from (changed b (c ∷ cs)) s (agree_back (changed b (c ∷ cs)) from s (agree_then (changed b (c ∷ cs)) b from s stays (agree s (omega arith)))))
-      ∙ scan from n b (c ∷ cs) (suc s) (λ q more. agree q (omega arith)) (omega arith) ascend are (λ d there. (let below : d.queue < s + suc n = small d there in omega arith))
-      (omega arith) (omega arith))
+      rw (same_false from (changed b (c ∷ cs)) s (agree_back (changed b (c ∷ cs)) from s (agree_then (changed b (c ∷ cs)) b from s stays (agree s (omega arith)))))
+      (scan from n b (c ∷ cs) (suc s) (λ q more. agree q (omega arith)) (omega arith) ascend are (λ d there. (let below : d.queue < s + suc n = small d there in omega arith))
+      (omega arith) (omega arith)))
 ]
 
 at_least_none : (cs : List Change) → AtLeast 0 cs
@@ -150,8 +141,7 @@ reach from to zero b s low high lo hi to_lo to_hi =
     corners_same a b e f = λ i. record { lo = e i; hi = f i }
 reach from to (suc n) b s low high lo hi to_lo to_hi = elim (cases_Bool (differs from to s)) [
   | inl differ ↦ (let c = change_to to s in
-      ap (changed b) (listed_yes from to s n differ)
-      ∙ reach from to n (with_change b (change_to to s)) (suc s)
+      rw differ (reach from to n (with_change b (change_to to s)) (suc s)
       (λ q less. elim (cases_eq q s) [
         | inl here ↦ record {
           lo = ap (λ (k : ℕ). get_or (set b.lo s (slice_index to.lo s)) k 0) here ∙ get_or-set_same b.lo s (slice_index to.lo s) 0 (omega arith) ∙ ap (slice_index to.lo) (sym here);
@@ -160,15 +150,14 @@ reach from to (suc n) b s low high lo hi to_lo to_hi = elim (cases_Bool (differs
         | inr other ↦ agree_then (with_change b (change_to to s)) b to q (agree_other b (change_to to s) q other) (low q (omega arith))
       ])
       (λ q more. agree_then (with_change b (change_to to s)) b from q (agree_other b (change_to to s) q (λ is. omega arith)) (high q (omega arith)))
-      (omega (arith, length-set b.lo s (slice_index to.lo s))) (omega (arith, length-set b.hi s (slice_index to.hi s))) (omega arith) (omega arith))
+      (omega (arith, length-set b.lo s (slice_index to.lo s))) (omega (arith, length-set b.hi s (slice_index to.hi s))) (omega arith) (omega arith)))
   | inr same ↦ (let here : Agree from to s = false_same from to s same in
-      ap (changed b) (listed_other from to s n same)
-      ∙ reach from to n b (suc s)
+      rw same (reach from to n b (suc s)
       (λ q less. elim (cases_eq q s) [
         | inl is ↦ subst (λ (k : ℕ). Agree b to k) (sym is) (agree_then b from to s (high s (omega arith)) here)
         | inr other ↦ low q (omega arith)
       ])
-      (λ q more. high q (omega arith)) (omega arith) (omega arith) (omega arith) (omega arith))
+      (λ q more. high q (omega arith)) (omega arith) (omega arith) (omega arith) (omega arith)))
 ]
 
 pub changes_again : (from to : Corners) → length from.lo ≡ length from.hi → length to.lo ≡ length from.lo → length to.hi ≡ length from.lo
@@ -177,63 +166,56 @@ unfolding changes
 changes_again from to same lo hi =
     reach from to (length from.lo) from 0 (λ q less. absurd (omega arith)) (λ q more. record { lo = refl; hi = refl }) (omega arith) (omega arith) (omega arith) (omega arith)
 
--- what changed is in order
-listed_above : (from to : Corners) (n s : ℕ) → AtLeast s (listed from to s n)
-listed_above from to zero s = tt
-listed_above from to (suc n) s = elim (cases_Bool (differs from to s)) [
-  | inl differ ↦ subst (λ (cs : List Change). AtLeast s cs) (sym (listed_yes from to s n differ)) (omega arith)
-  | inr same ↦ subst (λ (cs : List Change). AtLeast s cs) (sym (listed_other from to s n same))
-      (at_least_below (suc s) s (listed from to (suc s) n) (omega arith) (listed_above from to n (suc s)))
+-- what changed comes from a queue that differs
+in_filter : {A : Type 0} (p : A → Bool) (x : A) (xs : List A) → In x (filter p xs) → In x xs × (p x ≡ true)
+in_filter p x [] there = absurd there
+in_filter p x (y ∷ ys) there = elim (cases_Bool (p y)) [
+  | inl passes ↦ elim (rw passes at there) [ inl e ↦ (inl e, ap p e ∙ passes) | inr t ↦ (let rest = in_filter p x ys t in (inr rest.0, rest.1)) ]
+  | inr fails ↦ (let rest = in_filter p x ys (rw fails at there) in (inr rest.0, rest.1))
 ]
+
+listed_in : (from to : Corners) (s n : ℕ) (c : Change) → In c (listed from to s n) → (q : ℕ) × (s ≤ q) × (q < s + n) × (differs from to q ≡ true) × (c ≡ change_to to q)
+listed_in from to s n c there =
+    let made = In-of_map (change_to to) c (filter (differs from to) (numbers_from s n)) there in
+    let kept = in_filter (differs from to) made.0 (numbers_from s n) made.1 in
+    let range = In-of_numbers_from made.0 s n kept.0 in
+    (made.0, range.0, range.1, kept.1, made.2)
+
+pub changes_in : (from to : Corners) (c : Change) → In c (changes from to) → (q : ℕ) × (q < length from.lo) × (c ≡ change_to to q)
+unfolding changes
+changes_in from to c there = (let found = listed_in from to 0 (length from.lo) c there in (found.0, omega arith, found.4))
+
+-- it is in order
+listed_above : (from to : Corners) (s n : ℕ) (cs : List Change) → listed from to s n ≡ cs → AtLeast s cs
+listed_above from to s n [] is = tt
+listed_above from to s n (c ∷ cs) is =
+    let found = listed_in from to s n c (subst (λ (ds : List Change). In c ds) (sym is) (inl refl)) in
+    let queue : c.queue ≡ found.0 = ap (λ (d : Change). d.queue) found.4 in
+    omega arith
 
 listed_ascend : (from to : Corners) (n s : ℕ) → queues_ascend (listed from to s n) ≡ true
 listed_ascend from to zero s = refl
 listed_ascend from to (suc n) s = elim (cases_Bool (differs from to s)) [
-  | inl differ ↦ ap queues_ascend (listed_yes from to s n differ)
-      ∙ ascend_more (change_to to s) (listed from to (suc s) n) (listed_above from to n (suc s)) (listed_ascend from to n (suc s))
-  | inr same ↦ ap queues_ascend (listed_other from to s n same) ∙ listed_ascend from to n (suc s)
+  | inl differ ↦ rw differ (ascend_more (change_to to s) (listed from to (suc s) n) (listed_above from to (suc s) n _ refl) (listed_ascend from to n (suc s)))
+  | inr same ↦ rw same (listed_ascend from to n (suc s))
 ]
 
 pub changes_ascend : (from to : Corners) → queues_ascend (changes from to) ≡ true
 unfolding changes
 changes_ascend from to = listed_ascend from to (length from.lo) 0
 
--- each of what changed is a change
-listed_are : (from to : Corners) (n s : ℕ) → ((q : ℕ) → q < s + n → slice_index to.lo q ≤ slice_index to.hi q) → list_all (is_change from) (listed from to s n) ≡ true
-listed_are from to zero s below = refl
-listed_are from to (suc n) s below = elim (cases_Bool (differs from to s)) [
-  | inl differ ↦ ap (list_all (is_change from)) (listed_yes from to s n differ)
-      ∙ and_from (is_change from (change_to to s)) (list_all (is_change from) (listed from to (suc s) n))
-      (and_from (nat_le (slice_index to.lo s) (slice_index to.hi s)) (differs from to s) (le-leb _ _ (below s (omega arith))) differ)
-      (listed_are from to n (suc s) (λ q less. below q (omega arith)))
-  | inr same ↦ ap (list_all (is_change from)) (listed_other from to s n same) ∙ listed_are from to n (suc s) (λ q less. below q (omega arith))
-]
-
+-- each of it is a change
 pub changes_are : (from to : Corners) → ((q : ℕ) → q < length from.lo → slice_index to.lo q ≤ slice_index to.hi q) → list_all (is_change from) (changes from to) ≡ true
 unfolding changes
-changes_are from to below = listed_are from to (length from.lo) 0 (λ q less. below q (omega arith))
+changes_are from to below = all_from (is_change from) (listed from to 0 (length from.lo)) (λ c there.
+    (let found = listed_in from to 0 (length from.lo) c there in
+    subst (λ (d : Change). is_change from d ≡ true) (sym found.4)
+    (and_from (nat_le (slice_index to.lo found.0) (slice_index to.hi found.0)) (differs from to found.0) (le-leb _ _ (below found.0 (omega arith))) found.3)))
 
--- and of a queue
-listed_in : (from to : Corners) (n s : ℕ) (c : Change) → In c (listed from to s n) → (q : ℕ) × (q < s + n) × (c ≡ change_to to q)
-listed_in from to zero s c there = absurd there
-listed_in from to (suc n) s c there = elim (cases_Bool (differs from to s)) [
-  | inl differ ↦ elim (subst (λ (cs : List Change). In c cs) (listed_yes from to s n differ) there) [
-    | inl is ↦ (s, omega arith, is)
-    | inr rest ↦ (let found = listed_in from to n (suc s) c rest in (found.0, omega arith, found.2))
-  ]
-  | inr same ↦ (let found = listed_in from to n (suc s) c (subst (λ (cs : List Change). In c cs) (listed_other from to s n same) there) in (found.0, omega arith, found.2))
-]
-
-pub changes_in : (from to : Corners) (c : Change) → In c (changes from to) → (q : ℕ) × (q < length from.lo) × (c ≡ change_to to q)
-unfolding changes
-changes_in from to c there = (let found = listed_in from to (length from.lo) 0 c there in (found.0, omega arith, found.2))
-
+-- and it is no more than the queues
 listed_count : (from to : Corners) (n s : ℕ) → length (listed from to s n) ≤ n
 listed_count from to zero s = omega arith
-listed_count from to (suc n) s = elim (cases_Bool (differs from to s)) [
-  | inl differ ↦ (let is = ap length (listed_yes from to s n differ) in let rest = listed_count from to n (suc s) in omega arith)
-  | inr same ↦ (let is = ap length (listed_other from to s n same) in let rest = listed_count from to n (suc s) in omega arith)
-]
+listed_count from to (suc n) s = (let rest = listed_count from to n (suc s) in elim (cases_Bool (differs from to s)) [ inl differ ↦ rw differ (omega arith) | inr same ↦ rw same (omega arith) ])
 
 pub changes_count : (from to : Corners) → length (changes from to) ≤ length from.lo
 unfolding changes

@@ -2,7 +2,7 @@
 use Rattle.std.specs.Prelude.{◌≡◌, ◌⊎◌, ℕ, ◌+◌, ◌<◌, ◌≤◌, List, [], ◌∷◌, ◌++◌, length, map, drop, slice_set, Bool, true, false, ◌&&◌, nat_le, nat_lt, Result, Ok, Err, refl}
 use Rattle.std.specs.List.{list_all}
 use Rattle.std.proofs.Common.{get_or, ap, sym, ◌∙◌, arith, inl, inr}
-use Rattle.std.proofs.Math.Bool.{and_assoc}
+use Rattle.std.proofs.Math.Bool.{and_assoc, and-true}
 use Rattle.std.proofs.lemmas.Bool.{and_parts, and_from, le-leb, lt-leb, ltb-true, ltb-false}
 use Rattle.std.proofs.lemmas.List.Folds.{list_all-append}
 use Rattle.psi_state.specs.State.{Corners}
@@ -43,13 +43,9 @@ below_next a b = go (nat_lt a b) refl
     go true is = sym (le-leb (a + 1) b (let less = ltb-true a b is in omega arith))
     go false is = sym (lt-leb (a + 1) b (let more = ltb-false a b is in omega arith))
 
-and_true : (a : Bool) → (a && true) ≡ a
-and_true true = refl
-and_true false = refl
-
 ascend_push : (cs : List Change) (c : Change) → queues_ascend (cs ++ c ∷ []) ≡ (queues_ascend cs && nat_le (behind_last cs) c.queue)
 ascend_push [] c = sym (le-leb 0 c.queue (omega arith))
-ascend_push (d ∷ []) c = and_true (nat_lt d.queue c.queue) ∙ below_next d.queue c.queue
+ascend_push (d ∷ []) c = and-true (nat_lt d.queue c.queue) ∙ below_next d.queue c.queue
 ascend_push (d ∷ e ∷ ds) c =
     ap (λ (t : Bool). nat_lt d.queue e.queue && t) (ascend_push (e ∷ ds) c) ∙ sym (and_assoc (nat_lt d.queue e.queue) (queues_ascend (e ∷ ds)) (nat_le (behind_last (e ∷ ds)) c.queue))
 
@@ -60,7 +56,7 @@ changed_push from (d ∷ ds) c = changed_push (record { lo = slice_set from.lo d
 
 test_push : (from : Corners) (cs : List Change) (c : Change)
     → (queues_ascend (cs ++ c ∷ []) && list_all (is_change from) (cs ++ c ∷ [])) ≡ ((queues_ascend cs && nat_le (behind_last cs) c.queue) && (list_all (is_change from) cs && is_change from c))
-test_push from cs c = both (ascend_push cs c) (list_all-append (is_change from) cs (c ∷ []) ∙ ap (λ (t : Bool). list_all (is_change from) cs && t) (and_true (is_change from c)))
+test_push from cs c = both (ascend_push cs c) (list_all-append (is_change from) cs (c ∷ []) ∙ ap (λ (t : Bool). list_all (is_change from) cs && t) (and-true (is_change from c)))
   where
     both : {a b c d : Bool} → a ≡ b → c ≡ d → (a && c) ≡ (b && d)
     both e f = cc

@@ -4,6 +4,7 @@ use Rattle.std.specs.List.{list_all, prefix_len, take_while}
 use Rattle.std.specs.Char.{digit_value}
 use Rattle.std.specs.Str.Parse.{digits_value}
 use Rattle.std.proofs.Common.{get_or, ap, sym, ◌∙◌, subst, arith, below_more}
+use Rattle.std.proofs.Math.Bool.{and-false}
 use Rattle.std.proofs.lemmas.Bool.{and_parts, and_from, le-leb, leb-true, leb-false, lt-leb, ltb-false, false_from_ne_true}
 use Rattle.std.proofs.lemmas.List.{take-take, length-take-le, get_or-take}
 use Rattle.std.proofs.lemmas.List.Folds.{list_all_at}
@@ -90,19 +91,11 @@ not_number n least most word other = rw other refl
 
 pub too_large : (n least most : ℕ) (word : List ℕ) → most < digits_value 10 word → number_in n least most word ≡ Err (refused n Number)
 unfolding number_in
-too_large n least most word large = rw (lt-leb (digits_value 10 word) most large) (go (is_numeral word && nat_le least (digits_value 10 word)))
-  where
-    go : (a : Bool) → cond (a && false) (Ok (digits_value 10 word)) (Err (refused n Number)) ≡ Err (refused n Number)
-    go true = refl
-    go false = refl
+too_large n least most word large = rw (lt-leb (digits_value 10 word) most large, and-false (is_numeral word && nat_le least (digits_value 10 word))) refl
 
 pub too_small : (n least most : ℕ) (word : List ℕ) → digits_value 10 word < least → number_in n least most word ≡ Err (refused n Number)
 unfolding number_in
-too_small n least most word small = rw (lt-leb least (digits_value 10 word) small) (go (is_numeral word) (nat_le (digits_value 10 word) most))
-  where
-    go : (a b : Bool) → cond (a && false && b) (Ok (digits_value 10 word)) (Err (refused n Number)) ≡ Err (refused n Number)
-    go true b = refl
-    go false b = refl
+too_small n least most word small = rw (lt-leb least (digits_value 10 word) small, and-false (is_numeral word)) refl
 
 pub not_small : (n least most : ℕ) (word : List ℕ) → most < 2 ^ 64 → is_small word ≡ false → number_in n least most word ≡ Err (refused n Number)
 not_small n least most word fits other = go (is_numeral word) (nat_lt (digits_value 10 word) (2 ^ 64)) refl refl other

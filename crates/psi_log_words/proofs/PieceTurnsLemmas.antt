@@ -2,6 +2,7 @@
 use Rattle.std.specs.Prelude.{◌≡◌, ℕ, ◌+◌, ◌-◌, ◌<◌, ◌≤◌, List, [], ◌∷◌, length, take, drop, true, Result, Ok, refl}
 use Rattle.std.specs.List.{before_first, after_first}
 use Rattle.std.proofs.Common.{set, ap, sym, ◌∙◌, subst, arith}
+use Rattle.std.proofs.lemmas.Bool.{eqb-true}
 use Rattle.std.proofs.lemmas.List.{drop-drop, drop_all, take_all, take_more_set, append-nil, length-drop}
 use Rattle.psi_log_format.specs.Text.{Change}
 use Rattle.psi_log_words.specs.Refusal.{Refusal, ◌>>=◌, each, IsLogError}
@@ -10,7 +11,7 @@ use Rattle.psi_log_words.specs.declared.refusals.LogError.{LogError}
 use Rattle.psi_log_words.specs.declared.refusals.LogError.TheVariants.{Refused, OutOfMemory}
 use Rattle.psi_log_words.proofs.PieceLemmas.{first_and_rest, rest_pieces}
 use Rattle.psi_log_words.specs.Regions.{read_change}
-use Rattle.psi_log_words.proofs.TurnLemmas.{onto, onto_more, pieces_long}
+use Rattle.psi_log_words.proofs.TurnLemmas.{onto, onto_more}
 
 -- a reading that is refused refuses what goes on from it
 pub bind_refused : {A B : Type 0} (error : LogError) (r : Result A Refusal) (f : A → Result B Refusal) → IsLogError error r → IsLogError error (r >>= f)
@@ -65,7 +66,7 @@ pub three_read : (line queues : ℕ) (word rest last : List ℕ) → has_pieces 
     number_in line 0 65535 (before_first is_comma last) >>= (λ g. Ok (record { queue = q; least = l; greatest = g })))))
 unfolding read_change
 three_read line queues word rest last shaped first second =
-    let count : length (pieces_of word) ≡ 3 = pieces_long 3 word shaped in
+    let count : length (pieces_of word) ≡ 3 = eqb-true (length (pieces_of word)) 3 shaped in
     let one : IsRest word rest 1 = rest_turn word word rest 0 (record { pieces = λ small. refl }) first in
     let two : IsRest word last 2 = rest_turn word rest last 1 one second in
     let start : pieces_of word ≡ before_first is_comma word ∷ drop 1 (pieces_of word) = first_and_rest word in

@@ -7,7 +7,7 @@ use Rattle.std.specs.Ordering.{is_lt}
 use Rattle.std.specs.declared.cmp.Ordering.{Ordering}
 use Rattle.std.specs.declared.cmp.Ordering.TheVariants.{Less, Equal, Greater}
 use Rattle.std.proofs.Common.{ap, sym, ◌∙◌, subst, arith, inl, inr}
-use Rattle.std.proofs.lemmas.Bool.{and_parts, and_from, le-leb, leb-true, eq-eqb, false_from_ne_true}
+use Rattle.std.proofs.lemmas.Bool.{and_parts, and_from, le-leb, leb-true, eq-eqb, eqb-true, ne_eqb, false_from_ne_true}
 use Rattle.std.proofs.lemmas.List.{length-map}
 use Rattle.psi_state.specs.State.{IsBelow}
 use Rattle.psi_state.specs.Members.{In}
@@ -53,10 +53,7 @@ numbers_from_pieces word x is = sym (join-split 44 word) ∙ ap (join_with_byte 
 pub numbers_text_lacks : (c : ℕ) (x : List ℕ) → c < 44 → ((v : ℕ) → In v x → v < 2 ^ 64) → lacks c (numbers_text x) ≡ true
 unfolding numbers_text
 numbers_text_lacks c x small all =
-    lacks-join c 44 (map decimal x) (other 44 c (omega arith)) (numbers_lack c x (omega arith) all)
-  where
-    other : (a b : ℕ) → b < a → (a == b) ≡ false
-    other a b less = grind arith
+    lacks-join c 44 (map decimal x) (ne_eqb 44 c (λ e. omega arith)) (numbers_lack c x (omega arith) all)
 
 wide : (queues : ℕ) (x : List ℕ) → IsState queues x → (v : ℕ) → In v x → v < 2 ^ 64
 wide queues x is v there = (let small : v < 2 ^ 16 = below_members (2 ^ 16) x is.each v there in omega arith)
@@ -68,11 +65,8 @@ state_found n queues word x shaped h =
     let read = each_found (number_in n 0 65535) decimal (λ v. v < 2 ^ 16) (pieces_of word) x
     (λ a b there r. (let f = number_found n 0 65535 a b (omega arith) r in (f.0, omega arith))) h in
     let count : length (pieces_of word) ≡ length x = ap length read.0 ∙ length-map x decimal in
-    let pieces : length (pieces_of word) ≡ queues = eqb-same (length (pieces_of word)) queues shaped in
+    let pieces : length (pieces_of word) ≡ queues = eqb-true (length (pieces_of word)) queues shaped in
     (numbers_from_pieces word x read.0, record { count = omega arith; each = below_places (2 ^ 16) x (omega arith) read.1 })
-  where
-    eqb-same : (a b : ℕ) → (a == b) ≡ true → a ≡ b
-    eqb-same a b h = grind arith
 
 -- and the word of a state is read as it
 pub state_again : (n queues : ℕ) (x : List ℕ) → 1 ≤ queues → IsState queues x → read_state n (numbers_text x) ≡ Ok x

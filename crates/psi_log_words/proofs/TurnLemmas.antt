@@ -56,33 +56,18 @@ pub turn_ends : {V A B : Type 0} (view : V → A) (reading : A → Result B Refu
 unfolding each
 turn_ends view reading front i vs past = rw (drop_of_length-le vs past) (ap (λ (xs : List _). Ok xs) (append-nil front))
 
-pub behind_push : {X : Type 0} (xs ys : List X) (n : ℕ) → n ≤ length xs → drop n (xs ++ ys) ≡ drop n xs ++ ys
-behind_push xs ys n small = drop-append-le n xs ys small
-
-pub front_push : {X : Type 0} (xs ys : List X) (n : ℕ) → n ≤ length xs → take n (xs ++ ys) ≡ take n xs
-front_push xs ys n small = take-append-le n xs ys small
-
-pub pieces_long : (count : ℕ) (word : List ℕ) → has_pieces count word ≡ true → length (pieces_of word) ≡ count
-pieces_long count word is = eqb-true (length (pieces_of word)) count is
-
 -- a loop that puts what it has read after a list
 pub turn_push : {V A B : Type 0} (view : V → A) (reading : A → Result B Refusal) (old new : List B) (n i : ℕ) (vs : List V) (d : V) (b : B) (whole : Result (List B) Refusal)
     → new ≡ old ++ b ∷ [] → n ≤ length old → i < length vs → onto (drop n old) (each reading (map view (drop i vs))) ≡ whole → reading (view (get_or vs i d)) ≡ Ok b
     → onto (drop n new) (each reading (map view (drop (i + 1) vs))) ≡ whole
 turn_push {B = B} view reading old new n i vs d b whole is room small same read =
-    ap (λ (front : List B). onto front (each reading (map view (drop (i + 1) vs)))) (ap (drop n) is ∙ behind_push old (b ∷ []) n room)
+    ap (λ (front : List B). onto front (each reading (map view (drop (i + 1) vs)))) (ap (drop n) is ∙ drop-append-le n old (b ∷ []) room)
     ∙ sym (turn view reading (drop n old) i vs d b small read) ∙ same
-
-pub front_kept : {X : Type 0} (old new more before : List X) (n : ℕ) → new ≡ old ++ more → n ≤ length old → take n old ≡ before → take n new ≡ before
-front_kept old new more before n is room kept = ap (take n) is ∙ front_push old more n room ∙ kept
 
 pub shaped_rest : {V : Type 0} (view : V → List ℕ) (count i : ℕ) (vs : List V) → i < length vs → list_all (has_pieces count) (map view (drop i vs)) ≡ true
     → list_all (has_pieces count) (map view (drop (i + 1) vs)) ≡ true
 shaped_rest view count i [] small all = absurd (omega arith)
-shaped_rest view count zero (v ∷ vs) small all = (and_parts (has_pieces count (view v)) (list_all (has_pieces count) (map view vs)) all).1
-shaped_rest view count (suc i) (v ∷ vs) small all =
-    let next : suc i + 1 ≡ suc (i + 1) = omega arith in
-    rw next (shaped_rest view count i vs (omega arith) all)
+shaped_rest view count i (v ∷ vs) small all = (and_parts _ _ (rw (drop_more (v ∷ vs) i v small) at all)).1
 
 -- as many values are read as there are members
 pub each_length : {A B : Type 0} (reading : A → Result B Refusal) (members : List A) (bs : List B) → each reading members ≡ Ok bs → length bs ≡ length members

@@ -1,11 +1,11 @@
 -- Answers in the proof of `like::read_like_set`.
 use Rattle.std.proofs.Common.{◌∙◌, length, arith, refl}
-use Rattle.psi_log_words.proofs.LineWordsLemmas.{rest_of}
+use Rattle.std.proofs.lemmas.List.{take_rest}
 use Rattle.psi_log_scan.proofs.LikeLemmas.{like_word, like_set}
 use Rattle.psi_log_scan.proofs.like.read_like_set.Goals as goal
 
 pub read_like-requires-clause-word : goal.read_like-requires-clause-word
-read_like-requires-clause-word c = rest_of c.args.last.text.now 5 ∙ like_word (length c.args.row.now) c.args.last.text.now c.args.row.now c.requires.last
+read_like-requires-clause-word c = take_rest c.args.last.text.now 5 ∙ like_word (length c.args.row.now) c.args.last.text.now c.args.row.now c.requires.last
 
 pub returns-clause-told : goal.returns-clause-told
 returns-clause-told c =

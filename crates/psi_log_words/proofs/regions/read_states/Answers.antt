@@ -1,7 +1,8 @@
 -- Answers in the proof of `regions::read_states`.
-use Rattle.std.proofs.Common.{◌∙◌, [], ◌∷◌, ap, length, drop, arith, length-append}
+use Rattle.std.proofs.Common.{◌∙◌, [], ◌∷◌, ap, length, take, drop, arith, length-append}
 use Rattle.std.proofs.lemmas.Grind.{common_steps}
-use Rattle.psi_log_words.proofs.TurnLemmas.{turn_push, turn_refused, front_kept, shaped_rest}
+use Rattle.std.proofs.lemmas.List.{take-append-le}
+use Rattle.psi_log_words.proofs.TurnLemmas.{turn_push, turn_refused, shaped_rest}
 use Rattle.psi_log_words.specs.Regions.{read_state}
 use Rattle.psi_log_words.proofs.regions.read_states.Goals as goal
 
@@ -18,7 +19,7 @@ loop-word-preserved c =
     record {
       queues = c.push.ensures.queues ∙ c.loop-word.invariant.queues;
       count = (let long = ap length states ∙ length-append c.loop-word.states.states (c.in_ok-x.x ∷ []) in omega arith);
-      kept = front_kept c.loop-word.states.states _ (c.in_ok-x.x ∷ []) _ (length c.args.states.now.states) states count c.loop-word.invariant.kept;
+      kept = ap (take (length c.args.states.now.states)) states ∙ take-append-le (length c.args.states.now.states) c.loop-word.states.states (c.in_ok-x.x ∷ []) count ∙ c.loop-word.invariant.kept;
       shaped = shaped_rest (λ word. word.now) c.args.queues c.loop-word.word-index c.args.words.now (omega arith) c.loop-word.invariant.shaped;
       value = turn_push (λ word. word.now) (read_state c.args.line) c.loop-word.states.states _ (length c.args.states.now.states) c.loop-word.word-index c.args.words.now _ c.in_ok-x.x _
           states count (omega arith) c.loop-word.invariant.value c.in_ok-x.ensures.value;

@@ -2,9 +2,9 @@
 use Rattle.std.proofs.Common.{◌+◌, ◌≤◌, List, ℕ, Ok, map, length, get_or, ap, sym, ◌∙◌, arith, refl}
 use Rattle.std.specs.List.{before_first}
 use Rattle.std.proofs.lemmas.Bool.{ne_eqb, eq-eqb}
-use Rattle.std.proofs.lemmas.List.{length-map}
+use Rattle.std.proofs.lemmas.List.{length-map, take_rest}
 use Rattle.psi_log_words.specs.Words.{is_feed}
-use Rattle.psi_log_words.proofs.LineWordsLemmas.{AreKept, kept_none, kept_few, kept_byte, kept_space, kept_feed, words_end, rest_of}
+use Rattle.psi_log_words.proofs.LineWordsLemmas.{AreKept, kept_none, kept_few, kept_byte, kept_space, kept_feed, words_end}
 use Rattle.psi_log_words.proofs.words.read_words.Goals as goal
 use Rattle.psi_log_words.proofs.words.read_words.Goals.{then-byte-eq32+in_ok-keep-2, else-byte-eq32}
 
@@ -38,7 +38,7 @@ pub returns-then-byte-eq10-clause-line : goal.returns-then-byte-eq10-clause-line
 returns-then-byte-eq10-clause-line c =
     (kept_feed c.args.line c.args.text.now c.loop-at.at c.loop-at.first (map (λ word. word.now) c.loop-at.words.items) _ _ c.loop-at.invariant c.loop-at-test.true c.if-byte-eq10.true refl
     c.in_ok-keep.ensures).0
-    ∙ ap (λ (rest : List ℕ). Ok (before_first is_feed c.args.text.now, rest)) (sym (rest_of c.args.text.now (c.loop-at.at + 1)))
+    ∙ ap (λ (rest : List ℕ). Ok (before_first is_feed c.args.text.now, rest)) (sym (take_rest c.args.text.now (c.loop-at.at + 1)))
 
 pub returns-then-byte-eq10-clause-words : goal.returns-then-byte-eq10-clause-words
 returns-then-byte-eq10-clause-words c =
