@@ -3,6 +3,7 @@ use Rattle.std.specs.Prelude.{◌≡◌, ℕ, ◌+◌, ◌<◌, ◌≤◌, List,
 use Rattle.std.specs.List.{list_all}
 use Rattle.std.specs.Str.{bytes_eq}
 use Rattle.std.proofs.Common.{ap, sym, ◌∙◌, arith, inl, inr}
+use Rattle.std.proofs.Math.Bool.{and-false}
 use Rattle.std.proofs.lemmas.Bool.{lt-leb, cases_lt}
 use Rattle.std.proofs.lemmas.List.{take_all, length-take-le}
 use Rattle.psi_state.specs.State.{Corners}
@@ -31,10 +32,6 @@ three most reading answer long (a ∷ []) many some = absurd (omega arith)
 three most reading answer long (a ∷ b ∷ []) many some = absurd (omega arith)
 three most reading answer long (a ∷ b ∷ c ∷ words) many some = long a b c words many
 
--- a rule that doesn't hold
-rule_fails : {A : Type 0} (refusal : Refusal) (b : Bool) (rest : Unit {0} → Result A Refusal) → b ≡ false → (holds_or refusal b >>= rest) ≡ Err refusal
-rule_fails {A} refusal b rest is = ap (λ (c : Bool). holds_or refusal c >>= rest) is
-
 -- one that is refused so either way
 pub either_way : {A : Type 0} (refusal : Refusal) (b : Bool) (rest : Unit {0} → Result A Refusal) → rest tt ≡ Err refusal → (holds_or refusal b >>= rest) ≡ Err refusal
 either_way refusal true rest is = is
@@ -43,11 +40,6 @@ either_way refusal false rest is = refl
 pub form_fails : {A : Type 0} (refusal : Refusal) (form : Result Given Refusal) (rest : Given → Result A Refusal) → form ≡ Err refusal → (form >>= rest) ≡ Err refusal
 form_fails {A} refusal form rest is = ap (λ (r : Result Given Refusal). r >>= rest) is
 
-second_fails : (a b c : Bool) → b ≡ false → (a && b && c) ≡ false
-second_fails true false c is = refl
-second_fails false false c is = refl
-second_fails a true c is = absurd cc
-
 -- too many words for a form
 box_long : (n queues : ℕ) (words : List (List ℕ)) → 2 < length words → box_form n queues words ≡ Err (refused n Shape)
 unfolding box_form
@@ -55,15 +47,11 @@ box_long n queues words many = three 2 (box_form n queues) (Err (refused n Shape
 
 set_long : (n queues : ℕ) (words : List (List ℕ)) → 4096 < length words → set_form n queues words ≡ Err (refused n Shape)
 unfolding set_form
-set_long n queues words many =
-    rule_fails (refused n Shape) (nat_le 1 (length words) && nat_le (length words) 4096 && list_all (has_pieces queues) words) _
-    (second_fails (nat_le 1 (length words)) (nat_le (length words) 4096) (list_all (has_pieces queues) words) (lt-leb (length words) 4096 many))
+set_long n queues words many = rw (lt-leb (length words) 4096 many, and-false (nat_le 1 (length words))) refl
 
 move_long : (n : ℕ) (from : Corners) (words : List (List ℕ)) → 32 < length words → move_form n from words ≡ Err (refused n Shape)
 unfolding move_form
-move_long n from words many =
-    rule_fails (refused n Shape) (nat_le (length words) 32 && list_all (has_pieces 3) words) _
-    (ap (λ (b : Bool). b && list_all (has_pieces 3) words) (lt-leb (length words) 32 many))
+move_long n from words many = rw (lt-leb (length words) 32 many) refl
 
 either_form : (a b : Bool) (x y refusal : Result Given Refusal) → x ≡ refusal → y ≡ refusal → cond a x (cond b y refusal) ≡ refusal
 either_form true b x y refusal p q = p

@@ -1,8 +1,8 @@
 -- States that wait in an array of numbers to be put onto a list.
-use Rattle.std.specs.Prelude.{◌≡◌, ℕ, zero, suc, ◌+◌, ◌*◌, ◌<◌, ◌≤◌, ◌^◌, List, [], ◌∷◌, ◌++◌, length, take, true, refl}
+use Rattle.std.specs.Prelude.{◌≡◌, ◌-◌, ℕ, zero, suc, ◌+◌, ◌*◌, ◌<◌, ◌≤◌, ◌^◌, List, [], ◌∷◌, ◌++◌, length, take, true, refl}
 use Rattle.std.specs.Ordering.{is_lt}
 use Rattle.std.proofs.Common.{get_or, set, ap, sym, ◌∙◌, subst, arith, append_assoc}
-use Rattle.std.proofs.lemmas.List.{take-take, take-append-le, length-take-le, length-set, get_or-set_same}
+use Rattle.std.proofs.lemmas.List.{set-append_right, take-take, take-append-le, length-take-le, length-set, get_or-set_same}
 use Rattle.std.proofs.Math.Seq.{take-set-lt, take-append-add}
 use Rattle.psi_state.specs.Sets.{state_cmp}
 use Rattle.psi_log_format.specs.Rows.{rows}
@@ -30,12 +30,6 @@ above_other row q last n within high =
     let number = get_or-set_same row q last 0 within in
     subst (λ (y : List ℕ). is_lt (state_cmp (set row q last) y) ≡ true) (set_twice row q last n) (above_set (set row q last) q n (omega arith) (omega arith))
 
-set_behind : (front back : List ℕ) (at i n : ℕ) → at ≡ length front → set (front ++ back) (at + i) n ≡ front ++ set back i n
-set_behind [] back at i n is = (let none : at + i ≡ i = omega arith in rw none refl)
-set_behind (x ∷ front) back at i n is =
-    let next : at + i ≡ suc (length front + i) = omega arith in
-    rw next (ap (λ (ys : List ℕ). x ∷ ys) (set_behind front back (length front) i n refl))
-
 -- the first of eight numbers that are put after others
 pub front_put : (numbers part row rest : List ℕ) (filled count : ℕ) → part ≡ take 8 row → filled ≤ length numbers → count ≤ 8 → 32 ≤ length row
     → take (filled + count) (take filled numbers ++ (part ++ rest)) ≡ take filled numbers ++ take count row
@@ -49,8 +43,10 @@ front_put numbers part row rest filled count is few small long =
 pub put_behind : (numbers new row : List ℕ) (filled count q n : ℕ) → filled ≤ length numbers → q < count → take (filled + count) new ≡ take filled numbers ++ row
     → take (filled + count) (set new (filled + q) n) ≡ take filled numbers ++ set row q n
 put_behind numbers new row filled count q n few within is =
+    let place : filled + q - filled ≡ q = omega arith in
     take-set-lt (filled + count) new (filled + q) n (omega arith) ∙ ap (λ (xs : List ℕ). set xs (filled + q) n) is
-    ∙ set_behind (take filled numbers) row filled q n (sym (length-take-le filled numbers few))
+    ∙ set-append_right (take filled numbers) row filled (filled + q) n (length-take-le filled numbers few) (omega arith)
+    ∙ ap (λ (k : ℕ). take filled numbers ++ set row k n) place
 
 -- is one state more
 pub gathered_more : (states all : List (List ℕ)) (numbers new y : List ℕ) (filled count queues : ℕ) → states ++ rows count queues (take filled numbers) ≡ all

@@ -12,7 +12,7 @@ use Rattle.psi_log_format.proofs.JoinedLemmas.{then}
 use Rattle.std.proofs.lemmas.List.{take_rest}
 use Rattle.psi_log_words.proofs.StateLemmas.{rising_found}
 use Rattle.psi_log_scan.specs.Scanned.{Stands, TellsSet, with_comma, with_commas}
-use Rattle.psi_log_scan.proofs.ScanLemmas.{commas_none, text_last, is_state}
+use Rattle.psi_log_scan.proofs.ScanLemmas.{part_stands, commas_none, text_last, is_state}
 use Rattle.psi_log_scan.proofs.RowsLemmas.{front_longer, front_short, text_front}
 use Rattle.psi_log_scan.proofs.SetLineLemmas.{part_is}
 
@@ -34,14 +34,6 @@ alike_part : (text word : List ℕ) (end place same : ℕ) → take same (take (
     → take same (drop end text) ≡ take same (drop place word)
 alike_part text word end place same is = ap (take same) (sym (take_rest text end)) ∙ is ∙ ap (take same) (take_rest word place)
 
--- a part of a text stands in it
-part_stands : (text part : List ℕ) (end n : ℕ) → n ≡ length part → take n (drop end text) ≡ part → Stands text end (end + n) part
-part_stands text part end n size is = record {
-  front = take-add end n text ∙ ap (λ (t : List ℕ). take end text ++ t) is;
-  place = omega arith;
-  len = refl;
-}
-
 -- all that is left is the same
 pub like_whole : (text word row : List ℕ) (at end place queue same : ℕ) → IsLike text word row at end place queue → place ≤ length word → same ≡ length word - place
     → take same (take (length text - end) (drop end text)) ≡ take same (take (length word - place) (drop place word)) → Stands text at (end + same) (numbers_text row ++ (10 ∷ []))
@@ -51,7 +43,7 @@ like_whole text word row at end place queue same like room all alike =
     alike_part text word end place same alike ∙ take_all same (drop place word) (omega arith) ∙ like.back in
     let size : same ≡ length (numbers_text (drop queue row) ++ (10 ∷ [])) = sym left ∙ ap length like.back in
     then (with_commas (take queue row)) (numbers_text (drop queue row) ++ (10 ∷ [])) (numbers_text row ++ (10 ∷ [])) like.front
-    (part_stands text (numbers_text (drop queue row) ++ (10 ∷ [])) end same size part)
+    (part_stands text (numbers_text (drop queue row) ++ (10 ∷ [])) end same (end + same) refl size part)
     (sym (ap (λ (t : List ℕ). t ++ (10 ∷ [])) (text_front row queue like.within) ∙ append_assoc (with_commas (take queue row)) (numbers_text (drop queue row)) (10 ∷ [])))
 
 -- the numbers between two queues
@@ -105,7 +97,7 @@ like_pass text word row at end place queue next same len like after within is fe
     ∙ ap (take len) left ∙ take-append-le len front rest (omega arith) ∙ take_all len front (omega arith) in
     record {
       within = within;
-      front = then (with_commas (take queue row)) front (with_commas (take next row)) like.front (part_stands text front end len size part) joined;
+      front = then (with_commas (take queue row)) front (with_commas (take next row)) like.front (part_stands text front end len (end + len) refl size part) joined;
       back = behind word front rest place len size left;
     }
 

@@ -4,7 +4,7 @@ use Rattle.std.specs.List.{flat_map}
 use Rattle.std.specs.Fmt.{decimal}
 use Rattle.std.proofs.Common.{get_or, set, ap, sym, ◌∙◌, subst, arith, append_assoc, drop-cons, length-append, inl, inr}
 use Rattle.std.proofs.lemmas.Bool.{cases_lt}
-use Rattle.std.proofs.lemmas.List.{take_more, take_at, take-take, drop-take, append-nil, length-drop, length-take-le, length-set, take-set, drop-set-lt, get_or-drop, get_or-take, get_or-set_same, get_or-set_other}
+use Rattle.std.proofs.lemmas.List.{take_more_same, take_more, take_at, take-take, drop-take, append-nil, length-drop, length-take-le, length-set, take-set, drop-set-lt, get_or-drop, get_or-take, get_or-set_same, get_or-set_other}
 use Rattle.std.proofs.Math.Seq.{take-add, drop-append_seam}
 use Rattle.psi_log_format.specs.Text.{numbers_text}
 use Rattle.psi_log_format.proofs.JoinedLemmas.{then}
@@ -12,7 +12,7 @@ use Rattle.psi_log_scan.specs.Scanned.{Stands, with_commas}
 use Rattle.psi_log_scan.specs.Inner.RowsViews.{IsAlike, IsRun}
 use Rattle.psi_log_scan.specs.declared.runs.Run.{Run}
 use Rattle.psi_log_scan.proofs.RowsLemmas.{text_front}
-use Rattle.psi_log_scan.proofs.ScanLemmas.{digit_stands, digit_first, two_digits}
+use Rattle.psi_log_scan.proofs.ScanLemmas.{part_stands, digit_stands, digit_first, two_digits}
 use Rattle.psi_log_scan.proofs.SetLineLemmas.{part_is}
 
 -- numbers, each preceded by a comma
@@ -89,21 +89,13 @@ same_part : (xs ys : List ℕ) (a b n : ℕ) → a + n ≤ length xs → b + n �
 same_part xs ys a b zero left right each = refl
 same_part xs ys a b (suc n) left right each =
     let next : suc n ≡ n + 1 = omega arith in
-    let front : take n (drop a xs) ≡ take n (drop b ys) = same_part xs ys a b n (omega arith) (omega arith) (λ i small. each i (omega arith)) in
-    let last : get_or (drop a xs) n 0 ≡ get_or (drop b ys) n 0 = get_or-drop a xs n 0 ∙ each n (omega arith) ∙ sym (get_or-drop b ys n 0) in
-    ap (λ (k : ℕ). take k (drop a xs)) next ∙ take_more (drop a xs) n 0 (omega (arith, length-drop a xs))
-    ∙ ap (λ (t : List ℕ). t ++ get_or (drop a xs) n 0 ∷ []) front ∙ ap (λ (m : ℕ). take n (drop b ys) ++ m ∷ []) last
-    ∙ sym (ap (λ (k : ℕ). take k (drop b ys)) next ∙ take_more (drop b ys) n 0 (omega (arith, length-drop b ys)))
+    rw next (take_more_same (drop a xs) (drop b ys) n 0 (omega (arith, length-drop a xs)) (omega (arith, length-drop b ys)) (same_part xs ys a b n (omega arith) (omega arith) (λ i small. each i (omega arith)))
+    (get_or-drop a xs n 0 ∙ each n (omega arith) ∙ sym (get_or-drop b ys n 0)))
 
-part_stands : (text bytes : List ℕ) (a b n end : ℕ) → end ≡ a + n → a + n ≤ length text → b + n ≤ length bytes → ((i : ℕ) → i < n → get_or text (a + i) 0 ≡ get_or bytes (b + i) 0)
+same_stands : (text bytes : List ℕ) (a b n end : ℕ) → end ≡ a + n → a + n ≤ length text → b + n ≤ length bytes → ((i : ℕ) → i < n → get_or text (a + i) 0 ≡ get_or bytes (b + i) 0)
     → Stands text a end (take n (drop b bytes))
-part_stands text bytes a b n end is left right each =
-    let part = same_part text bytes a b n left right each in
-    record {
-      front = ap (λ (k : ℕ). take k text) is ∙ take-add a n text ∙ ap (λ (t : List ℕ). take a text ++ t) part;
-      place = omega (arith, length-take-le n (drop b bytes), length-drop b bytes);
-      len = refl;
-    }
+same_stands text bytes a b n end is left right each =
+    part_stands text (take n (drop b bytes)) a n end is (omega (arith, length-take-le n (drop b bytes), length-drop b bytes)) (same_part text bytes a b n left right each)
 
 -- the word of the next state of a run
 pub word_stands : (text row : List ℕ) (run : Run) (at n : ℕ) → IsRun row run → at + run.len ≤ length text → IsAlike text at run run.len → Stands text (at + run.from) (at + (run.from + run.width)) (decimal n)
@@ -114,10 +106,10 @@ word_stands text row run at n is within alike number =
     let first = is.number in
     let second = is.word in
     let front : Stands text at (at + run.from) (take run.from run.bytes) =
-    part_stands text run.bytes at 0 run.from (at + run.from) refl (omega arith) (omega arith)
+    same_stands text run.bytes at 0 run.from (at + run.from) refl (omega arith) (omega arith)
     (λ i small. subst (λ (k : ℕ). get_or text (at + i) 0 ≡ get_or run.bytes k 0) (omega arith) (alike i (omega arith) (is.same i (omega arith) (inl small)))) in
     let back : Stands text (at + (run.from + run.width)) (at + run.len) (take (run.len - (run.from + run.width)) (drop (run.from + run.width) run.bytes)) =
-    part_stands text run.bytes (at + (run.from + run.width)) (run.from + run.width) (run.len - (run.from + run.width)) (at + run.len) (omega arith) (omega arith) (omega arith)
+    same_stands text run.bytes (at + (run.from + run.width)) (run.from + run.width) (run.len - (run.from + run.width)) (at + run.len) (omega arith) (omega arith) (omega arith)
     (λ i small. subst (λ (k : ℕ). get_or text k 0 ≡ get_or run.bytes (run.from + run.width + i) 0) (omega arith) (alike (run.from + run.width + i) (omega arith) (is.same (run.from + run.width + i) (omega arith) (inr (omega arith))))) in
     then _ _ _ front (then _ _ _ number back refl) (is.words n)
 

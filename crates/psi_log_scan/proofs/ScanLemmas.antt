@@ -23,13 +23,16 @@ byte_stands text at byte small is = record {
 pub digit_stands : (text : List ℕ) (at byte digit : ℕ) → at < length text → get_or text at 0 ≡ byte → 48 + digit ≡ byte → Stands text at (at + 1) ((48 + digit) ∷ [])
 digit_stands text at byte digit small is value = byte_stands text at (48 + digit) small (is ∙ sym value)
 
-pub word_stands : (text word : List ℕ) (at : ℕ) → at + length word ≤ length text → take (at + length word - at) (drop at text) ≡ word → Stands text at (at + length word) word
-word_stands text word at room is = record {
-  front = (let size : at + length word - at ≡ length word = omega arith in
-      take-add at (length word) text ∙ ap (λ (w : List ℕ). take at text ++ w) (ap (λ (k : ℕ). take k (drop at text)) (sym size) ∙ is));
-  place = refl;
+-- a part of a text stands in it
+pub part_stands : (text part : List ℕ) (at n end : ℕ) → end ≡ at + n → n ≡ length part → take n (drop at text) ≡ part → Stands text at end part
+part_stands text part at n end is size part_is = record {
+  front = ap (λ (k : ℕ). take k text) is ∙ take-add at n text ∙ ap (λ (t : List ℕ). take at text ++ t) part_is;
+  place = omega arith;
   len = refl;
 }
+
+pub word_stands : (text word : List ℕ) (at : ℕ) → at + length word ≤ length text → take (at + length word - at) (drop at text) ≡ word → Stands text at (at + length word) word
+word_stands text word at room is = part_stands text word at (at + length word - at) (at + length word) (omega arith) (omega arith) is
 
 pub digit_first : (text : List ℕ) (at end digit : ℕ) → digit ≤ 9 → Stands text at end ((48 + digit) ∷ []) → Stands text at end (decimal digit)
 digit_first text at end digit small there = subst (λ (w : List ℕ). Stands text at end w) (sym (decimal_digit digit (omega arith))) there

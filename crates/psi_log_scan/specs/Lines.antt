@@ -9,12 +9,16 @@ use Rattle.psi_log_words.specs.Words.{line_of, tokens_of, number_in, read_versio
 use Rattle.psi_log_words.specs.declared.refusals.LogCause.TheVariants.{Shape}
 use Rattle.psi_log_words.specs.Regions.{form_of, read_given}
 
--- the line n of a name and a number, which begins the text, and what follows it
-unfoldable pub named_line : ℕ → List ℕ → ℕ → ℕ → List ℕ → Result (ℕ × List ℕ) Refusal
-named_line n name least most text = do
+-- what is read of the words of line n, which begins the text, and what follows it
+abbrev pub read_line : {A : Type 0} → ℕ → (List (List ℕ) → Result A Refusal) → List ℕ → Result (A × List ℕ) Refusal
+read_line n reading text = do
   line ← line_of n text
-  number ← read_named n name least most (tokens_of line.0)
-  Ok (number, line.1)
+  value ← reading (tokens_of line.0)
+  Ok (value, line.1)
+
+-- the line of a name and a number
+unfoldable pub named_line : ℕ → List ℕ → ℕ → ℕ → List ℕ → Result (ℕ × List ℕ) Refusal
+named_line n name least most text = read_line n (read_named n name least most) text
 
 -- the five lines of the header, and what follows them
 unfoldable pub read_header : List ℕ → Result (Header × List ℕ) Refusal

@@ -8,10 +8,9 @@ use Rattle.psi_log_format.specs.declared.header.Header.{Header}
 use Rattle.psi_log_format.specs.Log.{Entry, in_set, IsState, IsSet}
 use Rattle.psi_log_format.specs.Text.{numbers_text, region_words, Change, change_text}
 use Rattle.psi_log_format.specs.Room.{Puts, spaced_words}
-use Rattle.psi_log_words.specs.Refusal.{Refusal, ◌>>=◌}
-use Rattle.psi_log_words.specs.Words.{line_of, tokens_of}
+use Rattle.psi_log_words.specs.Refusal.{Refusal}
 use Rattle.psi_log_words.specs.Regions.{queues_ascend, is_change, changed}
-use Rattle.psi_log_scan.specs.Lines.{read_step}
+use Rattle.psi_log_scan.specs.Lines.{read_line, read_step}
 
 -- the words stand in the text from one place to another
 abbrev pub Stands : List ℕ → ℕ → ℕ → List ℕ → Type 0
@@ -49,7 +48,4 @@ pub record AreChanged (queues : ℕ) (from : Corners) (text : List ℕ) (at end 
 
 -- line n, where it is that of a step and begins the text, and what follows it
 unfoldable pub next_step : Header → ℕ → Option Corners → List ℕ → Result (Entry × List ℕ) Refusal
-next_step h n before text = do
-  line ← line_of n text
-  entry ← read_step h n before (tokens_of line.0)
-  Ok (entry, line.1)
+next_step h n before text = read_line n (read_step h n before) text
