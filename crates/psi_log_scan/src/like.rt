@@ -6,7 +6,7 @@ ghost use Rattle.psi_log_format.specs.Text.{numbers_text};
 ghost use Rattle.psi_log_scan.specs.Scanned.{Stands, TellsSet, with_comma, with_commas};
 
 use crate::head::has_name;
-use crate::rows::{keep_range, width};
+use crate::rows::width;
 use crate::same::alike;
 use crate::scan::{has_byte, small_at};
 use crate::set_line::LastSet;
@@ -120,8 +120,6 @@ pub fn read_like_set<'t>(
         return None;
     }
     let end = read_like(text, at + 5, &last.text[5..], row)?;
-    // Called for its clause: the range of the numbers.
-    keep_range(row);
     Some(LastSet {
         text: &text[at..end],
         first: 0,

@@ -13,14 +13,6 @@ use psi_log_format::StateList;
 use psi_state::{MOST_SPLIT, State};
 use std::alloc::AllocError;
 
-/// Does nothing; its clause is the range of the numbers.
-#[inline]
-pub(crate) fn keep_range(row: &[u16])
-    ensures { (i : ℕ) → slice_index row.now i < 2 ^ 16 }
-{
-    let _row = row;
-}
-
 /// How many decimal digits a number has.
 #[inline]
 #[tactic(auto, using(crate::proofs::RowsLemmas::length_one, crate::proofs::RowsLemmas::length_two, crate::proofs::RowsLemmas::length_three, crate::proofs::RowsLemmas::length_four, crate::proofs::RowsLemmas::length_five))]
@@ -94,8 +86,6 @@ fn next_row(
     let Some(end) = read_row(text, at, row) else {
         return Ok(None);
     };
-    // Called for its clause: the range of the numbers.
-    keep_range(row);
     states.push_row(row)?;
     if !is_in_order(states, first) {
         return Ok(None);

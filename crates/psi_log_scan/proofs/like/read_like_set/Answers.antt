@@ -1,5 +1,5 @@
 -- Answers in the proof of `like::read_like_set`.
-use Rattle.std.proofs.Common.{◌∙◌, length, arith, refl}
+use Rattle.std.proofs.Common.{rules, ◌∙◌, length, arith, refl}
 use Rattle.std.proofs.lemmas.List.{take_rest}
 use Rattle.psi_log_scan.proofs.LikeLemmas.{like_word, like_set}
 use Rattle.psi_log_scan.proofs.like.read_like_set.Goals as goal
@@ -9,10 +9,10 @@ read_like-requires-clause-word c = take_rest c.args.last.text.now 5 ∙ like_wor
 
 pub returns-clause-told : goal.returns-clause-told
 returns-clause-told c =
-    (like_set (length c.args.row.now) c.args.text.now c.read_like.new.row c.args.at c.in_ok-end.end (omega arith) c.in_ok-end.ensures.count c.keep_range.ensures
+    (like_set (length c.args.row.now) c.args.text.now c.read_like.new.row c.args.at c.in_ok-end.end (omega arith) c.in_ok-end.ensures.count (search rules)
     (c.if-not-has_name.ensures.there refl) c.in_ok-end.ensures.there).0
 
 pub returns-clause-there : goal.returns-clause-there
 returns-clause-there c =
-    (like_set (length c.args.row.now) c.args.text.now c.read_like.new.row c.args.at c.in_ok-end.end (omega arith) c.in_ok-end.ensures.count c.keep_range.ensures
+    (like_set (length c.args.row.now) c.args.text.now c.read_like.new.row c.args.at c.in_ok-end.end (omega arith) c.in_ok-end.ensures.count (search rules)
     (c.if-not-has_name.ensures.there refl) c.in_ok-end.ensures.there).1

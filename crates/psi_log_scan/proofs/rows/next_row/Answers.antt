@@ -1,5 +1,5 @@
 -- Answers in the proof of `rows::next_row`.
-use Rattle.std.proofs.Common.{length, ◌∷◌, [], ap, ◌∙◌, length-append, refl, arith}
+use Rattle.std.proofs.Common.{rules, length, ◌∷◌, [], ap, ◌∙◌, length-append, refl, arith}
 use Rattle.psi_log_scan.proofs.RowsLemmas.{below_behind}
 use Rattle.psi_log_scan.proofs.rows.next_row.Goals as goal
 
@@ -13,7 +13,7 @@ returns-clause-next c =
     record {
       within = c.in-Some.ensures.within;
       there = c.in-Some.ensures.there;
-      range = c.keep_range.ensures;
+      range = search rules;
       states = made;
       order = λ some. below_behind old new row made (c.if-not-is_in_order.ensures refl (omega arith));
     }
