@@ -13,10 +13,11 @@ use Rattle.psi_log_words.specs.Refusal.{Refusal, refused, ◌>>=◌, holds_or}
 use Rattle.psi_log_words.specs.Words.{is_feed, cut_at, line_of, tokens_of, read_version, read_named}
 use Rattle.psi_log_words.specs.declared.refusals.LogCause.TheVariants.{TooLong}
 use Rattle.psi_log_words.proofs.WordLemmas.{bind_ok, ok_same}
-use Rattle.psi_log_scan.specs.Lines.{named_line, read_header, read_step}
+use Rattle.psi_log_scan.specs.Lines.{read_line, named_line, read_header, read_step}
 use Rattle.psi_log_scan.specs.Scanned.{next_step}
-use Rattle.psi_log.specs.Reading.{read_begin}
-use Rattle.psi_log.specs.Cursor.{Cursor, EndsAs, begin_line, begun}
+use Rattle.psi_log.specs.Reading.{read_begin, begin_line}
+use Rattle.psi_log.specs.Cursor.{Cursor, EndsAs, begun}
+use Rattle.psi_log.proofs.PassLemmas.{begun_parts}
 
 -- a reading of a front of the text: what it leaves is the end of the text, and what it gives stays when more text follows
 abbrev IsFront : {A : Type 0} → (List ℕ → Result (A × List ℕ) Refusal) → Type 0
@@ -71,25 +72,23 @@ line_front n text x h = go (position is_feed text) refl h
               (ap (λ (p : List ℕ × List ℕ). Ok (p.0, p.1 ++ more)) same)),
         )
 
--- what is read of a line
-of_line : {A : Type 0} (n : ℕ) (f : List ℕ → Result A Refusal) → IsFront (λ (text : List ℕ). line_of n text >>= (λ (l : List ℕ × List ℕ). f l.0 >>= (λ (a : A). Ok (a, l.1))))
-of_line {A = A} n f =
-    then_front (line_of n) (λ (line text : List ℕ). f line >>= (λ (a : A). Ok (a, text))) (line_front n)
-    (λ line. given_front (f line) (λ (a : A) (text : List ℕ). Ok (a, text)) none_front)
+-- what is read of a line: that of a name and a number, that of the region at which the run begins, and that of a step
+line_read_front : {A : Type 0} (n : ℕ) (reading : List (List ℕ) → Result A Refusal) → IsFront (read_line n reading)
+line_read_front {A = A} n reading =
+    then_front (line_of n) (λ (line text : List ℕ). reading (tokens_of line) >>= (λ (a : A). Ok (a, text))) (line_front n)
+    (λ line. given_front (reading (tokens_of line)) (λ (a : A) (text : List ℕ). Ok (a, text)) none_front)
 
--- so are the lines of a name and a number, and the one of the region at which the run begins
 named_front : (n : ℕ) (name : List ℕ) (least most : ℕ) → IsFront (named_line n name least most)
 unfolding named_line
-named_front n name least most = of_line n (λ (line : List ℕ). read_named n name least most (tokens_of line))
+named_front n name least most = line_read_front n (read_named n name least most)
 
 begin_front : (queues : ℕ) → IsFront (begin_line queues)
 unfolding begin_line
-begin_front queues = of_line 6 (λ (line : List ℕ). read_begin queues (tokens_of line))
+begin_front queues = line_read_front 6 (read_begin queues)
 
--- a step
 step_front : (h : Header) (n : ℕ) (before : Option Corners) → IsFront (next_step h n before)
 unfolding next_step
-step_front h n before = of_line n (λ (line : List ℕ). read_step h n before (tokens_of line))
+step_front h n before = line_read_front n (read_step h n before)
 
 pub next_front : (h : Header) (n : ℕ) (before : Option Corners) (text rest more : List ℕ) (e : Entry) → next_step h n before text ≡ Ok (e, rest) → next_step h n before (text ++ more) ≡ Ok (e, rest ++ more)
 next_front h n before text rest more e read = (step_front h n before text (e, rest) read).1 more
@@ -119,24 +118,14 @@ begins : (text : List ℕ) (c : Cursor) → begun text ≡ Ok c → EndsAs text 
     × ((more : List ℕ) → length (text ++ more) ≤ 33554432 → begun (text ++ more) ≡ Ok (record { header = c.header; done = c.done; before = c.before; region = c.region; rest = c.rest ++ more }))
 unfolding begun
 begins text c h =
-    let rule = bind_ok (holds_or (refused 0 TooLong) (nat_le (length text) 33554432)) (λ (u : Unit {0}). read_header text >>= (λ (p : Header × List ℕ).
-    begin_line p.0.queues p.1 >>= (λ (b : LogRegion × List ℕ). Ok (cursor p.0 b)))) c h in
-    let header = bind_ok (read_header text) (λ (p : Header × List ℕ). begin_line p.0.queues p.1 >>= (λ (b : LogRegion × List ℕ). Ok (cursor p.0 b))) c rule.2 in
-    let begin = bind_ok (begin_line header.0.0.queues header.0.1) (λ (b : LogRegion × List ℕ). Ok (cursor header.0.0 b)) c header.2 in
-    let first = header_front text header.0 header.1 in
-    let second = begin_front header.0.0.queues header.0.1 begin.0 begin.1 in (
-      subst (λ (k : Cursor). EndsAs text k.rest) (ok_same (cursor header.0.0 begin.0) c begin.2) (ends_then text header.0.1 begin.0.1 first.0 second.0),
+    let parts = begun_parts text c h in
+    let first = header_front text parts.0 parts.2 in
+    let second = begin_front parts.0.0.queues parts.0.1 parts.1 parts.3 in (
+      subst (λ (k : Cursor). EndsAs text k.rest) parts.4 (ends_then text parts.0.1 parts.1.1 first.0 second.0),
       λ more few. (let fits : nat_le (length (text ++ more)) 33554432 ≡ true = le-leb (length (text ++ more)) 33554432 few in
-          rw (fits, first.1 more, second.1 more) (longer more (cursor header.0.0 begin.0) begin.2)),
+          rw (fits, first.1 more, second.1 more)
+          (ap (λ (k : Cursor). Ok (record { header = k.header; done = k.done; before = k.before; region = k.region; rest = k.rest ++ more })) parts.4)),
     )
-  where
-    cursor : Header → LogRegion × List ℕ → Cursor
-    cursor h b = record { header = h; done = 0; before = b.0; region = b.0; rest = b.1 }
-
-    longer : (more : List ℕ) (k : Cursor) → ◌≡◌ {A = Result Cursor Refusal} (Ok k) (Ok c)
-        → ◌≡◌ {A = Result Cursor Refusal} (Ok (record { header = k.header; done = k.done; before = k.before; region = k.region; rest = k.rest ++ more }))
-        (Ok (record { header = c.header; done = c.done; before = c.before; region = c.region; rest = c.rest ++ more }))
-    longer more k same = ap (λ (j : Cursor). Ok (record { header = j.header; done = j.done; before = j.before; region = j.region; rest = j.rest ++ more })) (ok_same k c same)
 
 pub begun_front : (text more : List ℕ) (c : Cursor) → begun text ≡ Ok c → length (text ++ more) ≤ 33554432
     → begun (text ++ more) ≡ Ok (record { header = c.header; done = c.done; before = c.before; region = c.region; rest = c.rest ++ more })

@@ -1,25 +1,25 @@
 -- The header, the first region and the last state: each is told by its text, and its text is read as it.
-use Rattle.std.specs.Prelude.{◌≡◌, ◌⊎◌, ℕ, ◌-◌, ◌<◌, ◌≤◌, ◌^◌, List, [], ◌∷◌, ◌++◌, take, drop, codes, Bool, true, false, not, ◌&&◌, cond, None, Result, Ok, Err, refl}
+use Rattle.std.specs.Prelude.{◌≡◌, ◌⊎◌, ℕ, ◌+◌, ◌-◌, ◌<◌, ◌≤◌, ◌^◌, List, [], ◌∷◌, ◌++◌, length, take, drop, codes, Bool, true, false, not, ◌&&◌, ◌==◌, cond, None, Result, Ok, Err, refl}
 use Rattle.std.specs.List.{list_all}
 use Rattle.std.specs.Fmt.{decimal}
 use Rattle.std.specs.Str.{bytes_eq}
 use Rattle.std.proofs.Common.{ap, sym, ◌∙◌, subst, arith, inl, inr, append_assoc}
-use Rattle.std.proofs.lemmas.Bool.{and_parts, and_from}
+use Rattle.std.proofs.lemmas.Bool.{and_parts, and_from, eqb-true}
 use Rattle.std.proofs.lemmas.Fmt.{decimal_digit}
-use Rattle.std.proofs.lemmas.List.{take-append-drop}
+use Rattle.std.proofs.lemmas.List.{take-append-drop, append-nil, nil_from_length}
 use Rattle.psi_log_format.specs.declared.header.Header.{Header}
 use Rattle.psi_log_format.specs.Log.{LogRegion, greatest_horizon, IsHeader, IsState, IsRegion}
-use Rattle.psi_log_format.specs.Text.{line_text, numbers_text, number_words, region_words, header_text}
+use Rattle.psi_log_format.specs.Text.{line_text, numbers_text, number_words, region_words, header_text, begin_text, end_text}
 use Rattle.psi_log_words.specs.Refusal.{Refusal, refused, ◌>>=◌, holds_or}
 use Rattle.psi_log_words.specs.Words.{line_of, has_pieces, read_version}
-use Rattle.psi_log_words.specs.declared.refusals.LogCause.TheVariants.{NotLog, Version, Shape}
+use Rattle.psi_log_words.specs.declared.refusals.LogCause.TheVariants.{NotLog, Version, Shape, TrailingText}
 use Rattle.psi_log_words.proofs.WordLemmas.{bind_ok, ok_same, held, same_word, lacks, line_found, line_again}
 use Rattle.psi_log_words.specs.Regions.{Given, form_of, read_state, read_given}
 use Rattle.psi_log_words.proofs.StateLemmas.{state_found, state_again, state_shaped, state_lacks}
 use Rattle.psi_log_words.proofs.GivenLemmas.{region_found, region_again, words_lack}
-use Rattle.psi_log_scan.specs.Lines.{named_line, read_header}
-use Rattle.psi_log.specs.Reading.{read_begin, read_end}
-use Rattle.psi_log_scan.proofs.LineLemmas.{named_line_found, named_line_again, horizon_small}
+use Rattle.psi_log_scan.specs.Lines.{read_line, named_line, read_header}
+use Rattle.psi_log.specs.Reading.{read_begin, read_end, begin_line, ended}
+use Rattle.psi_log_scan.proofs.LineLemmas.{read_line_found, read_line_again, named_line_found, named_line_again, horizon_small}
 
 -- the first line
 version_found : (line : List ℕ) (v : ℕ) → read_version line ≡ Ok v → (line ≡ codes "psi-log " ++ decimal v) × ((v ≡ 1) ⊎ (v ≡ 2))
@@ -123,7 +123,7 @@ header_again h rest is =
     rw (whole, start, cut, version, a, b, c, d) refl
 
 -- the region at which the run begins
-pub begin_found : (queues : ℕ) (words : List (List ℕ)) (r : LogRegion) → 1 ≤ queues → queues ≤ 32 → read_begin queues words ≡ Ok r
+begin_found : (queues : ℕ) (words : List (List ℕ)) (r : LogRegion) → 1 ≤ queues → queues ≤ 32 → read_begin queues words ≡ Ok r
     → (words ≡ codes "begin" ∷ region_words r) × IsRegion queues r
 unfolding read_begin
 begin_found queues [] r some few h = absurd cc
@@ -135,17 +135,31 @@ begin_found queues (first ∷ words) r some few h =
     let same = found.0 in
     (cc, found.1)
 
-pub begin_again : (queues : ℕ) (r : LogRegion) → 1 ≤ queues → queues ≤ 32 → IsRegion queues r → read_begin queues (codes "begin" ∷ region_words r) ≡ Ok r
+begin_again : (queues : ℕ) (r : LogRegion) → 1 ≤ queues → queues ≤ 32 → IsRegion queues r → read_begin queues (codes "begin" ∷ region_words r) ≡ Ok r
 unfolding read_begin
 begin_again queues r some few is = (let read = region_again 6 queues None r some few tt is in rw (read.form, read.region) refl)
 
-pub begin_lacks : (c queues : ℕ) (r : LogRegion) → c < 44 → queues ≤ 32 → IsRegion queues r → lacks c (codes "begin") ≡ true → lacks c (codes "box") ≡ true
+begin_lacks : (c queues : ℕ) (r : LogRegion) → c < 44 → queues ≤ 32 → IsRegion queues r → lacks c (codes "begin") ≡ true → lacks c (codes "box") ≡ true
     → lacks c (codes "set") ≡ true → lacks c (codes "move") ≡ true → list_all (lacks c) (codes "begin" ∷ region_words r) ≡ true
 begin_lacks c queues r small few is begin box set move =
     and_from (lacks c (codes "begin")) (list_all (lacks c) (region_words r)) begin (words_lack c queues None r small few tt is box set move)
 
+pub begin_line_found : (queues : ℕ) (text : List ℕ) (x : LogRegion × List ℕ) → 1 ≤ queues → queues ≤ 32 → begin_line queues text ≡ Ok x
+    → (text ≡ begin_text x.0 ++ x.1) × IsRegion queues x.0
+unfolding begin_line begin_text
+begin_line_found queues text x some few r =
+    let line = read_line_found 6 (read_begin queues) text x r in
+    let found = begin_found queues line.0 x.0 some few line.1 in
+    (line.2 ∙ ap (λ (words : List (List ℕ)). line_text words ++ x.1) found.0, found.1)
+
+pub begin_line_again : (queues : ℕ) (r : LogRegion) (rest : List ℕ) → 1 ≤ queues → queues ≤ 32 → IsRegion queues r → begin_line queues (begin_text r ++ rest) ≡ Ok (r, rest)
+unfolding begin_line begin_text
+begin_line_again queues r rest some few is =
+    read_line_again 6 (read_begin queues) (codes "begin") (region_words r) rest r (begin_lacks 10 queues r (omega arith) few is refl refl refl refl)
+    (begin_lacks 32 queues r (omega arith) few is refl refl refl refl) (begin_again queues r some few is)
+
 -- the state at time zero
-pub end_found : (n queues : ℕ) (words : List (List ℕ)) (x : List ℕ) → read_end n queues words ≡ Ok x → (words ≡ codes "end" ∷ numbers_text x ∷ []) × IsState queues x
+end_found : (n queues : ℕ) (words : List (List ℕ)) (x : List ℕ) → read_end n queues words ≡ Ok x → (words ≡ codes "end" ∷ numbers_text x ∷ []) × IsState queues x
 unfolding read_end
 end_found n queues [] x h = absurd cc
 end_found n queues (first ∷ []) x h = absurd cc
@@ -159,10 +173,30 @@ end_found n queues (first ∷ state ∷ []) x h =
     (cc, found.1)
 end_found n queues (first ∷ state ∷ more ∷ words) x h = absurd cc
 
-pub end_again : (n queues : ℕ) (x : List ℕ) → 1 ≤ queues → IsState queues x → read_end n queues (codes "end" ∷ numbers_text x ∷ []) ≡ Ok x
+end_again : (n queues : ℕ) (x : List ℕ) → 1 ≤ queues → IsState queues x → read_end n queues (codes "end" ∷ numbers_text x ∷ []) ≡ Ok x
 unfolding read_end
 end_again n queues x some is = rw (state_shaped queues x some is) (state_again n queues x some is)
 
-pub end_lacks : (c queues : ℕ) (x : List ℕ) → c < 44 → IsState queues x → lacks c (codes "end") ≡ true → list_all (lacks c) (codes "end" ∷ numbers_text x ∷ []) ≡ true
+end_lacks : (c queues : ℕ) (x : List ℕ) → c < 44 → IsState queues x → lacks c (codes "end") ≡ true → list_all (lacks c) (codes "end" ∷ numbers_text x ∷ []) ≡ true
 end_lacks c queues x small is end =
     and_from (lacks c (codes "end")) (list_all (lacks c) (numbers_text x ∷ [])) end (and_from (lacks c (numbers_text x)) true (state_lacks c queues x small is) refl)
+
+pub ended_found : (h : Header) (text x : List ℕ) → ended h text ≡ Ok x → (text ≡ end_text x) × IsState h.queues x
+unfolding ended end_text
+ended_found h text x r =
+    let line = bind_ok (read_line (7 + h.horizon) (read_end (7 + h.horizon) h.queues) text)
+    (λ (final : List ℕ × List ℕ). holds_or (refused (8 + h.horizon) TrailingText) (length final.1 == 0) >>= (λ (u : Unit {0}). Ok final.0)) x r in
+    let over = bind_ok (holds_or (refused (8 + h.horizon) TrailingText) (length line.0.1 == 0)) (λ (u : Unit {0}). Ok line.0.0) x line.2 in
+    let none : line.0.1 ≡ [] = nil_from_length line.0.1 (eqb-true (length line.0.1) 0 (held (refused (8 + h.horizon) TrailingText) (length line.0.1 == 0) over.0 over.1)) in
+    let words = read_line_found (7 + h.horizon) (read_end (7 + h.horizon) h.queues) text line.0 line.1 in
+    let found = end_found (7 + h.horizon) h.queues words.0 line.0.0 words.1 in
+    subst (λ (y : List ℕ). (text ≡ line_text (codes "end" ∷ numbers_text y ∷ [])) × IsState h.queues y) (ok_same line.0.0 x over.2)
+    (words.2 ∙ ap (λ (ws : List (List ℕ)). line_text ws ++ line.0.1) found.0 ∙ ap (λ (t : List ℕ). line_text (codes "end" ∷ numbers_text line.0.0 ∷ []) ++ t) none
+    ∙ append-nil (line_text (codes "end" ∷ numbers_text line.0.0 ∷ [])), found.1)
+
+pub ended_again : (h : Header) (x : List ℕ) → 1 ≤ h.queues → IsState h.queues x → ended h (end_text x) ≡ Ok x
+unfolding ended end_text
+ended_again h x some is =
+    let line = read_line_again (7 + h.horizon) (read_end (7 + h.horizon) h.queues) (codes "end") (numbers_text x ∷ []) [] x (end_lacks 10 h.queues x (omega arith) is refl)
+    (end_lacks 32 h.queues x (omega arith) is refl) (end_again (7 + h.horizon) h.queues x some is) in
+    rw (sym (append-nil (line_text (codes "end" ∷ numbers_text x ∷ []))), line) refl

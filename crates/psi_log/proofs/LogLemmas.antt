@@ -10,8 +10,8 @@ use Rattle.psi_log_words.specs.declared.refusals.LogError.{LogError}
 use Rattle.psi_log_words.specs.declared.refusals.LogError.TheVariants.{Refused, OutOfMemory}
 use Rattle.psi_log_words.specs.Regions.{box_before}
 use Rattle.psi_log_scan.specs.Scanned.{next_step}
-use Rattle.psi_log.specs.Reading.{read_steps, read}
-use Rattle.psi_log.specs.Cursor.{Cursor, begun, next_of, ended, log_of, left_of}
+use Rattle.psi_log.specs.Reading.{read_steps, ended, read}
+use Rattle.psi_log.specs.Cursor.{Cursor, begun, next_of, log_of, left_of}
 use Rattle.psi_log.specs.Inner.LogViews.{entries_of, certificate_of}
 use Rattle.psi_log.proofs.PassLemmas.{read_begun}
 use Rattle.psi_log.proofs.StepLemmas.{behind, next_turn, next_refused}

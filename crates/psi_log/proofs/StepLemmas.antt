@@ -9,7 +9,6 @@ use Rattle.psi_log_words.specs.Refusal.{Refusal, ◌>>=◌, IsLogError}
 use Rattle.psi_log_words.specs.Words.{line_of, tokens_of}
 use Rattle.psi_log_words.specs.declared.refusals.LogError.{LogError}
 use Rattle.psi_log_words.specs.declared.refusals.LogError.TheVariants.{Refused, OutOfMemory}
-use Rattle.psi_log_words.proofs.WordLemmas.{bind_ok, ok_same}
 use Rattle.psi_log_words.specs.Regions.{box_before}
 use Rattle.psi_log_scan.specs.Lines.{read_step}
 use Rattle.psi_log_scan.specs.Scanned.{next_step}
@@ -45,39 +44,15 @@ behind_more front e (Err refusal) = refl
 pub next_turn : (h : Header) (k count n : ℕ) (before next : Option Corners) (text rest : List ℕ) (front : List Entry) (e : Entry) (whole : Result (List Entry × List ℕ) Refusal)
     → k ≡ suc count → next_step h n before text ≡ Ok (e, rest) → next ≡ box_before h.version e.region → behind front (read_steps h k n before text) ≡ whole
     → behind (front ++ e ∷ []) (read_steps h count (n + 1) next rest) ≡ whole
-unfolding next_step read_steps
+unfolding read_steps
 next_turn h k count n before next text rest front e whole size read from same =
-    let line = bind_ok (line_of n text) (λ (line : List ℕ × List ℕ). read_step h n before (tokens_of line.0) >>= (λ (d : Entry). Ok (d, line.1))) (e, rest) read in
-    let entry = bind_ok (read_step h n before (tokens_of line.0.0)) (λ (d : Entry). Ok (d, line.0.1)) (e, rest) line.2 in
-    let both : (entry.0, line.0.1) ≡ (e, rest) = ok_same _ _ entry.2 in
-    let step : read_step h n before (tokens_of line.0.0) ≡ Ok e = entry.1 ∙ ap (λ (p : Entry × List ℕ). Ok p.0) both in
-    let after : line.0.1 ≡ rest = ap (λ (p : Entry × List ℕ). p.1) both in
-    sym (behind_more front e (read_steps h count (n + 1) next rest)) ∙ rw (size, line.1, step, after, sym from) at same
+    sym (behind_more front e (read_steps h count (n + 1) next rest)) ∙ rw (size, read, sym from) at same
 
--- a reading in two steps that is refused is refused, whatever goes on from it
-two_refused : {A E B C : Type 0} (refusal : Refusal) (a : Result A Refusal) (f : A → Result E Refusal) (g : A → E → C) (k : A → E → Result B Refusal)
-    → (a >>= (λ (x : A). f x >>= (λ (e : E). Ok (g x e)))) ≡ Err refusal → (a >>= (λ (x : A). f x >>= (λ (e : E). k x e))) ≡ Err refusal
-two_refused {E = E} {B = B} {C = C} refusal (Ok x) f g k h = go (f x) h
-  where
-    go : (r : Result E Refusal) → (r >>= (λ (e : E). Ok (g x e))) ≡ Err refusal → (r >>= (λ (e : E). k x e)) ≡ Err refusal
-    go (Ok e) h = absurd cc
-    go (Err other) h = ap (λ (s : Refusal). Err s) (same other h)
-      where
-        same : (other : Refusal) → ◌≡◌ {A = Result C Refusal} (Err other) (Err refusal) → other ≡ refusal
-        same other h = cc
-two_refused {C = C} refusal (Err other) f g k h = ap (λ (s : Refusal). Err s) (same other h)
-  where
-    same : (other : Refusal) → ◌≡◌ {A = Result C Refusal} (Err other) (Err refusal) → other ≡ refusal
-    same other h = cc
-
+-- one that is refused is what the whole is refused for
 pub next_refused : (h : Header) (count n : ℕ) (before : Option Corners) (text : List ℕ) (front : List Entry) (error : LogError) (whole : Result (List Entry × List ℕ) Refusal)
     → IsLogError error (next_step h n before text) → (k : ℕ) → k ≡ suc count → behind front (read_steps h k n before text) ≡ whole → IsLogError error whole
-unfolding read_steps next_step
-next_refused h count n before text front (Refused l cause) whole fails k size same =
-    let refused : read_steps h (suc count) n before text ≡ Err (record { line = l; cause = cause }) =
-    two_refused (record { line = l; cause = cause }) (line_of n text) (λ (line : List ℕ × List ℕ). read_step h n before (tokens_of line.0)) (λ (line : List ℕ × List ℕ) (e : Entry). (e, line.1))
-    (λ (line : List ℕ × List ℕ) (e : Entry). read_steps h count (n + 1) (box_before h.version e.region) line.1 >>= (λ (m : List Entry × List ℕ). Ok (e ∷ m.0, m.1))) fails in
-    sym same ∙ ap (λ (j : ℕ). behind front (read_steps h j n before text)) size ∙ ap (behind front) refused
+unfolding read_steps
+next_refused h count n before text front (Refused l cause) whole fails k size same = sym same ∙ rw (size, fails) refl
 next_refused h count n before text front OutOfMemory whole fails k size same = tt
 
 -- after the last line what was read is the answer

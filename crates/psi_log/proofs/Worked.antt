@@ -7,7 +7,8 @@ use Rattle.psi_log_words.specs.Refusal.{Refusal, each}
 use Rattle.psi_log_words.specs.Words.{line_of, number_in, read_version, read_named}
 use Rattle.psi_log_words.specs.Regions.{box_form, set_form, move_form, form_of, read_state, read_change, read_given}
 use Rattle.psi_log_scan.specs.Lines.{read_header, named_line, read_step}
-use Rattle.psi_log.specs.Reading.{read, after_header, read_begin, read_steps, read_end}
+use Rattle.psi_log_scan.specs.Scanned.{next_step}
+use Rattle.psi_log.specs.Reading.{read, after_header, begin_line, read_begin, read_steps, ended, read_end}
 
 -- the text of these lines, with another line in the place of the n-th, counted from 1
 abbrev text_with : ℕ → List ℕ → List (List ℕ) → List ℕ
@@ -67,7 +68,7 @@ abbrev refusal : Row → Result Certificate Refusal
 refusal of = Err (record { line = of.line; cause = of.cause })
 
 refused : map (λ (of : Row). read of.text) rows ≡ map refusal rows
-unfolding read after_header read_header named_line read_begin read_step read_steps read_end line_of number_in read_version read_named box_form set_form move_form form_of read_state read_change read_given each
+unfolding read after_header read_header named_line begin_line read_begin next_step read_step read_steps ended read_end line_of number_in read_version read_named box_form set_form move_form form_of read_state read_change read_given each
 refused = refl
 
 -- texts that are logs, whatever rules of a run they break
@@ -88,5 +89,5 @@ logs =
     ∷ []
 
 read_as_logs : list_all (λ text. is_ok (read text)) logs ≡ true
-unfolding read after_header read_header named_line read_begin read_step read_steps read_end line_of number_in read_version read_named box_form set_form move_form form_of read_state read_change read_given each
+unfolding read after_header read_header named_line begin_line read_begin next_step read_step read_steps ended read_end line_of number_in read_version read_named box_form set_form move_form form_of read_state read_change read_given each
 read_as_logs = refl

@@ -1,13 +1,12 @@
 -- The reading of a log in one pass: what stands before its steps, step by step, and its end.
-use Rattle.std.specs.Prelude.{◌≡◌, ◌==◌, ℕ, ◌+◌, ◌≤◌, List, ◌++◌, length, nat_le, Result, Ok}
+use Rattle.std.specs.Prelude.{◌≡◌, ℕ, ◌+◌, ◌≤◌, List, ◌++◌, length, nat_le, Result, Ok}
 use Rattle.psi_log_format.specs.declared.header.Header.{Header}
 use Rattle.psi_log_format.specs.Log.{LogRegion, Entry, Certificate, IsHeader, IsRegion}
 use Rattle.psi_log_words.specs.Refusal.{Refusal, refused, ◌>>=◌, holds_or}
-use Rattle.psi_log_words.specs.Words.{line_of, tokens_of}
-use Rattle.psi_log_words.specs.declared.refusals.LogCause.TheVariants.{TrailingText, TooLong}
+use Rattle.psi_log_words.specs.declared.refusals.LogCause.TheVariants.{TooLong}
 use Rattle.psi_log_scan.specs.Lines.{read_header}
 use Rattle.psi_log_words.specs.Regions.{box_before}
-use Rattle.psi_log.specs.Reading.{read_begin, read_steps, read_end}
+use Rattle.psi_log.specs.Reading.{begin_line, read_steps, ended}
 use Rattle.psi_log_scan.specs.Scanned.{next_step}
 
 -- how far a log is read: its header, how many steps are read, the regions before and after the last one of them, and the text after it; where
@@ -23,13 +22,6 @@ pub record Cursor : Type 0 where
 abbrev pub EndsAs : List ℕ → List ℕ → Type 0
 EndsAs text rest = (front : List ℕ) × (text ≡ front ++ rest)
 
--- the region at which the run begins, on the line that begins the text, and what follows it
-unfoldable pub begin_line : ℕ → List ℕ → Result (LogRegion × List ℕ) Refusal
-begin_line queues text = do
-  line ← line_of 6 text
-  begin ← read_begin queues (tokens_of line.0)
-  Ok (begin, line.1)
-
 -- a text read up to its first step
 unfoldable pub begun : List ℕ → Result Cursor Refusal
 begun text = do
@@ -41,14 +33,6 @@ begun text = do
 -- the next step, and the text after it
 abbrev pub next_of : Cursor → Result (Entry × List ℕ) Refusal
 next_of c = next_step c.header (7 + c.done) (box_before c.header.version c.region) c.rest
-
--- the state at time zero, where its line is all of the text that is left after the steps
-unfoldable pub ended : Header → List ℕ → Result (List ℕ) Refusal
-ended h text = do
-  line ← line_of (7 + h.horizon) text
-  final ← read_end (7 + h.horizon) h.queues (tokens_of line.0)
-  over ← holds_or (refused (8 + h.horizon) TrailingText) (length line.1 == 0)
-  Ok final
 
 -- the log of what was read before its steps, of these, and of the state at time zero
 abbrev pub log_of : Cursor → List Entry → List ℕ → Certificate

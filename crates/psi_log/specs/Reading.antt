@@ -5,8 +5,9 @@ use Rattle.psi_state.specs.State.{Corners}
 use Rattle.psi_log_format.specs.declared.header.Header.{Header}
 use Rattle.psi_log_format.specs.Log.{LogRegion, Entry, Certificate}
 use Rattle.psi_log_words.specs.Refusal.{Refusal, refused, ◌>>=◌, holds_or}
-use Rattle.psi_log_words.specs.Words.{line_of, tokens_of, has_pieces}
-use Rattle.psi_log_scan.specs.Lines.{read_header, read_step}
+use Rattle.psi_log_words.specs.Words.{has_pieces}
+use Rattle.psi_log_scan.specs.Lines.{read_line, read_header}
+use Rattle.psi_log_scan.specs.Scanned.{next_step}
 use Rattle.psi_log_words.specs.declared.refusals.LogCause.TheVariants.{Shape, TrailingText, TooLong}
 use Rattle.psi_log_words.specs.Regions.{form_of, read_state, box_before, read_given}
 
@@ -25,27 +26,34 @@ read_end n queues (first ∷ state ∷ []) = do
   read_state n state
 read_end n queues words = Err (refused n Shape)
 
+-- the line of the region at which the run begins
+unfoldable pub begin_line : ℕ → List ℕ → Result (LogRegion × List ℕ) Refusal
+begin_line queues text = read_line 6 (read_begin queues) text
+
+-- the state at time zero, where its line is all of the text that is left after the steps
+unfoldable pub ended : Header → List ℕ → Result (List ℕ) Refusal
+ended h text = do
+  final ← read_line (7 + h.horizon) (read_end (7 + h.horizon) h.queues) text
+  over ← holds_or (refused (8 + h.horizon) TrailingText) (length final.1 == 0)
+  Ok final.0
+
 -- the lines after this header
 module _ (h : Header) where
   -- so many lines of steps, from line n on, where the box from which a box has to be written may be given, and what follows them
   unfoldable pub read_steps : ℕ → ℕ → Option Corners → List ℕ → Result (List Entry × List ℕ) Refusal
   read_steps zero n before text = Ok ([], text)
   read_steps (suc count) n before text = do
-    line ← line_of n text
-    entry ← read_step h n before (tokens_of line.0)
-    more ← read_steps count (n + 1) (box_before h.version entry.region) line.1
-    Ok (entry ∷ more.0, more.1)
+    entry ← next_step h n before text
+    more ← read_steps count (n + 1) (box_before h.version entry.0.region) entry.1
+    Ok (entry.0 ∷ more.0, more.1)
 
   -- the log that a header and the text after it are
   unfoldable pub after_header : List ℕ → Result Certificate Refusal
   after_header text = do
-    line ← line_of 6 text
-    begin ← read_begin h.queues (tokens_of line.0)
-    steps ← read_steps h.horizon 7 (box_before h.version begin) line.1
-    last ← line_of (7 + h.horizon) steps.1
-    final ← read_end (7 + h.horizon) h.queues (tokens_of last.0)
-    over ← holds_or (refused (8 + h.horizon) TrailingText) (length last.1 == 0)
-    Ok (record { header = h; begin = begin; entries = steps.0; final = final })
+    begin ← begin_line h.queues text
+    steps ← read_steps h.horizon 7 (box_before h.version begin.0) begin.1
+    final ← ended h steps.1
+    Ok (record { header = h; begin = begin.0; entries = steps.0; final = final })
 
 -- the log that a text is
 unfoldable pub read : List ℕ → Result Certificate Refusal

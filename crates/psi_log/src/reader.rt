@@ -4,7 +4,8 @@ ghost use Rattle.std.specs.Prelude.{◌≡◌, ◌+◌, ◌<◌, ◌≤◌, leng
 ghost use Rattle.psi_log_words.specs.Refusal.{Gives, IsLogError};
 ghost use Rattle.psi_log.specs.Inner.SlotsViews.{region_in, IsFilled};
 ghost use Rattle.psi_log_format.specs.Listed.{shown, HasWidth};
-ghost use Rattle.psi_log.specs.Cursor.{begin_line, begun, next_of, ended, IsCursor};
+ghost use Rattle.psi_log.specs.Reading.{begin_line, ended};
+ghost use Rattle.psi_log.specs.Cursor.{begun, next_of, IsCursor};
 
 use crate::ends::{read_begin, read_end};
 use crate::slot::{RegionSlot, read_onto};
@@ -42,7 +43,7 @@ impl<'t> Model for LogReader<'t> {
 
 // The region at which the run begins, in a slot, of the line that begins a text, and what follows it. The vector holds
 // the line's words.
-#[tactic(auto, unfolding(crate::specs::Cursor::begin_line), using(crate::proofs::CutLemmas::begin_cut))]
+#[tactic(auto, unfolding(crate::specs::Reading::begin_line), using(crate::proofs::CutLemmas::begin_cut))]
 fn begin_line<'t>(
     alloc: Global,
     queues: u8,
@@ -91,7 +92,7 @@ pub(crate) fn empty_slot<'t>(states: StateList) -> RegionSlot<'t>
 }
 
 // The state at time zero, of the last line, where nothing follows it. The vector holds its words.
-#[tactic(auto, unfolding(crate::specs::Cursor::ended), using(crate::proofs::CutLemmas::end_cut))]
+#[tactic(auto, unfolding(crate::specs::Reading::ended), using(crate::proofs::CutLemmas::end_cut))]
 fn end_of<'t>(header: &Header, text: &'t [u8], words: &mut Vec<&'t [u8]>) -> Result<State, LogError>
     requires some { 1 ≤ header.now.queues }
     requires few { header.now.queues ≤ 32 }

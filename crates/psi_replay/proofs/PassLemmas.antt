@@ -7,17 +7,14 @@ use Rattle.psi_log_format.specs.Log.{LogRegion, Entry, Certificate}
 use Rattle.std.proofs.lemmas.Bool.{lt-leb}
 use Rattle.psi_log_words.specs.Refusal.{Refusal, refused, ◌>>=◌, holds_or, IsLogError}
 use Rattle.psi_log_words.specs.declared.refusals.LogCause.TheVariants.{TooLong}
-use Rattle.psi_log_words.specs.Words.{line_of, tokens_of}
 use Rattle.psi_log_words.specs.declared.refusals.LogError.{LogError}
 use Rattle.psi_log_words.specs.declared.refusals.LogError.TheVariants.{Refused, OutOfMemory}
-use Rattle.psi_log_words.proofs.WordLemmas.{bind_ok, ok_same}
 use Rattle.psi_log_words.specs.Regions.{box_before}
-use Rattle.psi_log_scan.specs.Lines.{read_step}
-use Rattle.psi_log.specs.Reading.{read_steps, read}
+use Rattle.psi_log.specs.Reading.{read_steps, ended, read}
 use Rattle.psi_log_scan.specs.Scanned.{next_step}
 use Rattle.psi_state.specs.declared.outcome.Step.{Step}
 use Rattle.psi_log.specs.Told.{region_at}
-use Rattle.psi_log.specs.Cursor.{Cursor, next_of, begun, ended, log_of, left_of}
+use Rattle.psi_log.specs.Cursor.{Cursor, next_of, begun, log_of, left_of}
 use Rattle.psi_log.proofs.PassLemmas.{read_begun}
 use Rattle.psi_log.proofs.FrontLemmas.{next_front}
 use Rattle.psi_log.proofs.ToldLemmas.{same_region}
@@ -54,13 +51,6 @@ bind_bind : {A B C : Type 0} (a : Result A Refusal) (b : A → Result B Refusal)
 bind_bind (Ok x) b c = refl
 bind_bind (Err refusal) b c = refl
 
--- a step that is read, and the text after it
-abbrev pub entry_end : List ℕ → Entry → Result (Entry × List ℕ) Refusal
-entry_end rest e = Ok (e, rest)
-
-abbrev steps_end : Entry → List Entry × List ℕ → Result (List Entry × List ℕ) Refusal
-steps_end e m = Ok (e ∷ m.0, m.1)
-
 module _ (caps : List ℕ) (limit : ℕ) (events : ℕ → ℕ) (f : Functions) (h : LogHeader) where
   -- a line that is read and judged leaves the lines after it
   stepped : (n k : ℕ) (region : LogRegion) (e : Entry) (steps : Result (List Entry × List ℕ) Refusal) (before : Result (Unit {0}) Refusal)
@@ -76,35 +66,16 @@ module _ (caps : List ℕ) (limit : ℕ) (events : ℕ → ℕ) (f : Functions) 
   pub lines_more : (count k n m : ℕ) (region : LogRegion) (text rest : List ℕ) (e : Entry) (before : Result (Unit {0}) Refusal)
       → next_step h n (box_before h.version region) text ≡ Ok (e, rest) → count ≡ suc k → m ≡ n + 1
       → lines_left caps limit events f h count n region text before ≡ lines_left caps limit events f h k m e.region rest (and_then before (judge_step caps limit events f n count region e))
-  unfolding lines_left next_step read_steps
+  unfolding lines_left read_steps
   lines_more count k n m region text rest e before next size then =
-      let line = bind_ok (line_of n text) (λ (line : List ℕ × List ℕ). read_step h n (box_before h.version region) (tokens_of line.0) >>= (λ (e : Entry). Ok (e, line.1))) (e, rest) next in
-      let entry = bind_ok (read_step h n (box_before h.version region) (tokens_of line.0.0)) (λ (e : Entry). Ok (e, line.0.1)) (e, rest) line.2 in
-      let both : (entry.0, line.0.1) ≡ (e, rest) = ok_same _ _ entry.2 in
-      let step : read_step h n (box_before h.version region) (tokens_of line.0.0) ≡ Ok e = entry.1 ∙ ap (λ (p : Entry × List ℕ). Ok p.0) both in
-      let behind : line.0.1 ≡ rest = ap (λ (p : Entry × List ℕ). p.1) both in
-      rw (size, then, line.1, step, behind) (stepped n k region e (read_steps h k (n + 1) (box_before h.version e.region) rest) before)
+      rw (size, then, next) (stepped n k region e (read_steps h k (n + 1) (box_before h.version e.region) rest) before)
 
   -- a line that is refused refuses them all
   pub lines_fail : (count k n : ℕ) (region : LogRegion) (text : List ℕ) (before : Result (Unit {0}) Refusal) (error : LogError)
       → IsLogError error (next_step h n (box_before h.version region) text) → count ≡ suc k → IsLogError error (lines_left caps limit events f h count n region text before)
-  unfolding lines_left next_step read_steps
+  unfolding lines_left read_steps
   lines_fail count k n region text before OutOfMemory fails size = tt
-  lines_fail count k n region text before (Refused l cause) fails size = rw size (lines (line_of n text) fails)
-    where
-      entries : (rest : List ℕ) (entry : Result Entry Refusal) → (entry >>= (λ (e : Entry). entry_end rest e)) ≡ Err (record { line = l; cause = cause })
-          → ((entry >>= (λ (e : Entry). read_steps h k (n + 1) (box_before h.version e.region) rest >>= (λ (m : List Entry × List ℕ). steps_end e m)))
-          >>= (λ (s : List Entry × List ℕ). lines_end (and_then before (judge_steps caps limit events f n (suc k) region s.0)) s.1)) ≡ Err (record { line = l; cause = cause })
-      entries rest (Ok e) is = absurd cc
-      entries rest (Err refusal) is = cc
-
-      lines : (line : Result (List ℕ × List ℕ) Refusal)
-          → (line >>= (λ (line : List ℕ × List ℕ). read_step h n (box_before h.version region) (tokens_of line.0) >>= (λ (e : Entry). entry_end line.1 e))) ≡ Err (record { line = l; cause = cause })
-          → ((line >>= (λ (line : List ℕ × List ℕ). read_step h n (box_before h.version region) (tokens_of line.0) >>= (λ (e : Entry). read_steps h k (n + 1) (box_before h.version e.region) line.1
-          >>= (λ (m : List Entry × List ℕ). steps_end e m))))
-          >>= (λ (s : List Entry × List ℕ). lines_end (and_then before (judge_steps caps limit events f n (suc k) region s.0)) s.1)) ≡ Err (record { line = l; cause = cause })
-      lines (Ok line) is = entries line.1 (read_step h n (box_before h.version region) (tokens_of line.0)) is
-      lines (Err refusal) is = cc
+  lines_fail count k n region text before (Refused l cause) fails size = rw (size, fails) refl
 
   -- after the last one the region is the last
   pub lines_over : (count n : ℕ) (region : LogRegion) (text : List ℕ) (before : Result (Unit {0}) Refusal) → count ≡ 0
@@ -260,13 +231,13 @@ module _ (caps : List ℕ) (limit : ℕ) (events : ℕ → ℕ) (f : Functions) 
 
   -- a step that is read and judged takes the loop one step on, whatever text comes after
   pub pass_more : (after : Cursor) (step : Step) (time : ℕ) (judging : Result (Unit {0}) Rejection) → r.header ≡ h → r.done ≡ done → done < h.horizon → time ≡ h.horizon - done
-      → next_of r ≡ entry_end after.rest (record { step = step; region = after.region }) → after.before ≡ r.region
+      → next_of r ≡ Ok (record { step = step; region = after.region }, after.rest) → after.before ≡ r.region
       → Gives (λ _. tt) judging (and_then (told kept) (judge_step caps limit events f (7 + done) time after.before (record { step = step; region = after.region })))
       → (more : List ℕ)
       → verdict_left caps limit events f h done r.region (r.rest ++ more) (told kept) ≡ verdict_left caps limit events f h (done + 1) after.region (after.rest ++ more) (told judging)
   pass_more after step time judging header place small is next before gives more =
       let e : Entry = record { step = step; region = after.region } in
-      let read = next_front h (7 + done) (box_before h.version r.region) r.rest after.rest more e (next_is (entry_end after.rest e) header place next) in
+      let read = next_front h (7 + done) (box_before h.version r.region) r.rest after.rest more e (next_is (Ok (e, after.rest)) header place next) in
       let judged_so : and_then (told kept) (judge_step caps limit events f (7 + done) time r.region (record { step = step; region = after.region })) ≡ told judging =
       ap (λ (b : LogRegion). and_then (told kept) (judge_step caps limit events f (7 + done) time b (record { step = step; region = after.region }))) (sym before) ∙ told_is judging _ gives in
       left_more caps limit events f h done time (done + 1) r.region (r.rest ++ more) (after.rest ++ more) e (told kept) read small is refl

@@ -6,8 +6,8 @@ use Rattle.psi_log_format.specs.declared.header.Header.{Header as LogHeader}
 use Rattle.psi_log_format.specs.Log.{LogRegion, in_set, Certificate}
 use Rattle.psi_log_words.specs.Refusal.{Refusal, ◌>>=◌, holds_or}
 use Rattle.psi_log_words.specs.Regions.{box_before}
-use Rattle.psi_log.specs.Reading.{read_steps, read}
-use Rattle.psi_log.specs.Cursor.{Cursor, ended}
+use Rattle.psi_log.specs.Reading.{read_steps, ended, read}
+use Rattle.psi_log.specs.Cursor.{Cursor}
 use Rattle.psi_replay.specs.Verdict.{rejected, is_within, holds_all, judge_steps, judge_end, judged, event_numbers, verdict_of}
 use Rattle.psi_replay.specs.declared.answers.Verdict.{Verdict}
 use Rattle.psi_replay.specs.declared.causes.Rejection.{Rejection}

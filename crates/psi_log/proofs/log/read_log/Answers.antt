@@ -3,7 +3,8 @@ use Rattle.std.specs.Prelude.{Ok, Err}
 use Rattle.std.proofs.Common.{ap, sym, ◌∙◌, subst}
 use Rattle.psi_log_format.specs.declared.header.Header.{Header}
 use Rattle.psi_log_words.specs.Refusal.{IsLogError}
-use Rattle.psi_log.specs.Cursor.{Cursor, ended}
+use Rattle.psi_log.specs.Reading.{ended}
+use Rattle.psi_log.specs.Cursor.{Cursor}
 use Rattle.psi_log.specs.Inner.LogViews.{certificate_of}
 use Rattle.psi_log.proofs.ReadLemmas.{read_found, read_only}
 use Rattle.psi_log.proofs.LogLemmas.{log_read, begun_fails, steps_fail, end_fails}
