@@ -4,13 +4,12 @@ use Rattle.std.proofs.Common.{ap, sym, ◌∙◌, subst, arith}
 use Rattle.psi_state.specs.declared.outcome.Step.{Step}
 use Rattle.psi_log_format.specs.declared.header.Header.{Header}
 use Rattle.psi_log_words.specs.Regions.{box_before}
-use Rattle.psi_log.specs.Reading.{ended}
 use Rattle.psi_log_scan.specs.Scanned.{next_step}
 use Rattle.psi_log.specs.Cursor.{Cursor, begun, IsCursor}
 use Rattle.psi_log.specs.Inner.SlotsViews.{region_in, either, HasQueues, IsFilled}
 use Rattle.psi_log.specs.Inner.ReaderViews.{cursor_of, IsKept}
 use Rattle.psi_log.specs.declared.slot.RegionSlot.{RegionSlot}
-use Rattle.psi_log.proofs.HeaderLemmas.{header_found, begin_line_found, ended_found}
+use Rattle.psi_log.proofs.HeaderLemmas.{header_found, begin_line_found}
 use Rattle.psi_log.proofs.PassLemmas.{begun_parts}
 use Rattle.psi_log_scan.proofs.LineLemmas.{next_found}
 
@@ -57,10 +56,6 @@ begun_found text c r =
     let is = (header_found text parts.0 parts.2).1 in
     let region = (begin_line_found parts.0.0.queues parts.0.1 parts.1 is.some is.few parts.3).1 in
     subst (λ (k : Cursor). IsCursor k × (k.done ≡ 0)) parts.4 (record { header = is; before = region; region = region; done = omega arith }, refl)
-
--- the state at time zero has a number for each queue
-pub ended_count : (h : Header) (text x : List ℕ) → ended h text ≡ Ok x → length x ≡ h.queues
-ended_count h text x r = (ended_found h text x r).1.count
 
 -- a reader keeps what it begins with
 pub begins_kept : (h : Header) (slot spare : RegionSlot) (rest : List ℕ) → IsCursor (cursor_of h 0 slot spare true rest) → IsFilled h.queues slot → HasQueues h.queues spare

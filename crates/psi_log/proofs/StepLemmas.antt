@@ -6,30 +6,11 @@ use Rattle.psi_state.specs.State.{Corners}
 use Rattle.psi_log_format.specs.declared.header.Header.{Header}
 use Rattle.psi_log_format.specs.Log.{Entry}
 use Rattle.psi_log_words.specs.Refusal.{Refusal, ◌>>=◌, IsLogError}
-use Rattle.psi_log_words.specs.Words.{line_of, tokens_of}
 use Rattle.psi_log_words.specs.declared.refusals.LogError.{LogError}
 use Rattle.psi_log_words.specs.declared.refusals.LogError.TheVariants.{Refused, OutOfMemory}
 use Rattle.psi_log_words.specs.Regions.{box_before}
-use Rattle.psi_log_scan.specs.Lines.{read_step}
 use Rattle.psi_log_scan.specs.Scanned.{next_step}
 use Rattle.psi_log.specs.Reading.{read_steps}
-
--- one line with its step
-pub next_ok : (h : Header) (n : ℕ) (before : Option Corners) (text : List ℕ) (line : List ℕ × List ℕ) (e : Entry) → line_of n text ≡ Ok line
-    → read_step h n before (tokens_of line.0) ≡ Ok e → next_step h n before text ≡ Ok (e, line.1)
-unfolding next_step
-next_ok h n before text line e cut read = rw (cut, read) refl
-
-pub next_line_refused : (h : Header) (n : ℕ) (before : Option Corners) (text : List ℕ) (error : LogError) → IsLogError error (line_of n text) → IsLogError error (next_step h n before text)
-unfolding next_step
-next_line_refused h n before text (Refused l cause) fails = rw fails refl
-next_line_refused h n before text OutOfMemory fails = tt
-
-pub next_step_refused : (h : Header) (n : ℕ) (before : Option Corners) (text : List ℕ) (line : List ℕ × List ℕ) (error : LogError) → line_of n text ≡ Ok line
-    → IsLogError error (read_step h n before (tokens_of line.0)) → IsLogError error (next_step h n before text)
-unfolding next_step
-next_step_refused h n before text line (Refused l cause) cut fails = rw (cut, fails) refl
-next_step_refused h n before text line OutOfMemory cut fails = tt
 
 -- the steps that are read after others
 abbrev pub behind : List Entry → Result (List Entry × List ℕ) Refusal → Result (List Entry × List ℕ) Refusal

@@ -49,7 +49,8 @@ pub(crate) fn read_begin(
 pub(crate) fn read_end(line: u32, queues: u8, words: &[&[u8]]) -> Result<State, LogError>
     requires some { 1 ≤ queues }
     requires few { queues ≤ 32 }
-    ensures { Gives (λ x. x) result (read_end line queues (map (λ word. word.now) words.now)) }
+    ensures value { Gives (λ x. x) result (read_end line queues (map (λ word. word.now) words.now)) }
+    ensures count { IfOk result (λ x. length x ≡ queues) }
 {
     match words {
         [first, state] => {

@@ -91,23 +91,6 @@ pub(crate) fn empty_slot<'t>(states: StateList) -> RegionSlot<'t>
     RegionSlot::new(ListedRegion::Set { first: 0, count: 0 }, states)
 }
 
-// The state at time zero, of the last line, where nothing follows it. The vector holds its words.
-#[tactic(auto, unfolding(crate::specs::Reading::ended), using(crate::proofs::CutLemmas::end_cut))]
-fn end_of<'t>(header: &Header, text: &'t [u8], words: &mut Vec<&'t [u8]>) -> Result<State, LogError>
-    requires some { 1 ≤ header.now.queues }
-    requires few { header.now.queues ≤ 32 }
-    requires horizon { header.now.horizon ≤ 4194304 }
-    ensures { Gives (λ x. x) result (ended header.now text.now) }
-{
-    let line = 7 + header.horizon;
-    let rest = read_words(line, text, words)?;
-    let end = read_end(line, header.queues, words)?;
-    if !rest.is_empty() {
-        return Err(LogCause::TrailingText.at(line + 1));
-    }
-    Ok(end)
-}
-
 impl<'t> LogReader<'t> {
     /// Begins to read a text as a log: its header, and the region at which the run begins.
     ///
@@ -222,13 +205,19 @@ impl<'t> LogReader<'t> {
     /// # Errors
     ///
     /// The first refusal of its line; `TrailingText` where text follows it; `OutOfMemory`.
-    #[tactic(auto, using(crate::proofs::ReaderLemmas::ended_count))]
+    #[tactic(auto, unfolding(crate::specs::Reading::ended), using(crate::proofs::CutLemmas::end_cut))]
     pub fn end(&mut self) -> Result<State, LogError>
         requires { self.old.done ≡ self.old.header.horizon }
         ensures value { Gives (λ x. x) result (ended self.old.header self.old.rest) }
         ensures count { IfOk result (λ x. length x ≡ self.old.header.queues) }
         ensures same { self.new ≡ self.old }
     {
-        end_of(&self.header, self.rest, &mut self.words)
+        let line = 7 + self.header.horizon;
+        let rest = read_words(line, self.rest, &mut self.words)?;
+        let end = read_end(line, self.header.queues, &self.words)?;
+        if !rest.is_empty() {
+            return Err(LogCause::TrailingText.at(line + 1));
+        }
+        Ok(end)
     }
 }

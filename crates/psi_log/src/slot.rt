@@ -257,39 +257,6 @@ fn scan_onto<'t>(
     Ok(Some(ReadLine { step, stays, rest }))
 }
 
-// The step whose line begins a text, word by word, with the region before it in a slot. The region after it is read
-// into another slot. The vector holds the line's words.
-fn words_onto<'t>(
-    words: &mut Vec<&'t [u8]>,
-    header: &Header,
-    line: u32,
-    from: &RegionSlot<'t>,
-    to: &mut RegionSlot<'t>,
-    text: &'t [u8],
-) -> Result<ReadLine<'t>, LogError>
-    requires from { IsFilled header.now.queues from.now }
-    requires some { 1 ≤ header.now.queues }
-    requires few { header.now.queues ≤ 32 }
-    requires queues { HasQueues header.now.queues to.old }
-    ensures filled { IfOk result (λ read. read.stays ≡ false → IsFilled header.now.queues to.new) }
-    ensures value { IfOk result (λ read. next_step header.now line (box_before header.now.version (region_in from.now)) text.now
-        ≡ Ok (record { step = read.step; region = either read.stays (region_in from.now) (region_in to.new) }, read.rest.now)) }
-    ensures queues { HasQueues header.now.queues to.new }
-    ensures refused { IfErr result (λ error. IsLogError error (next_step header.now line (box_before header.now.version (region_in from.now)) text.now)) }
-{
-    let before = from.box_in(header.version);
-    let read = read_by_tokens(header, line, before, text, words, &mut to.states);
-    let (read, rest) = match read {
-        Ok(read) => read,
-        Err(error) => return Err(error),
-    };
-    to.region = read.region;
-    to.last = None;
-    let step = read.step;
-    let stays = false;
-    Ok(ReadLine { step, stays, rest })
-}
-
 /// The step whose line begins a text, with the region before it in a slot. The region after it is read onto another
 /// slot, unless it is the one before. The vector holds the words of a line that isn't written as it is to be.
 ///
@@ -319,5 +286,15 @@ pub(crate) fn read_onto<'t>(
         Ok(None) => {}
         Err(_) => return Err(LogError::OutOfMemory),
     }
-    words_onto(words, header, line, from, to, text)
+    let before = from.box_in(header.version);
+    let read = read_by_tokens(header, line, before, text, words, &mut to.states);
+    let (read, rest) = match read {
+        Ok(read) => read,
+        Err(error) => return Err(error),
+    };
+    to.region = read.region;
+    to.last = None;
+    let step = read.step;
+    let stays = false;
+    Ok(ReadLine { step, stays, rest })
 }

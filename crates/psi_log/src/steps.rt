@@ -63,7 +63,7 @@ fn read_step(
 /// # Errors
 ///
 /// The line's first refusal; `OutOfMemory`.
-#[tactic(auto, using(crate::proofs::StepLemmas::next_ok, crate::proofs::StepLemmas::next_line_refused, crate::proofs::StepLemmas::next_step_refused))]
+#[tactic(auto, unfolding(psi_log_scan::specs::Scanned::next_step), using(psi_log_scan::proofs::CutLemmas::step_cut))]
 pub(crate) fn read_by_tokens<'t>(
     header: &Header,
     line: u32,
