@@ -203,32 +203,6 @@ fn set_onto<'t>(
     Ok(Some((false, at + set.text.len())))
 }
 
-// Reads into a slot the region that stands after an event as it is to be: whether it is that of another slot, which
-// then isn't put there, and the place after its line.
-fn region_onto<'t>(
-    header: &Header,
-    from: &RegionSlot<'t>,
-    to: &mut RegionSlot<'t>,
-    text: &'t [u8],
-    at: usize,
-) -> Result<Option<(bool, usize)>, AllocError>
-    requires some { 1 ≤ header.now.queues }
-    requires few { header.now.queues ≤ 32 }
-    requires from { IsFilled header.now.queues from.now }
-    requires queues { HasQueues header.now.queues to.old }
-    ensures queues { HasQueues header.now.queues to.new }
-    ensures filled { IfOk result (λ line. IfSome line (λ read. read.0 ≡ false → IsFilled header.now.queues to.new)) }
-    ensures within { IfOk result (λ line. IfSome line (λ read. read.1 ≤ length text.now)) }
-    ensures line { IfOk result (λ line. IfSome line (λ read. GoesOn header.now.queues (box_before header.now.version (region_in from.now)) text.now at read.1 (either read.0 (region_in from.now) (region_in to.new)))) }
-{
-    if let Some(bounds) = from.box_in(header.version) {
-        if let Some(read) = move_onto(header.queues, bounds, to, text, at) {
-            return Ok(Some(read));
-        }
-    }
-    set_onto(header.queues, from, to, text, at)
-}
-
 // The step whose line begins a text, in one pass, with the region before it in a slot, where the line is written as
 // it is to be. The region after it is read into another slot, unless it is the one before. Where nothing is given,
 // nothing is said of the line.
@@ -250,7 +224,13 @@ fn scan_onto<'t>(
     let Some((step, at)) = step_at(header.version, text) else {
         return Ok(None);
     };
-    let Some((stays, end)) = region_onto(header, from, to, text, at)? else {
+    if let Some(bounds) = from.box_in(header.version) {
+        if let Some((stays, end)) = move_onto(header.queues, bounds, to, text, at) {
+            let rest = &text[end..];
+            return Ok(Some(ReadLine { step, stays, rest }));
+        }
+    }
+    let Some((stays, end)) = set_onto(header.queues, from, to, text, at)? else {
         return Ok(None);
     };
     let rest = &text[end..];
