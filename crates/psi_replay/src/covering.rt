@@ -85,19 +85,7 @@ fn box_covers_each<E: EventLaw>(event: &E, before: &Bounds, after: &BorrowedRegi
     true
 }
 
-// Whether a region holds what the event makes of each state of a set.
-fn covers_set<E: EventLaw>(event: &E, before: &Rows<'_>, after: &BorrowedRegion<'_>) -> bool
-    requires before { is_within (E.capacities event.now) (in_set before.now.states) ≡ true }
-    requires after { IsRegion (length (E.capacities event.now)) (shown after.now) }
-    ensures { result ≡ covers (E.function event.now) (in_set before.now.states) (shown after.now) }
-{
-    match after {
-        BorrowedRegion::Box(_) => set_covers_box(event, before, after),
-        BorrowedRegion::Set(to) => set_covers_set(event, before, to),
-    }
-}
-
-// As `covers_set`, where the region is a box.
+// Whether a box holds what the event makes of each state of a set.
 fn set_covers_box<E: EventLaw>(event: &E, before: &Rows<'_>, after: &BorrowedRegion<'_>) -> bool
     requires before { is_within (E.capacities event.now) (in_set before.now.states) ≡ true }
     requires after { IsRegion (length (E.capacities event.now)) (shown after.now) }
@@ -113,7 +101,7 @@ fn set_covers_box<E: EventLaw>(event: &E, before: &Rows<'_>, after: &BorrowedReg
     true
 }
 
-// As `covers_set`, where the region is a set.
+// Whether a set holds what the event makes of each state of another.
 fn set_covers_set<E: EventLaw>(event: &E, before: &Rows<'_>, after: &Rows<'_>) -> bool
     requires before { is_within (E.capacities event.now) (in_set before.now.states) ≡ true }
     requires after { IsSet (length (E.capacities event.now)) after.now.states }
@@ -150,7 +138,10 @@ fn covers<'l, E: EventLaw>(
             let _queues = bounds.len();
             covers_box(event, bounds, after)
         }
-        BorrowedRegion::Set(rows) => covers_set(event, rows, after),
+        BorrowedRegion::Set(rows) => match after {
+            BorrowedRegion::Box(_) => set_covers_box(event, rows, after),
+            BorrowedRegion::Set(to) => set_covers_set(event, rows, to),
+        },
     }
 }
 

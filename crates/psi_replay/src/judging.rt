@@ -160,21 +160,12 @@ pub(crate) fn judge_next<E: EventLaw, P: Past>(
     }
 }
 
-// Judges the last line.
-#[tactic(auto, unfolding(crate::specs::Verdict::judge_end))]
-fn judge_end(line: u32, last: &BorrowedRegion<'_>, end: &State) -> Result<(), Rejection>
-    requires { IsRegion (length end.now) (shown last.now) }
-    ensures { Gives (λ _. tt) result (judge_end line (shown last.now) end.now) }
-{
-    RuleCause::NotSingle.unless(is_single(last), line)?;
-    RuleCause::WrongState.unless(holds(last, end, &mut 0), line)
-}
-
 /// Judges the last line, unless a rule is broken already.
 ///
 /// # Errors
 ///
 /// The first line that breaks a rule, with its first cause.
+#[tactic(auto, unfolding(crate::specs::Verdict::judge_end))]
 pub(crate) fn judge_last(
     judged: Result<(), Rejection>,
     line: u32,
@@ -184,8 +175,7 @@ pub(crate) fn judge_last(
     requires { IsRegion (length end.now) (shown last.now) }
     ensures { Gives (λ _. tt) result (and_then (told judged) (judge_end line (shown last.now) end.now)) }
 {
-    match judged {
-        Ok(()) => judge_end(line, last, end),
-        Err(rejection) => Err(rejection),
-    }
+    judged?;
+    RuleCause::NotSingle.unless(is_single(last), line)?;
+    RuleCause::WrongState.unless(holds(last, end, &mut 0), line)
 }

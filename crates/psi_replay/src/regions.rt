@@ -81,20 +81,9 @@ fn set_is_within(rows: &Rows<'_>, caps: &State) -> bool
     requires { IsRegion (length caps.now) (in_set rows.now.states) }
     ensures { result ≡ is_within caps.now (in_set rows.now.states) }
 {
-    if rows.len() <= 2 {
-        return each_is_within(rows, caps);
-    }
-    if rows.are_at_most(least_room(caps)) {
+    if rows.len() > 2 && rows.are_at_most(least_room(caps)) {
         return true;
     }
-    each_is_within(rows, caps)
-}
-
-// As `set_is_within`, state by state.
-fn each_is_within(rows: &Rows<'_>, caps: &State) -> bool
-    requires { IsRegion (length caps.now) (in_set rows.now.states) }
-    ensures { result ≡ is_within caps.now (in_set rows.now.states) }
-{
     for place in 0..rows.len() {
         if !rows.leq(place, caps) {
             return false;
