@@ -1,7 +1,7 @@
 -- The log of a run that ends with one state is accepted by its checker.
 use Rattle.std.proofs.Common.{◌≡◌, ℕ, zero, suc, ◌+◌, ◌-◌, ◌%◌, ◌<◌, ◌≤◌, ◌^◌, List, [], ◌∷◌, length, map, Bool, true, nat_le, ◌==◌, Some, Result, Ok, inl, inr, refl, sym, ◌∙◌, ap, subst, arith}
 use Rattle.std.specs.Cmp.Lexicographic.{pointwise}
-use Rattle.std.proofs.lemmas.Bool.{cases_Bool, le-leb}
+use Rattle.std.proofs.lemmas.Bool.{cases_Bool, le-leb, eq-eqb}
 use Rattle.std.proofs.lemmas.List.{length-map}
 use Rattle.psi_state.specs.State.{AreCapacities, numbers_from, all_states}
 use Rattle.psi_state.specs.Members.{In}
@@ -30,14 +30,6 @@ use Rattle.psi_log_writer.specs.Accepted.{LogsAreAccepted}
 use Rattle.psi_log_writer.proofs.WalkingLemmas.{region_of-set}
 use Rattle.psi_log_writer.proofs.RegionLemmas.{IsKept, kept-start, kept-step, kept-after, splits-few, region_of-plain, states_of-region, state-below, region_of-region}
 
--- a number is itself
-same-number : (m n : ℕ) → m ≡ n → (m == n) ≡ true
-same-number m n is = grind arith
-
--- a rule that holds leaves the rest
-holds-then : {B : Type 0} (refusal : Refusal) (b : Bool) (rest : Unit {0} → Result B Refusal) → b ≡ true → (holds_or refusal b >>= rest) ≡ rest tt
-holds-then {B} refusal b rest is = ap (λ (c : Bool). holds_or refusal c >>= rest) is
-
 -- the rules of regions
 within-judged : (split : ℕ) (caps : List ℕ) (a : Area) → IsKept split caps a → is_within caps (region_of a) ≡ true
 within-judged split caps a kept =
@@ -58,12 +50,9 @@ covers-judged split caps f a closed kept =
     (subst (λ (xs : List (List ℕ)). In (f x) xs) (sym (states_of-region split caps after (kept-step split caps f a closed kept)))
     (step-has split caps f a x closed kept.area (subst (λ (xs : List (List ℕ)). In x xs) (states_of-region split caps a kept) member))))
 
-set-small : (xs : List (List ℕ)) (r : LogRegion) → is_small (in_set xs) r ≡ true
-set-small xs r = refl
-
 small-judged : (split : ℕ) (caps : List ℕ) (f : List ℕ → List ℕ) (a : Area) → split ≤ 4096 → IsKept split caps a → is_small (region_of a) (region_of (step split f a)) ≡ true
 small-judged split caps f a most kept = elim (cases_Bool a.is_split) [
-  | inl is ↦ ap (λ (r : LogRegion). is_small r (region_of (step split f a))) (region_of-set a is) ∙ set-small a.states (region_of (step split f a))
+  | inl is ↦ ap (λ (r : LogRegion). is_small r (region_of (step split f a))) (region_of-set a is)
   | inr plain ↦ elim (cases_Bool (splits split a)) [
     | inl few ↦ (let own : length a.states ≤ split = splits-few split caps a kept few in
         let count : length (states_of (in_box (corners a.states))) ≡ length a.states =
@@ -85,9 +74,7 @@ single-list (x ∷ y ∷ ys) s is = absurd cc
 end-judged : (n : ℕ) (last : LogRegion) (s : List ℕ) → states_of last ≡ s ∷ [] → judge_end n last s ≡ Ok tt
 unfolding judge_end
 end-judged n last s is =
-    holds-then (rejected n NotSingle) (length (states_of last) == 1) (λ _. holds_or (rejected n WrongState) (has (states_of last) s))
-    (ap (λ (xs : List (List ℕ)). length xs == 1) is)
-    ∙ ap (λ (b : Bool). holds_or (rejected n WrongState) b) (has-from_In (states_of last) s (subst (λ (xs : List (List ℕ)). In s xs) (sym is) (inl refl)))
+    rw (ap (λ (xs : List (List ℕ)). length xs == 1) is, has-from_In (states_of last) s (subst (λ (xs : List (List ℕ)). In s xs) (sym is) (inl refl))) refl
 
 length-numbers : (first n : ℕ) → length (numbers_from first n) ≡ n
 length-numbers first zero = refl
@@ -97,16 +84,7 @@ module _ (caps : List ℕ) (limit : ℕ) (events : ℕ → ℕ) (f : ℕ → Lis
   step-judged : (n t : ℕ) (before : LogRegion) (e : Entry) → e.step.number ≡ t → e.step.event ≡ events t → is_within caps e.region ≡ true → is_small before e.region ≡ true
       → covers (f t) before e.region ≡ true → judge_step caps limit events f n t before e ≡ Ok tt
   unfolding judge_step
-  step-judged n t before e number event within small covered =
-      let last : Result (Unit {0}) Refusal = holds_or (rejected n NotCovered) (covers (f t) before e.region) in
-      let third : Unit {0} → Result (Unit {0}) Refusal = λ _. holds_or (rejected n SplitTooLarge) (is_small before e.region) >>= (λ _. last) in
-      let second : Unit {0} → Result (Unit {0}) Refusal = λ _. holds_or (rejected n OutsideBox) (is_within caps e.region) >>= third in
-      let first : Unit {0} → Result (Unit {0}) Refusal = λ _. holds_or (rejected n WrongEvent) (e.step.event == events t) >>= second in
-      holds-then (rejected n StepNumber) (e.step.number == t) first (same-number e.step.number t number)
-      ∙ (holds-then (rejected n WrongEvent) (e.step.event == events t) second (same-number e.step.event (events t) event)
-      ∙ (holds-then (rejected n OutsideBox) (is_within caps e.region) third within
-      ∙ (holds-then (rejected n SplitTooLarge) (is_small before e.region) (λ _. last) small
-      ∙ ap (λ (b : Bool). holds_or (rejected n NotCovered) b) covered)))
+  step-judged n t before e number event within small covered = rw (eq-eqb e.step.number t number, eq-eqb e.step.event (events t) event, within, small, covered) refl
 
   -- the lines of the steps that are left
   steps-judged : (split horizon m k n : ℕ) → split ≤ 4096 → AreClosed caps f → k + n ≡ horizon
@@ -138,11 +116,6 @@ module _ (caps : List ℕ) (limit : ℕ) (events : ℕ → ℕ) (f : ℕ → Lis
       let t = h.horizon in
       let begin = region_of (start caps) in
       let entries = map (entry_after split f caps events t) (numbers_from 0 t) in
-      let end : LogRegion → Result (Unit {0}) Refusal = λ last. judge_end (7 + t) last state in
-      let steps : Unit {0} → Result (Unit {0}) Refusal = λ _. judge_steps caps limit events f 7 t begin entries >>= end in
-      let whole : Unit {0} → Result (Unit {0}) Refusal = λ _. holds_or (rejected 6 NotCovered) (holds_all caps begin) >>= steps in
-      let inside : Unit {0} → Result (Unit {0}) Refusal = λ _. holds_or (rejected 6 OutsideBox) (is_within caps begin) >>= whole in
-      let horizon : Unit {0} → Result (Unit {0}) Refusal = λ _. holds_or (rejected 5 Header) (nat_le t (2 ^ limit)) >>= inside in
       let e : t ≡ t - 0 = omega arith in
       let last = region_after split f caps t t in
       let done : judge_steps caps limit events f 7 t begin entries ≡ Ok (region_of last) =
@@ -150,11 +123,14 @@ module _ (caps : List ℕ) (limit : ℕ) (events : ℕ → ℕ) (f : ℕ → Lis
       let one : states_of (region_of last) ≡ state ∷ [] =
       states_of-region split caps last (kept-after split caps f t t closed)
       ∙ (ap (λ (a : Area). a.states) (region_after-whole split caps f t) ∙ single-list (region_at split f caps t).states state ends) in
-      holds-then (rejected 2 Header) (h.queues == length caps) horizon (same-number h.queues (length caps) queues)
-      ∙ (holds-then (rejected 5 Header) (nat_le t (2 ^ limit)) inside (le-leb t (2 ^ limit) few)
-      ∙ (holds-then (rejected 6 OutsideBox) (is_within caps begin) whole (within-judged split caps (start caps) (kept-start split caps))
-      ∙ (holds-then (rejected 6 NotCovered) (holds_all caps begin) steps (whole-judged split caps)
-      ∙ (ap (λ (r : Result LogRegion Refusal). r >>= end) done ∙ end-judged (7 + t) (region_of last) state one))))
+      rw (
+        eq-eqb h.queues (length caps) queues,
+        le-leb t (2 ^ limit) few,
+        within-judged split caps (start caps) (kept-start split caps),
+        whole-judged split caps,
+        done,
+        end-judged (7 + t) (region_of last) state one,
+      ) refl
 
   -- and it is a log
   pub recorded-log : (split : ℕ) (h : Head) (state : List ℕ) → AreCapacities caps → split ≤ 4096 → AreClosed caps f → ((t : ℕ) → events t ≤ 1024)

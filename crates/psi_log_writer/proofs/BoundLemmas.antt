@@ -1,7 +1,7 @@
 -- How long the lines of a run are at most once its region is a set, by the number of the states and of the queues.
 use Rattle.std.proofs.Common.{◌≡◌, ℕ, zero, suc, ◌+◌, ◌-◌, ◌*◌, ◌<◌, ◌≤◌, ◌^◌, List, [], ◌∷◌, ◌++◌, length, map, codes, true, slice_index, inl, inr, refl, sym, ◌∙◌, ap, subst, arith, length-append}
 use Rattle.std.specs.Fmt.{decimal}
-use Rattle.std.proofs.Math.Nat.{mul-le-mul_right}
+use Rattle.std.proofs.Math.Nat.{mul-le-mul_right, suc-mul}
 use Rattle.std.proofs.lemmas.Fmt.{length-decimal-le}
 use Rattle.std.proofs.lemmas.Bool.{or_left}
 use Rattle.psi_state.specs.State.{IsVector, AreCapacities}
@@ -22,10 +22,6 @@ use Rattle.psi_log_writer.proofs.WalkingLemmas.{next-set}
 use Rattle.psi_log_writer.proofs.TextLemmas.{front_text-more, log_text-recorded}
 use Rattle.psi_log_writer.proofs.RegionLemmas.{length-image, kept-after, state-below}
 
--- one more of a number of things
-pub times-more : (k m : ℕ) → suc k * m ≡ m + k * m
-times-more k m = omega arith
-
 -- each number of a list has at most so many digits
 abbrev pub AreShort : ℕ → List ℕ → Type 0
 AreShort w x = (i : ℕ) → length (decimal (slice_index x i)) ≤ w
@@ -33,12 +29,12 @@ AreShort w x = (i : ℕ) → length (decimal (slice_index x i)) ≤ w
 numbers-within : (w : ℕ) (x : List ℕ) → AreShort w x → length (numbers_text x) ≤ length x * suc w
 unfolding numbers_text
 numbers-within w [] each = omega arith
-numbers-within w (a ∷ []) each = (let own : length (decimal a) ≤ w = each 0 in let one = times-more 0 (suc w) in omega arith)
+numbers-within w (a ∷ []) each = (let own : length (decimal a) ≤ w = each 0 in let one = suc-mul 0 (suc w) in omega arith)
 numbers-within w (a ∷ b ∷ x) each =
     let own : length (decimal a) ≤ w = each 0 in
     let rest : length (numbers_text (b ∷ x)) ≤ length (b ∷ x) * suc w = numbers-within w (b ∷ x) (λ i. each (suc i)) in
     let count : length (numbers_text (a ∷ b ∷ x)) ≡ length (decimal a) + length (44 ∷ numbers_text (b ∷ x)) = length-append (decimal a) (44 ∷ numbers_text (b ∷ x)) in
-    let all = times-more (length (b ∷ x)) (suc w) in
+    let all = suc-mul (length (b ∷ x)) (suc w) in
     omega arith
 
 -- the words of states of so many queues
@@ -51,7 +47,7 @@ set-within n w (x ∷ xs) each =
     let text : length (numbers_text x) ≤ n * suc w = subst (λ k. length (numbers_text x) ≤ k * suc w) size (numbers-within w x own.1) in
     let rest = set-within n w xs (λ y member. each y (inr member)) in
     let count : length (spaced_words (map numbers_text (x ∷ xs))) ≡ length (32 ∷ numbers_text x) + length (spaced_words (map numbers_text xs)) = length-append (32 ∷ numbers_text x) (spaced_words (map numbers_text xs)) in
-    let all : length (x ∷ xs) * suc (n * suc w) ≡ suc (n * suc w) + length xs * suc (n * suc w) = times-more (length xs) (suc (n * suc w)) in
+    let all = suc-mul (length xs) (suc (n * suc w)) in
     omega arith
 
 -- the words of a set with its name
@@ -74,8 +70,7 @@ pub end-short : (x : List ℕ) → IsVector x → length (end_text x) ≤ 200
 end-short x vector =
     let text = numbers-short x vector.each in
     let few = vector.few in
-    let count : length (end_text x) ≡ 3 + length ((32 ∷ numbers_text x) ++ codes "\n") = ap (λ (t : List ℕ). length t) (end_pieces x) ∙ length-append (codes "end") ((32 ∷ numbers_text x) ++ codes "\n") in
-    let rest : length ((32 ∷ numbers_text x) ++ codes "\n") ≡ length (32 ∷ numbers_text x) + 1 = length-append (32 ∷ numbers_text x) (codes "\n") in
+    let count = simp length-append at (ap (λ (t : List ℕ). length t) (end_pieces x)) in
     omega arith
 
 -- the line of a step
@@ -84,13 +79,7 @@ unfolding spaced_words
 step-short s words number event =
     let first : length (decimal s.number) ≤ 7 = length-decimal-le 7 s.number (omega arith) number (omega arith) in
     let second : length (decimal s.event) ≤ 4 = length-decimal-le 4 s.event (omega arith) event (omega arith) in
-    let head = spaced_words (decimal s.number ∷ decimal s.event ∷ []) in
-    let both : length head ≡ length (32 ∷ decimal s.number) + length ((32 ∷ decimal s.event) ++ []) = length-append (32 ∷ decimal s.number) ((32 ∷ decimal s.event) ++ []) in
-    let one : length ((32 ∷ decimal s.event) ++ []) ≡ length (32 ∷ decimal s.event) + 0 = length-append (32 ∷ decimal s.event) [] in
-    let front : length (codes "step" ++ head) ≡ 4 + length head = length-append (codes "step") head in
-    let back : length (spaced_words words ++ codes "\n") ≡ length (spaced_words words) + 1 = length-append (spaced_words words) (codes "\n") in
-    let whole : length (step_text s words) ≡ length (codes "step" ++ head) + length (spaced_words words ++ codes "\n") =
-    ap (λ (t : List ℕ). length t) (step_pieces s words) ∙ length-append (codes "step" ++ head) (spaced_words words ++ codes "\n") in
+    let whole = simp length-append at (ap (λ (t : List ℕ). length t) (step_pieces s words)) in
     omega arith
 
 named-short : (n : ℕ) (xs : List (List ℕ)) → ((x : List ℕ) → In x xs → IsState n x) → length (spaced_words (region_words (in_set xs))) ≤ 4 + length xs * (6 * n + 1)
@@ -153,7 +142,7 @@ module _ (split : ℕ) (f : ℕ → List ℕ → List ℕ) (caps : List ℕ) (ev
       let last : length (front_text split f caps events h (suc more + done)) ≡ length (front_text split f caps events h (suc (more + done))) = ap (λ n. length (front_text split f caps events h n)) e in
       let count : length (front_text split f caps events h (suc (more + done))) ≡ length (front_text split f caps events h (more + done)) + length (step_line split f caps events h.horizon (more + done)) =
       ap (λ (t : List ℕ). length t) (front_text-more split f caps events h (more + done) version) ∙ length-append (front_text split f caps events h (more + done)) (step_line split f caps events h.horizon (more + done)) in
-      let all : suc more * width ≡ width + more * width = times-more more width in
+      let all = suc-mul more width in
       omega arith
 
   pub log-from : (state : List ℕ) (room : ℕ) → done ≤ h.horizon → IsVector state → (h.horizon - done) * width + 200 ≤ room

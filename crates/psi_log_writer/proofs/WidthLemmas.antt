@@ -3,7 +3,7 @@ use Rattle.std.proofs.Common.{◌≡◌, ◌⊎◌, ℕ, zero, suc, ◌+◌, ◌
 use Rattle.std.specs.Prelude.{cond}
 use Rattle.std.specs.Fmt.{decimal}
 use Rattle.std.specs.List.{filter}
-use Rattle.std.proofs.Math.Nat.{mul-le-mul_right}
+use Rattle.std.proofs.Math.Nat.{suc-mul, mul-le-mul_right}
 use Rattle.std.proofs.lemmas.Fmt.{length-decimal-le}
 use Rattle.std.proofs.lemmas.Bool.{true≢false, cases_Bool, cases_lt}
 use Rattle.std.proofs.lemmas.List.{get_or_past}
@@ -33,7 +33,7 @@ use Rattle.psi_log_writer.proofs.WalkingLemmas.{next-set}
 use Rattle.psi_log_writer.proofs.TextLemmas.{text_before-front}
 use Rattle.psi_log_writer.proofs.AcceptedLemmas.{events-few}
 use Rattle.psi_log_writer.proofs.RegionLemmas.{IsKept, kept-after, state-below, region_of-plain}
-use Rattle.psi_log_writer.proofs.BoundLemmas.{AreShort, named-set, HasFew, few-next, step-short, times-more, log-from, log-ample}
+use Rattle.psi_log_writer.proofs.BoundLemmas.{AreShort, named-set, HasFew, few-next, step-short, log-from, log-ample}
 
 -- the numbers of a state have no more digits than its capacities
 below-short : (w : ℕ) (caps x : List ℕ) → 0 < w → AreCapacities caps → ((i : ℕ) → slice_index caps i < 10 ^ w) → IsBelow x caps → AreShort w x
@@ -94,7 +94,7 @@ picked-within w s (suc n) from to small low high =
     ap (λ (ws : List (List ℕ)). length (spaced_words ws)) (picked-append from to (s ∷ []) (numbers_from (suc s) n))
     ∙ (ap (λ (t : List ℕ). length t) (spaced-append (picked from to (s ∷ [])) (picked from to (numbers_from (suc s) n)))
     ∙ length-append (spaced_words (picked from to (s ∷ []))) (spaced_words (picked from to (numbers_from (suc s) n)))) in
-    let all = times-more n (2 * w + 5) in
+    let all = suc-mul n (2 * w + 5) in
     omega arith
 
 move-within : (w n : ℕ) (from to : Corners) → length from.lo ≡ n → n ≤ 100 → AreShort w to.lo → AreShort w to.hi → length (spaced_words (move_words from to)) ≤ 5 + n * (2 * w + 5)
