@@ -3,7 +3,7 @@ use Rattle.std.specs.Prelude.{◌≡◌, ℕ, suc, ◌+◌, List, [], ◌∷◌,
 use Rattle.std.specs.List.{list_all}
 use Rattle.std.specs.Str.{bytes_eq}
 use Rattle.std.proofs.Common.{inl, inr, ap, sym, ◌∙◌}
-use Rattle.std.proofs.lemmas.Bool.{or_cases, false_from_ne_true}
+use Rattle.std.proofs.lemmas.Bool.{or_right, or_cases, false_from_ne_true}
 use Rattle.std.proofs.lemmas.Slice.Eq.{bytes_eq-Decides}
 use Rattle.psi_state.specs.Members.{In}
 use Rattle.psi_log_words.proofs.OrderLemmas.{drop_get}
@@ -39,12 +39,8 @@ pub has-from_In : (xs : List (List ℕ)) (x : List ℕ) → In x xs → has xs x
 has-from_In [] x member = absurd member
 has-from_In (y ∷ ys) x member = elim member [
   | inl e ↦ ap (λ b. b || has ys x) ((bytes_eq-Decides x y).1 e)
-  | inr rest ↦ either (bytes_eq x y) (has ys x) (has-from_In ys x rest)
+  | inr rest ↦ or_right (bytes_eq x y) (has ys x) (has-from_In ys x rest)
 ]
-  where
-    either : (a b : Bool) → b ≡ true → (a || b) ≡ true
-    either true b is = refl
-    either false b is = is
 
 pub place_of : {X : Type 0} (xs : List X) (x : X) → In x xs → (k : ℕ) × (slice_get xs k ≡ Some x)
 place_of [] x member = absurd member

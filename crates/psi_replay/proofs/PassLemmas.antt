@@ -140,11 +140,8 @@ module _ (caps : List ℕ) (limit : ℕ) (events : ℕ → ℕ) (f : Functions) 
       ap (λ (k : LogHeader). and_then (told steps) (judge_end (7 + k.horizon) last c.final)) (sym header)
       ∙ ap (λ (y : List ℕ). and_then (told steps) (judge_end (7 + h.horizon) last y)) (sym final) ∙ told_is end _ ends in
       let rules : judged caps limit events f c ≡ told end =
-      judged_parts caps limit events f c
-      ∙ ap (λ (b : Result (Unit {0}) Refusal). and_then b (judge_steps caps limit events f 7 c.header.horizon c.begin c.entries) >>= (λ (r : LogRegion). judge_end (7 + c.header.horizon) r c.final)) first_is
-      ∙ ap (λ (s : Result LogRegion Refusal). s >>= (λ (r : LogRegion). judge_end (7 + c.header.horizon) r c.final))
-      (run last (subst (λ (k : LogHeader). region_at c k.horizon ≡ Some last) header behind))
-      ∙ bind_bind (told steps) (λ _. Ok last) (λ (r : LogRegion). judge_end (7 + c.header.horizon) r c.final) ∙ last_is in
+      judged_parts caps limit events f c ∙ rw (first_is, run last (subst (λ (k : LogHeader). region_at c k.horizon ≡ Some last) header behind))
+      (bind_bind (told steps) (λ _. Ok last) (λ (r : LogRegion). judge_end (7 + c.header.horizon) r c.final) ∙ last_is) in
       verdict_same (told_log h x) c (told end) header final ∙ ap (λ (r : Result (Unit {0}) Refusal). verdict_of c r) (sym rules)
 
   -- the verdict on lines that are read and judged
@@ -192,8 +189,7 @@ module _ (caps : List ℕ) (limit : ℕ) (events : ℕ → ℕ) (f : Functions) 
       ≡ verdict_left caps limit events f h then e.region rest (and_then before (judge_step caps limit events f (7 + done) time region e))
   unfolding verdict_left
   left_more done time then region text rest e before next small at behind =
-      rw (at, behind) (ap (λ (lines : Result (Result LogRegion Refusal × List ℕ) Refusal). lines >>= (λ (l : Result LogRegion Refusal × List ℕ). closes caps limit events f h l))
-      (lines_more caps limit events f h (h.horizon - done) (h.horizon - (done + 1)) (7 + done) (7 + (done + 1)) region text rest e before next (omega arith) (omega arith)))
+      rw (at, behind, lines_more caps limit events f h (h.horizon - done) (h.horizon - (done + 1)) (7 + done) (7 + (done + 1)) region text rest e before next (omega arith) (omega arith)) refl
 
   -- one that is refused refuses them all
   pub left_fails : (done : ℕ) (region : LogRegion) (text : List ℕ) (before : Result (Unit {0}) Refusal) (error : LogError)
@@ -201,16 +197,13 @@ module _ (caps : List ℕ) (limit : ℕ) (events : ℕ → ℕ) (f : Functions) 
   unfolding verdict_left
   left_fails done region text before OutOfMemory fails small = tt
   left_fails done region text before (Refused l cause) fails small =
-      ap (λ (lines : Result (Result LogRegion Refusal × List ℕ) Refusal). lines >>= (λ (l : Result LogRegion Refusal × List ℕ). closes caps limit events f h l))
-      (lines_fail caps limit events f h (h.horizon - done) (h.horizon - (done + 1)) (7 + done) region text before (Refused l cause) fails (omega arith))
+      rw (lines_fail caps limit events f h (h.horizon - done) (h.horizon - (done + 1)) (7 + done) region text before (Refused l cause) fails (omega arith)) refl
 
   -- after the last step the end is left
   left_over : (done : ℕ) (region : LogRegion) (text : List ℕ) (before : Result (Unit {0}) Refusal) → done ≡ h.horizon
       → verdict_left caps limit events f h done region text before ≡ closes caps limit events f h (and_then before (Ok region), text)
   unfolding verdict_left
-  left_over done region text before all =
-      ap (λ (lines : Result (Result LogRegion Refusal × List ℕ) Refusal). lines >>= (λ (l : Result LogRegion Refusal × List ℕ). closes caps limit events f h l))
-      (lines_over caps limit events f h (h.horizon - done) (7 + done) region text before (omega arith))
+  left_over done region text before all = rw (lines_over caps limit events f h (h.horizon - done) (7 + done) region text before (omega arith)) refl
 
   pub left_ends : (done : ℕ) (region : LogRegion) (text final : List ℕ) (before result : Result (Unit {0}) Refusal) → done ≡ h.horizon → ended h text ≡ Ok final
       → and_then before (judge_end (7 + h.horizon) region final) ≡ result → verdict_left caps limit events f h done region text before ≡ Ok (verdict_of (told_log h final) result)

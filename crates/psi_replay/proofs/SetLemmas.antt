@@ -43,18 +43,7 @@ search_behind xs j k x y rising first less second = elim (cases_lt j k) [
 
 -- the state at a place is above x: x is before it, if anywhere
 pub search_before : (xs : List (List ℕ)) (j k : ℕ) (x y : List ℕ) → IsRising xs → slice_get xs j ≡ Some y → state_cmp y x ≡ Greater → slice_get xs k ≡ Some x → k < j
-search_before xs j k x y rising first greater second =
-    let less : state_cmp x y ≡ Less = cmp-back y x greater in
-    elim (cases_lt k j) [
-      | inl before ↦ before
-      | inr past ↦ elim (cases_lt j k) [
-        | inl behind ↦ absurd (cmp-never x y less (rising_places xs j k y x rising first second behind))
-        | inr over ↦ (let e : y ≡ x = same_place xs j k x y first second (omega arith) in
-            let tied : state_cmp x x ≡ Equal = cmp-itself x in
-            let below : state_cmp x x ≡ Less = subst (λ (w : List ℕ). state_cmp x w ≡ Less) e less in
-            absurd cc)
-      ]
-    ]
+search_before xs j k x y rising first greater second = search_behind xs k j y x rising second (cmp-back y x greater) first
 
 -- the state at a place ties with x: it is x
 pub search_found : (xs : List (List ℕ)) (j : ℕ) (x y : List ℕ) → slice_get xs j ≡ Some y → state_cmp y x ≡ Equal → has xs x ≡ true
