@@ -52,16 +52,13 @@ covers-judged split caps f a closed kept =
 
 small-judged : (split : ℕ) (caps : List ℕ) (f : List ℕ → List ℕ) (a : Area) → split ≤ 4096 → IsKept split caps a → is_small (region_of a) (region_of (step split f a)) ≡ true
 small-judged split caps f a most kept = elim (cases_Bool a.is_split) [
-  | inl is ↦ ap (λ (r : LogRegion). is_small r (region_of (step split f a))) (region_of-set a is)
+  | inl is ↦ rw (region_of-set a is) refl
   | inr plain ↦ elim (cases_Bool (splits split a)) [
     | inl few ↦ (let own : length a.states ≤ split = splits-few split caps a kept few in
         let count : length (states_of (in_box (corners a.states))) ≡ length a.states =
         ap (λ (r : LogRegion). length (states_of r)) (sym (region_of-plain a plain)) ∙ ap (λ (xs : List (List ℕ)). length xs) (states_of-region split caps a kept) in
-        let after = ap (λ (b : Area). region_of b) (step-split split f a few) in
-        ap (λ (r : LogRegion). is_small r (region_of (step split f a))) (region_of-plain a plain)
-        ∙ (ap (λ (r : LogRegion). is_small (in_box (corners a.states)) r) after ∙ le-leb (length (states_of (in_box (corners a.states)))) 4096 (omega arith)))
-    | inr many ↦ (let after = ap (λ (b : Area). region_of b) (step-box split f a many) in
-        ap (λ (r : LogRegion). is_small r (region_of (step split f a))) (region_of-plain a plain) ∙ ap (λ (r : LogRegion). is_small (in_box (corners a.states)) r) after)
+        rw (region_of-plain a plain, step-split split f a few) (le-leb (length (states_of (in_box (corners a.states)))) 4096 (omega arith)))
+    | inr many ↦ rw (region_of-plain a plain, step-box split f a many) refl
   ]
 ]
 
@@ -91,22 +88,17 @@ module _ (caps : List ℕ) (limit : ℕ) (events : ℕ → ℕ) (f : ℕ → Lis
       → judge_steps caps limit events f m (horizon - k) (region_of (region_after split f caps horizon k)) (map (entry_after split f caps events horizon) (numbers_from k n))
       ≡ Ok (region_of (region_after split f caps horizon horizon))
   unfolding judge_steps
-  steps-judged split horizon m k zero most closed sum = (let e : k ≡ horizon = omega arith in
-      let ended : ℕ → Result LogRegion Refusal = λ d. Ok (region_of (region_after split f caps horizon d)) in
-      ap ended e)
+  steps-judged split horizon m k zero most closed sum = (let e : k ≡ horizon = omega arith in rw e refl)
   steps-judged split horizon m k (suc n) most closed sum =
       let a = region_after split f caps horizon k in
       let t = horizon - k in
       let own = closed.each t in
       let kept = kept-after split caps f horizon k closed in
       let entry = entry_after split f caps events horizon k in
-      let rest = map (entry_after split f caps events horizon) (numbers_from (suc k) n) in
       let here = step-judged m t (region_of a) entry refl refl (within-judged split caps (step split (f t) a) (kept-step split caps (f t) a own kept))
       (small-judged split caps (f t) a most kept) (covers-judged split caps (f t) a own kept) in
       let time : horizon - k - 1 ≡ horizon - suc k = omega arith in
-      ap (λ (r : Result (Unit {0}) Refusal). r >>= (λ _. judge_steps caps limit events f (m + 1) (t - 1) entry.region rest)) here
-      ∙ (ap (λ (u : ℕ). judge_steps caps limit events f (m + 1) u entry.region rest) time
-      ∙ steps-judged split horizon (m + 1) (suc k) n most closed (omega arith))
+      rw (here, time) (steps-judged split horizon (m + 1) (suc k) n most closed (omega arith))
 
   -- the log breaks no rule
   pub recorded-judged : (split : ℕ) (h : Head) (state : List ℕ) → split ≤ 4096 → AreClosed caps f → h.queues ≡ length caps → h.horizon ≤ 2 ^ limit

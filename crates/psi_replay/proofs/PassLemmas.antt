@@ -182,23 +182,6 @@ module _ (caps : List ℕ) (limit : ℕ) (events : ℕ → ℕ) (f : Functions) 
       steps (Err refusal) = refl
 
 module _ (caps : List ℕ) (limit : ℕ) (events : ℕ → ℕ) (f : Functions) (h : LogHeader) where
-  -- a step that is read and judged leaves what is after it
-  pub left_more : (done time then : ℕ) (region : LogRegion) (text rest : List ℕ) (e : Entry) (before : Result (Unit {0}) Refusal)
-      → next_step h (7 + done) (box_before h.version region) text ≡ Ok (e, rest) → done < h.horizon → time ≡ h.horizon - done → then ≡ done + 1
-      → verdict_left caps limit events f h done region text before
-      ≡ verdict_left caps limit events f h then e.region rest (and_then before (judge_step caps limit events f (7 + done) time region e))
-  unfolding verdict_left
-  left_more done time then region text rest e before next small at behind =
-      rw (at, behind, lines_more caps limit events f h (h.horizon - done) (h.horizon - (done + 1)) (7 + done) (7 + (done + 1)) region text rest e before next (omega arith) (omega arith)) refl
-
-  -- one that is refused refuses them all
-  pub left_fails : (done : ℕ) (region : LogRegion) (text : List ℕ) (before : Result (Unit {0}) Refusal) (error : LogError)
-      → IsLogError error (next_step h (7 + done) (box_before h.version region) text) → done < h.horizon → IsLogError error (verdict_left caps limit events f h done region text before)
-  unfolding verdict_left
-  left_fails done region text before OutOfMemory fails small = tt
-  left_fails done region text before (Refused l cause) fails small =
-      rw (lines_fail caps limit events f h (h.horizon - done) (h.horizon - (done + 1)) (7 + done) region text before (Refused l cause) fails (omega arith)) refl
-
   -- after the last step the end is left
   left_over : (done : ℕ) (region : LogRegion) (text : List ℕ) (before : Result (Unit {0}) Refusal) → done ≡ h.horizon
       → verdict_left caps limit events f h done region text before ≡ closes caps limit events f h (and_then before (Ok region), text)
@@ -228,20 +211,26 @@ module _ (caps : List ℕ) (limit : ℕ) (events : ℕ → ℕ) (f : Functions) 
       → Gives (λ _. tt) judging (and_then (told kept) (judge_step caps limit events f (7 + done) time after.before (record { step = step; region = after.region })))
       → (more : List ℕ)
       → verdict_left caps limit events f h done r.region (r.rest ++ more) (told kept) ≡ verdict_left caps limit events f h (done + 1) after.region (after.rest ++ more) (told judging)
+  unfolding verdict_left
   pass_more after step time judging header place small is next before gives more =
       let e : Entry = record { step = step; region = after.region } in
       let read = next_front h (7 + done) (box_before h.version r.region) r.rest after.rest more e (next_is (Ok (e, after.rest)) header place next) in
       let judged_so : and_then (told kept) (judge_step caps limit events f (7 + done) time r.region (record { step = step; region = after.region })) ≡ told judging =
       ap (λ (b : LogRegion). and_then (told kept) (judge_step caps limit events f (7 + done) time b (record { step = step; region = after.region }))) (sym before) ∙ told_is judging _ gives in
-      left_more caps limit events f h done time (done + 1) r.region (r.rest ++ more) (after.rest ++ more) e (told kept) read small is refl
-      ∙ ap (λ (j : Result (Unit {0}) Refusal). verdict_left caps limit events f h (done + 1) after.region (after.rest ++ more) j) judged_so
+      rw (
+        lines_more caps limit events f h (h.horizon - done) (h.horizon - (done + 1)) (7 + done) (7 + (done + 1)) r.region (r.rest ++ more) (after.rest ++ more) e (told kept) read (omega arith) (omega arith),
+        sym is,
+        judged_so,
+      ) refl
 
   -- one that is refused refuses what is left
   pub pass_fails : (error : LogError) → r.header ≡ h → r.done ≡ done → done < h.horizon → IsLogError error (next_of r)
       → IsLogError error (verdict_left caps limit events f h done r.region r.rest (told kept))
+  unfolding verdict_left
   pass_fails OutOfMemory header place small fails = tt
   pass_fails (Refused l cause) header place small fails =
-      left_fails caps limit events f h done r.region r.rest (told kept) (Refused l cause) (next_is (Err (record { line = l; cause = cause })) header place fails) small
+      rw (lines_fail caps limit events f h (h.horizon - done) (h.horizon - (done + 1)) (7 + done) r.region r.rest (told kept) (Refused l cause)
+      (next_is (Err (record { line = l; cause = cause })) header place fails) (omega arith)) refl
 
 -- where no more text comes
 pub with_none : {A : Type 0} (old new : List ℕ → A) (from to : List ℕ) → ((more : List ℕ) → old (from ++ more) ≡ new (to ++ more)) → old from ≡ new to
