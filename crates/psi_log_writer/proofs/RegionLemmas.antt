@@ -109,6 +109,20 @@ length-some : (x : List ℕ) (xs : List (List ℕ)) → In x xs → 1 ≤ length
 length-some x [] member = absurd member
 length-some x (y ∷ ys) member = omega arith
 
+-- the corners of a region are within the capacities, and in order
+pub corners-below : (split : ℕ) (caps : List ℕ) (a : Area) → IsKept split caps a → IsBelow (lows a.states) caps × IsBelow (highs a.states) caps × IsBelow (lows a.states) (highs a.states)
+corners-below split caps a kept =
+    let xs = a.states in
+    let z = kept.area.some.0 in
+    let here = kept.area.some.1 in
+    let lengths : HaveLength (length caps) xs = record { each = λ x member. (kept.area.within x member).same_length } in
+    let tight : IsTight xs (lows xs) (highs xs) = corners-tight (length caps) z xs lengths here in
+    let inside : IsBetween (lows xs) (highs xs) z = tight.inside z here in (
+      below-through (lows xs) z caps inside.low (kept.area.within z here),
+      tight-high z xs (lows xs) caps (lows xs) (highs xs) tight here (λ x member. record { low = (tight.inside x member).low; high = kept.area.within x member }),
+      below-through (lows xs) z (highs xs) inside.low inside.high,
+    )
+
 -- and its region is one of theirs
 pub region_of-region : (split : ℕ) (caps : List ℕ) (a : Area) → AreCapacities caps → split ≤ 4096 → IsKept split caps a → IsRegion (length caps) (region_of a)
 region_of-region split caps a valid most kept = elim (cases_Bool a.is_split) [
@@ -120,18 +134,11 @@ region_of-region split caps a valid most kept = elim (cases_Bool a.is_split) [
         rising = kept.area.rising;
       } in
       subst (λ (r : LogRegion). IsRegion (length caps) r) (sym (region_of-set a is)) own)
-  | inr plain ↦ (let xs = a.states in
-      let z = kept.area.some.0 in
-      let here = kept.area.some.1 in
-      let lengths : HaveLength (length caps) xs = record { each = λ x member. (kept.area.within x member).same_length } in
-      let tight : IsTight xs (lows xs) (highs xs) = corners-tight (length caps) z xs lengths here in
-      let inside : IsBetween (lows xs) (highs xs) z = tight.inside z here in
-      let top : IsBelow (highs xs) caps = tight-high z xs (lows xs) caps (lows xs) (highs xs) tight here
-      (λ x member. record { low = (tight.inside x member).low; high = kept.area.within x member }) in
-      let own : IsBox (length caps) (corners xs) = record {
-        lo = state-below caps (lows xs) valid (below-through (lows xs) z caps inside.low (kept.area.within z here));
-        hi = state-below caps (highs xs) valid top;
-        below = below-through (lows xs) z (highs xs) inside.low inside.high;
+  | inr plain ↦ (let ends = corners-below split caps a kept in
+      let own : IsBox (length caps) (corners a.states) = record {
+        lo = state-below caps (lows a.states) valid ends.0;
+        hi = state-below caps (highs a.states) valid ends.1;
+        below = ends.2;
       } in
       subst (λ (r : LogRegion). IsRegion (length caps) r) (sym (region_of-plain a plain)) own)
 ]

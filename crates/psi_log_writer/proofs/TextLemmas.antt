@@ -140,21 +140,6 @@ module _ (split : ℕ) (f : ℕ → List ℕ → List ℕ) (caps : List ℕ) (ev
       line-alone h state old new (end_text state) place (suc (suc done)) (omega arith)
       (ap (λ (b : Bool). if b then 8192 else 0) (le-ltb done h.horizon (omega arith))) held (line_at-end h state done (omega arith)) is
 
--- the lemmas on `text_before`, for `text_in` of a network's runs under these words
-module _ {E : Type 0} (function : E → List ℕ → List ℕ) (system : SystemParts E) (words : ℕ → ℕ) (h : Header) (state : List ℕ) where
-  pub text_in-none : text_in function system words h state 0 ≡ []
-  text_in-none = text_before-none system.split (system_functions function system words) system.caps (event_numbers system words) h state
-
-  pub text_in-more : (place : ℕ) → text_in function system words h state (suc place) ≡ text_in function system words h state place ++ line_in function system words h state place
-  text_in-more place = text_before-more system.split (system_functions function system words) system.caps (event_numbers system words) h state place
-
-  pub text_in-whole : (place : ℕ) → h.version ≡ 2 → place ≡ h.horizon + 3 → text_in function system words h state place ≡ log_text (log_of function system words h state)
-  text_in-whole place version last = text_before-whole system.split (system_functions function system words) system.caps (event_numbers system words) h state place version last
-
-  pub text_in-rest : (place : ℕ) → h.version ≡ 2 → place ≤ h.horizon + 3
-      → (rest : List ℕ) × (text_in function system words h state place ++ rest ≡ log_text (log_of function system words h state))
-  text_in-rest place version order = text_before-rest system.split (system_functions function system words) system.caps (event_numbers system words) h state place version order
-
 -- what is so of a system and words is so of the same ones
 pub same-both : {A B : Type 0} (P : A → B → Type 0) (s t : A) (v w : B) → s ≡ t → v ≡ w → P s v → P t w
 same-both P s t v w first second is = subst (λ a. P a w) first (subst (λ b. P s b) second is)

@@ -29,12 +29,8 @@ region_of-set a is = ap (λ (split : Bool). if split then in_set a.states else i
 -- the words of a box after the region of which this was told
 next-box : (caps : List ℕ) (a b : Area) (before : Option Corners) (to : Corners) → IsTold caps a before → IsTold caps b (Some to)
     → next_words 2 (region_of a) (region_of b) ≡ box_words before to
-next-box caps a b None to first second =
-    ap (λ (r : LogRegion). next_words 2 r (region_of b)) (region_of-set a first.shown)
-    ∙ ap (λ (r : LogRegion). next_words 2 (in_set a.states) r) (region_of-box b to second.shown second.ordered)
-next-box caps a b (Some from) to first second =
-    ap (λ (r : LogRegion). next_words 2 r (region_of b)) (region_of-box a from first.shown first.ordered)
-    ∙ ap (λ (r : LogRegion). next_words 2 (in_box from) r) (region_of-box b to second.shown second.ordered)
+next-box caps a b None to first second = rw (region_of-set a first.shown, region_of-box b to second.shown second.ordered) refl
+next-box caps a b (Some from) to first second = rw (region_of-box a from first.shown first.ordered, region_of-box b to second.shown second.ordered) refl
 
 -- a set is written whole
 set-whole : (r : LogRegion) (xs : List (List ℕ)) → next_words 2 r (in_set xs) ≡ region_words (in_set xs)

@@ -32,7 +32,7 @@ use Rattle.psi_log_writer.specs.Walking.{step_line, front_text, text_in, IsRoomy
 use Rattle.psi_log_writer.proofs.WalkingLemmas.{next-set}
 use Rattle.psi_log_writer.proofs.TextLemmas.{text_before-front}
 use Rattle.psi_log_writer.proofs.AcceptedLemmas.{events-few}
-use Rattle.psi_log_writer.proofs.RegionLemmas.{IsKept, kept-after, state-below, region_of-plain}
+use Rattle.psi_log_writer.proofs.RegionLemmas.{corners-below, IsKept, kept-after, state-below, region_of-plain}
 use Rattle.psi_log_writer.proofs.BoundLemmas.{AreShort, named-set, HasFew, few-next, step-short, log-from, log-ample}
 
 -- the numbers of a state have no more digits than its capacities
@@ -104,19 +104,6 @@ move-within w n from to size small low high =
     ap (λ (ws : List (List ℕ)). length (spaced_words ws)) (moved from to) ∙ ap (λ k. length (spaced_words (codes "move" ∷ picked from to (numbers_from 0 k)))) size in
     let count = named-move (picked from to (numbers_from 0 n)) in
     omega arith
-
--- the corners of a region are within the capacities
-corners-below : (split : ℕ) (caps : List ℕ) (a : Area) → IsKept split caps a → IsBelow (lows a.states) caps × IsBelow (highs a.states) caps
-corners-below split caps a kept =
-    let xs = a.states in
-    let z = kept.area.some.0 in
-    let here = kept.area.some.1 in
-    let lengths : HaveLength (length caps) xs = record { each = λ x member. (kept.area.within x member).same_length } in
-    let tight : IsTight xs (lows xs) (highs xs) = corners-tight (length caps) z xs lengths here in
-    let inside : IsBetween (lows xs) (highs xs) z = tight.inside z here in (
-      below-through (lows xs) z caps inside.low (kept.area.within z here),
-      tight-high z xs (lows xs) caps (lows xs) (highs xs) tight here (λ x member. record { low = (tight.inside x member).low; high = kept.area.within x member }),
-    )
 
 module _ (split : ℕ) (f : ℕ → List ℕ → List ℕ) (caps : List ℕ) (events : ℕ → ℕ) (horizon : ℕ) (valid : AreCapacities caps) (closed : AreClosed caps f) (most : horizon < 10 ^ 7)
     (named : (t : ℕ) → events t < 10 ^ 4) (w width : ℕ) (some : 0 < w) (each : (i : ℕ) → slice_index caps i < 10 ^ w) (boxes : 23 + length caps * (2 * w + 5) ≤ width)
