@@ -32,13 +32,10 @@ box_given n queues lo hi r low high h =
     let b = state_found n queues hi second.0 high second.1 in
     let below = below_found first.0 second.0 (held (refused n Shape) (pointwise nat_le first.0 second.0) rule.0 rule.1) in
     subst (λ (s : LogRegion). (codes "box" ∷ lo ∷ hi ∷ [] ≡ region_words s) × IsRegion queues s) (ok_same (boxed first.0 second.0) r rule.2)
-    (three a.0 b.0, record { lo = a.1; hi = b.1; below = below })
+    (cc (a.0, b.0), record { lo = a.1; hi = b.1; below = below })
   where
     boxed : List ℕ → List ℕ → LogRegion
     boxed l k = in_box (record { lo = l; hi = k })
-
-    three : {a b c d : List ℕ} → a ≡ c → b ≡ d → codes "box" ∷ a ∷ b ∷ [] ≡ codes "box" ∷ c ∷ d ∷ []
-    three p q = cc
 
 -- and so is a set
 set_given : (n queues : ℕ) (words : List (List ℕ)) (r : LogRegion) → 1 ≤ length words → length words ≤ 4096 → list_all (has_pieces queues) words ≡ true

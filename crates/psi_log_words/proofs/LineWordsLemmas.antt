@@ -2,7 +2,7 @@
 use Rattle.std.specs.Prelude.{◌≡◌, ℕ, zero, suc, ◌+◌, ◌-◌, ◌<◌, ◌≤◌, List, [], ◌∷◌, ◌++◌, length, map, take, drop, Bool, true, false, not, nat_le, cond, Some, None, Ok, Err, refl}
 use Rattle.std.specs.List.{position, position_or_len, before_first, after_first}
 use Rattle.std.proofs.Common.{get_or, ap, sym, ◌∙◌, arith, append_assoc, length-append, inl, inr}
-use Rattle.std.proofs.lemmas.Bool.{eq-eqb, leb-true, leb-false, lt-ltb, le-ltb, cases_eq}
+use Rattle.std.proofs.lemmas.Bool.{eq-eqb, leb-true, leb-false, lt-ltb, le-ltb, cases_eq, cases_lt}
 use Rattle.std.proofs.lemmas.List.{take_all, take-take, take-append-le, drop-take, drop-drop, get_or-drop, get_or-take, length-take-le, length-take, length-drop, length-map, map-append}
 use Rattle.std.proofs.lemmas.List.Elements.{All-from_get_or}
 use Rattle.std.proofs.lemmas.List.Splits.{slice_split_none, slice_split_first}
@@ -43,16 +43,13 @@ words_none text = record { line = omega arith; start = omega arith; plain = λ k
 
 -- a byte that is no line feed
 line_more : (text : List ℕ) (at : ℕ) → at ≤ position_or_len is_feed text → at < length text → is_feed (get_or text at 0) ≡ false → at + 1 ≤ position_or_len is_feed text
-line_more text at line small other = go (nat_le (at + 1) (position_or_len is_feed text)) refl
-  where
-    go : (t : Bool) → nat_le (at + 1) (position_or_len is_feed text) ≡ t → at + 1 ≤ position_or_len is_feed text
-    go true is = leb-true (at + 1) (position_or_len is_feed text) is
-    go false is =
-        let less = leb-false (at + 1) (position_or_len is_feed text) is in
-        let here : position_or_len is_feed text ≡ at = omega arith in
-        let feed : is_feed (get_or text (position_or_len is_feed text) 0) ≡ true = passes_at_first is_feed text 0 (omega arith) in
-        let same : is_feed (get_or text (position_or_len is_feed text) 0) ≡ is_feed (get_or text at 0) = ap (λ (k : ℕ). is_feed (get_or text k 0)) here in
-        absurd cc
+line_more text at line small other = elim (cases_lt at (position_or_len is_feed text)) [
+  | inl less ↦ omega arith
+  | inr past ↦ (let here : position_or_len is_feed text ≡ at = omega arith in
+      let feed : is_feed (get_or text (position_or_len is_feed text) 0) ≡ true = passes_at_first is_feed text 0 (omega arith) in
+      let same : is_feed (get_or text (position_or_len is_feed text) 0) ≡ is_feed (get_or text at 0) = ap (λ (k : ℕ). is_feed (get_or text k 0)) here in
+      absurd cc)
+]
 
 -- the line, from where a word begins
 line_at : (text : List ℕ) (first k : ℕ) → first + k < position_or_len is_feed text → get_or (drop first (before_first is_feed text)) k 0 ≡ get_or text (first + k) 0
@@ -103,7 +100,7 @@ words_space text at first words more word are small other space is then =
     drop-drop (position_or_len is_space (drop first (before_first is_feed text)) + 1) first (before_first is_feed text)
     ∙ ap (λ (k : ℕ). drop k (before_first is_feed text)) (omega arith) in
     let both : word ∷ tokens_of (drop (at + 1) (before_first is_feed text)) ≡ tokens_of (drop first (before_first is_feed text)) =
-    sym (cut ∙ two front (ap tokens_of behind)) in
+    cc (ap tokens_of behind) in
     record {
       line = line;
       start = omega arith;
@@ -111,9 +108,6 @@ words_space text at first words more word are small other space is then =
       words = ap (λ (ws : List (List ℕ)). ws ++ tokens_of (drop (at + 1) (before_first is_feed text))) then
           ∙ append_assoc words (word ∷ []) (tokens_of (drop (at + 1) (before_first is_feed text))) ∙ ap (λ (ws : List (List ℕ)). words ++ ws) both ∙ are.words;
     }
-  where
-    two : {a b : List ℕ} {xs ys : List (List ℕ)} → a ≡ b → xs ≡ ys → a ∷ xs ≡ b ∷ ys
-    two e f = cc
 
 pub words_feed : (n : ℕ) (text : List ℕ) (at first : ℕ) (words more : List (List ℕ)) (word : List ℕ) → AreWords text at first words → at < length text
     → get_or text at 0 ≡ 10 → word ≡ take (at - first) (drop first text) → more ≡ words ++ word ∷ []

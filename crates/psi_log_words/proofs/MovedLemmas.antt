@@ -1,5 +1,5 @@
 -- The box as the changes so far have it, as a loop makes it of the box before.
-use Rattle.std.specs.Prelude.{◌≡◌, ◌⊎◌, ℕ, ◌+◌, ◌<◌, ◌≤◌, List, [], ◌∷◌, ◌++◌, length, map, drop, slice_set, Bool, true, false, ◌&&◌, nat_le, nat_lt, Result, Ok, Err, refl}
+use Rattle.std.specs.Prelude.{◌≡◌, ◌⊎◌, ℕ, suc, ◌+◌, ◌<◌, ◌≤◌, List, [], ◌∷◌, ◌++◌, length, map, drop, slice_set, Bool, true, false, ◌&&◌, nat_le, nat_lt, Result, Ok, Err, refl}
 use Rattle.std.specs.List.{list_all}
 use Rattle.std.proofs.Common.{get_or, ap, sym, ◌∙◌, arith, inl, inr}
 use Rattle.std.proofs.Math.Bool.{and_assoc, and-true}
@@ -37,11 +37,7 @@ behind_push (d ∷ []) c = refl
 behind_push (d ∷ e ∷ ds) c = behind_push (e ∷ ds) c
 
 below_next : (a b : ℕ) → nat_lt a b ≡ nat_le (a + 1) b
-below_next a b = go (nat_lt a b) refl
-  where
-    go : (t : Bool) → nat_lt a b ≡ t → t ≡ nat_le (a + 1) b
-    go true is = sym (le-leb (a + 1) b (let less = ltb-true a b is in omega arith))
-    go false is = sym (lt-leb (a + 1) b (let more = ltb-false a b is in omega arith))
+below_next a b = (let e : suc a ≡ a + 1 = omega arith in ap (λ (k : ℕ). nat_le k b) e)
 
 ascend_push : (cs : List Change) (c : Change) → queues_ascend (cs ++ c ∷ []) ≡ (queues_ascend cs && nat_le (behind_last cs) c.queue)
 ascend_push [] c = sym (le-leb 0 c.queue (omega arith))

@@ -100,10 +100,7 @@ each_found {A} {B} reading text P (a ∷ rest) bs one h =
     let tail = each_found reading text P rest others.0 (λ x b there. one x b (inr there)) others.1 in
     let head = one a first.0 (inl refl) first.1 in
     subst (λ (cs : List B). (a ∷ rest ≡ map text cs) × ((b : B) → In b cs → P b)) (ok_same (first.0 ∷ others.0) bs others.2)
-    (list_of head.0 tail.0, λ b there. elim there [ inl e ↦ subst (λ (c : B). P c) (sym e) head.1 | inr t ↦ tail.1 b t ])
-  where
-    list_of : {a b : A} {xs ys : List A} → a ≡ b → xs ≡ ys → a ∷ xs ≡ b ∷ ys
-    list_of e f = cc
+    (cc (head.0, tail.0), λ b there. elim there [ inl e ↦ subst (λ (c : B). P c) (sym e) head.1 | inr t ↦ tail.1 b t ])
 
 -- and where each member is read from its text, so is the list
 pub each_again : {A B : Type 0} (reading : A → Result B Refusal) (text : B → A) (P : B → Type 0)

@@ -3,9 +3,9 @@ use Rattle.std.specs.Prelude.{◌≡◌, ℕ, ◌+◌, ◌-◌, ◌*◌, ◌<◌
 use Rattle.std.specs.List.{list_all, prefix_len, take_while}
 use Rattle.std.specs.Char.{digit_value}
 use Rattle.std.specs.Str.Parse.{digits_value}
-use Rattle.std.proofs.Common.{get_or, ap, sym, ◌∙◌, subst, arith, below_more}
+use Rattle.std.proofs.Common.{inl, inr, get_or, ap, sym, ◌∙◌, subst, arith, below_more}
 use Rattle.std.proofs.Math.Bool.{and-false}
-use Rattle.std.proofs.lemmas.Bool.{and_parts, and_from, le-leb, leb-true, leb-false, lt-leb, ltb-false, false_from_ne_true}
+use Rattle.std.proofs.lemmas.Bool.{cases_lt, and_parts, and_from, le-leb, leb-true, leb-false, lt-leb, ltb-false, false_from_ne_true}
 use Rattle.std.proofs.lemmas.List.{take-take, length-take-le, get_or-take}
 use Rattle.std.proofs.lemmas.List.Folds.{list_all_at}
 use Rattle.std.proofs.lemmas.List.Sums.{prefix_len_is, prefix_len_stops, prefix_len-le-length, take_while-cons}
@@ -48,17 +48,14 @@ value_more word i small is =
 -- the number is at least that of the digits so far
 pub value_over : (word : List ℕ) (i : ℕ) → AreDigits word i → digits_value 10 (take i word) ≤ digits_value 10 (take_while is_digit word)
 value_over word i are =
-    let within : i ≤ prefix_len is_digit word = all_within (nat_le i (prefix_len is_digit word)) refl in
+    let within : i ≤ prefix_len is_digit word = elim (cases_lt (prefix_len is_digit word) i) [
+      | inl less ↦ (let stops = prefix_len_stops is_digit word 0 (let small = are.small in omega arith) in
+          let passes = are.each (prefix_len is_digit word) less in
+          absurd cc)
+      | inr within ↦ within
+    ] in
     let front : take i (take_while is_digit word) ≡ take i word = take-take i (prefix_len is_digit word) word within in
     subst (λ (w : List ℕ). digits_value 10 w ≤ digits_value 10 (take_while is_digit word)) front (digits_value-take-le 10 (take_while is_digit word) i (omega arith))
-  where
-    all_within : (t : Bool) → nat_le i (prefix_len is_digit word) ≡ t → i ≤ prefix_len is_digit word
-    all_within true is = leb-true i (prefix_len is_digit word) is
-    all_within false is =
-        let less : prefix_len is_digit word < i = leb-false i (prefix_len is_digit word) is in
-        let stops = prefix_len_stops is_digit word 0 (let small = are.small in omega arith) in
-        let passes = are.each (prefix_len is_digit word) less in
-        absurd cc
 
 pub front_digits : (word : List ℕ) → list_all is_digit (take_while is_digit word) ≡ true
 front_digits [] = refl

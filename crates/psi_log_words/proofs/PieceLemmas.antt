@@ -3,7 +3,7 @@ use Rattle.std.specs.Prelude.{◌≡◌, ◌≢◌, ◌⊎◌, ℕ, ◌+◌, ◌
 use Rattle.std.specs.List.{prefix_len, take_while, position_or_len, before_first, after_first}
 use Rattle.std.specs.Str.Parse.{digits_value}
 use Rattle.std.proofs.Common.{get_or, ap, sym, ◌∙◌, arith, inl, inr}
-use Rattle.std.proofs.lemmas.Bool.{eqb-true, eqb-false, eq-eqb, ne_eqb, ltb-true, ltb-false, cases_eq}
+use Rattle.std.proofs.lemmas.Bool.{eqb-true, eqb-false, eq-eqb, ne_eqb, ltb-true, ltb-false, cases_eq, cases_lt}
 use Rattle.std.proofs.lemmas.List.{take_all, drop_all, length-take-le, get_or-take}
 use Rattle.std.proofs.lemmas.List.Elements.{All-from_get_or}
 use Rattle.std.proofs.lemmas.List.Splits.{slice_split_none, slice_split_first}
@@ -30,22 +30,17 @@ pub comma_behind : (word : List ℕ) (k : ℕ) → k ≡ prefix_len is_digit wor
 comma_behind word k is small comma = position_or_len_is is_comma word k 0 (omega arith) (λ j less. digit_passed word j (omega arith)) (λ less. eq-eqb (get_or word k 0) 44 comma)
 
 pub other_piece : (word : List ℕ) (k : ℕ) → k ≡ prefix_len is_digit word → k < length word → get_or word k 0 ≢ 44 → is_numeral (before_first is_comma word) ≡ false
-other_piece word k is small other = go (nat_lt k (position_or_len is_comma word)) refl
-  where
-    go : (t : Bool) → nat_lt k (position_or_len is_comma word) ≡ t → is_numeral (before_first is_comma word) ≡ false
-    go true less =
-        let within : k < position_or_len is_comma word = ltb-true k (position_or_len is_comma word) less in
-        let long : length (before_first is_comma word) ≡ position_or_len is_comma word = length-take-le (position_or_len is_comma word) word (prefix_len-le-length (λ b. not (is_comma b)) word) in
-        let stops : is_digit (get_or word k 0) ≡ false = ap (λ (j : ℕ). is_digit (get_or word j 0)) is ∙ prefix_len_stops is_digit word 0 (omega arith) in
-        other_behind (before_first is_comma word) k (omega arith) (ap is_digit (get_or-take (position_or_len is_comma word) word k 0 within) ∙ stops)
-    go false more =
-        let past : position_or_len is_comma word ≤ k = ltb-false k (position_or_len is_comma word) more in
-        let passes : is_comma (get_or word (position_or_len is_comma word) 0) ≡ true = passes_at_first is_comma word 0 (omega arith) in
-        let comma : get_or word (position_or_len is_comma word) 0 ≡ 44 = eqb-true (get_or word (position_or_len is_comma word) 0) 44 passes in
-        elim (cases_eq (position_or_len is_comma word) k) [
-          | inl e ↦ absurd (other (ap (λ (j : ℕ). get_or word j 0) (sym e) ∙ comma))
-          | inr ne ↦ (let fails = digit_passed word (position_or_len is_comma word) (omega arith) in absurd cc)
-        ]
+other_piece word k is small other = elim (cases_lt k (position_or_len is_comma word)) [
+  | inl within ↦ (let long : length (before_first is_comma word) ≡ position_or_len is_comma word = length-take-le (position_or_len is_comma word) word (prefix_len-le-length (λ b. not (is_comma b)) word) in
+      let stops : is_digit (get_or word k 0) ≡ false = ap (λ (j : ℕ). is_digit (get_or word j 0)) is ∙ prefix_len_stops is_digit word 0 (omega arith) in
+      other_behind (before_first is_comma word) k (omega arith) (ap is_digit (get_or-take (position_or_len is_comma word) word k 0 within) ∙ stops))
+  | inr past ↦ (let passes : is_comma (get_or word (position_or_len is_comma word) 0) ≡ true = passes_at_first is_comma word 0 (omega arith) in
+      let comma : get_or word (position_or_len is_comma word) 0 ≡ 44 = eqb-true (get_or word (position_or_len is_comma word) 0) 44 passes in
+      elim (cases_eq (position_or_len is_comma word) k) [
+        | inl e ↦ absurd (other (ap (λ (j : ℕ). get_or word j 0) (sym e) ∙ comma))
+        | inr ne ↦ (let fails = digit_passed word (position_or_len is_comma word) (omega arith) in absurd cc)
+      ])
+]
 
 pub longer_word : (n least most : ℕ) (word : List ℕ) → prefix_len is_digit word ≢ length word → number_in n least most word ≡ Err (refused n Number)
 longer_word n least most word longer =
@@ -64,19 +59,13 @@ nothing_behind word is = ap (λ (k : ℕ). drop (k + 1) word) is ∙ drop_all (l
 
 -- and else another byte in the piece follows them
 pub front_or_other : (word : List ℕ) → (take_while is_digit word ≡ before_first is_comma word) ⊎ (is_numeral (before_first is_comma word) ≡ false)
-front_or_other word = go (prefix_len is_digit word == length word) (get_or word (prefix_len is_digit word) 0 == 44) refl refl
-  where
-    go : (a b : Bool) → (prefix_len is_digit word == length word) ≡ a → (get_or word (prefix_len is_digit word) 0 == 44) ≡ b
-        → (take_while is_digit word ≡ before_first is_comma word) ⊎ (is_numeral (before_first is_comma word) ≡ false)
-    go true b whole comma =
-        let all : prefix_len is_digit word ≡ length word = eqb-true (prefix_len is_digit word) (length word) whole in
-        inl (front_is_piece word (whole_piece word all ∙ sym all))
-    go false true whole comma =
-        let less : prefix_len is_digit word < length word = front_less word (eqb-false (prefix_len is_digit word) (length word) whole) in
-        inl (front_is_piece word (comma_behind word (prefix_len is_digit word) refl less (eqb-true (get_or word (prefix_len is_digit word) 0) 44 comma)))
-    go false false whole comma =
-        let less : prefix_len is_digit word < length word = front_less word (eqb-false (prefix_len is_digit word) (length word) whole) in
-        inr (other_piece word (prefix_len is_digit word) refl less (eqb-false (get_or word (prefix_len is_digit word) 0) 44 comma))
+front_or_other word = elim (cases_eq (prefix_len is_digit word) (length word)) [
+  | inl all ↦ inl (front_is_piece word (whole_piece word all ∙ sym all))
+  | inr longer ↦ elim (cases_eq (get_or word (prefix_len is_digit word) 0) 44) [
+    | inl comma ↦ inl (front_is_piece word (comma_behind word (prefix_len is_digit word) refl (front_less word longer) comma))
+    | inr other ↦ inr (other_piece word (prefix_len is_digit word) refl (front_less word longer) other)
+  ]
+]
 
 -- a piece isn't a number where its front is none
 pub small_piece : (n most : ℕ) (word : List ℕ) → most < 2 ^ 64 → is_small (take_while is_digit word) ≡ false → number_in n 0 most (before_first is_comma word) ≡ Err (refused n Number)
@@ -101,11 +90,10 @@ right_piece n most word ends numeral high =
 
 -- and so is a word
 pub small_word : (n least most : ℕ) (word : List ℕ) → most < 2 ^ 64 → is_small (take_while is_digit word) ≡ false → number_in n least most word ≡ Err (refused n Number)
-small_word n least most word fits small = go (prefix_len is_digit word == length word) refl
-  where
-    go : (a : Bool) → (prefix_len is_digit word == length word) ≡ a → number_in n least most word ≡ Err (refused n Number)
-    go true whole = not_small n least most word fits (ap is_small (sym (front_is_word word (eqb-true (prefix_len is_digit word) (length word) whole))) ∙ small)
-    go false whole = longer_word n least most word (eqb-false (prefix_len is_digit word) (length word) whole)
+small_word n least most word fits small = elim (cases_eq (prefix_len is_digit word) (length word)) [
+  | inl whole ↦ not_small n least most word fits (ap is_small (sym (front_is_word word whole)) ∙ small)
+  | inr longer ↦ longer_word n least most word longer
+]
 
 pub right_word : (n least most : ℕ) (word : List ℕ) → prefix_len is_digit word ≡ length word → is_numeral (take_while is_digit word) ≡ true
     → least ≤ digits_value 10 (take_while is_digit word) → digits_value 10 (take_while is_digit word) ≤ most → number_in n least most word ≡ Ok (digits_value 10 (take_while is_digit word))
@@ -132,18 +120,14 @@ with_rest : (pieces : List (List ℕ)) (first : List ℕ) (rest : List (List ℕ
 with_rest pieces first rest is = rw is refl
 
 pub first_and_rest : (word : List ℕ) → pieces_of word ≡ before_first is_comma word ∷ drop 1 (pieces_of word)
-first_and_rest word = go (nat_lt (position_or_len is_comma word) (length word)) refl
-  where
-    go : (t : Bool) → nat_lt (position_or_len is_comma word) (length word) ≡ t → pieces_of word ≡ before_first is_comma word ∷ drop 1 (pieces_of word)
-    go true less = with_rest _ _ _ (has_comma word (ltb-true (position_or_len is_comma word) (length word) less))
-    go false less = with_rest _ _ _ (has_none word (ltb-false (position_or_len is_comma word) (length word) less))
+first_and_rest word = elim (cases_lt (position_or_len is_comma word) (length word)) [
+  | inl less ↦ with_rest _ _ _ (has_comma word less)
+  | inr past ↦ with_rest _ _ _ (has_none word past)
+]
 
 -- what follows the comma has the rest as its pieces, where there is one
 pub rest_pieces : (word : List ℕ) → 2 ≤ length (pieces_of word) → pieces_of (after_first is_comma word) ≡ drop 1 (pieces_of word)
-rest_pieces word two = go (nat_lt (position_or_len is_comma word) (length word)) refl
-  where
-    go : (t : Bool) → nat_lt (position_or_len is_comma word) (length word) ≡ t → pieces_of (after_first is_comma word) ≡ drop 1 (pieces_of word)
-    go true less = sym (ap (drop 1) (has_comma word (ltb-true (position_or_len is_comma word) (length word) less)))
-    go false less =
-        let one : length (pieces_of word) ≡ 1 = ap length (has_none word (ltb-false (position_or_len is_comma word) (length word) less)) in
-        absurd (omega arith)
+rest_pieces word two = elim (cases_lt (position_or_len is_comma word) (length word)) [
+  | inl less ↦ sym (ap (drop 1) (has_comma word less))
+  | inr past ↦ (let one : length (pieces_of word) ≡ 1 = ap length (has_none word past) in absurd (omega arith))
+]

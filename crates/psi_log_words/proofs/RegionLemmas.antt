@@ -39,13 +39,10 @@ pieces_found n queues (q ∷ l ∷ g ∷ []) c some few h =
     let b = number_found n 0 65535 l second.0 (omega arith) second.1 in
     let d = number_found n 0 65535 g third.0 (omega arith) third.1 in
     subst (λ (k : Change). (q ∷ l ∷ g ∷ [] ≡ map decimal (k.queue ∷ k.least ∷ k.greatest ∷ [])) × IsChange queues k) (ok_same (change first.0 second.0 third.0) c third.2)
-    (three a.0 b.0 d.0, record { queue = omega arith; least = omega arith; greatest = omega arith })
+    (cc (a.0, b.0, d.0), record { queue = omega arith; least = omega arith; greatest = omega arith })
   where
     change : ℕ → ℕ → ℕ → Change
     change x y z = record { queue = x; least = y; greatest = z }
-
-    three : {a b c d e f : List ℕ} → a ≡ d → b ≡ e → c ≡ f → a ∷ b ∷ c ∷ [] ≡ d ∷ e ∷ f ∷ []
-    three p q r = cc
 pieces_found n queues (q ∷ l ∷ g ∷ more ∷ pieces) c some few h = absurd cc
 
 three_small : (queues : ℕ) (c : Change) → queues ≤ 32 → IsChange queues c → (v : ℕ) → In v (c.queue ∷ c.least ∷ c.greatest ∷ []) → v < 2 ^ 64
