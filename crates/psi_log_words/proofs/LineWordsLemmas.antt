@@ -71,13 +71,9 @@ pub words_byte : (text : List ℕ) (at first : ℕ) (words : List (List ℕ)) �
 words_byte text at first words are small other plain = record {
   line = line_more text at are.line small other;
   start = (let start = are.start in omega arith);
-  plain = plain_more;
+  plain = λ k least less. elim (cases_eq k at) [ inl e ↦ ap (λ (j : ℕ). is_space (get_or text j 0)) e ∙ plain | inr ne ↦ are.plain k least (omega arith) ];
   words = are.words;
 }
-  where
-    plain_more : (k : ℕ) → first ≤ k → k < at + 1 → is_space (get_or text k 0) ≡ false
-    plain_more k least less =
-        elim (cases_eq k at) [ inl e ↦ ap (λ (j : ℕ). is_space (get_or text j 0)) e ∙ plain | inr ne ↦ are.plain k least (omega arith) ]
 
 pub words_space : (text : List ℕ) (at first : ℕ) (words more : List (List ℕ)) (word : List ℕ) → AreWords text at first words → at < length text
     → is_feed (get_or text at 0) ≡ false → is_space (get_or text at 0) ≡ true → word ≡ take (at - first) (drop first text) → more ≡ words ++ word ∷ []

@@ -52,10 +52,7 @@ changed_push from (d ∷ ds) c = changed_push (record { lo = slice_set from.lo d
 
 test_push : (from : Corners) (cs : List Change) (c : Change)
     → (queues_ascend (cs ++ c ∷ []) && list_all (is_change from) (cs ++ c ∷ [])) ≡ ((queues_ascend cs && nat_le (behind_last cs) c.queue) && (list_all (is_change from) cs && is_change from c))
-test_push from cs c = both (ascend_push cs c) (list_all-append (is_change from) cs (c ∷ []) ∙ ap (λ (t : Bool). list_all (is_change from) cs && t) (and-true (is_change from c)))
-  where
-    both : {a b c d : Bool} → a ≡ b → c ≡ d → (a && c) ≡ (b && d)
-    both e f = cc
+test_push from cs c = cc (ascend_push cs c, list_all-append (is_change from) cs (c ∷ []) ∙ ap (λ (t : Bool). list_all (is_change from) cs && t) (and-true (is_change from c)))
 
 -- one change more, where it is as it has to be
 pub moved_more : (from : Corners) (cs : List Change) (to : Corners) (next : ℕ) (c : Change) (after : Corners) (then : ℕ) → IsMoved from cs to next true

@@ -5,7 +5,7 @@ use Rattle.std.specs.Char.{digit_value}
 use Rattle.std.specs.Str.Parse.{digits_value}
 use Rattle.std.proofs.Common.{inl, inr, get_or, ap, sym, ◌∙◌, subst, arith, below_more}
 use Rattle.std.proofs.Math.Bool.{and-false}
-use Rattle.std.proofs.lemmas.Bool.{cases_lt, and_parts, and_from, le-leb, leb-true, leb-false, lt-leb, ltb-false, false_from_ne_true}
+use Rattle.std.proofs.lemmas.Bool.{cases_Bool, true≢false, lt-ltb, cases_lt, and_parts, and_from, le-leb, leb-true, leb-false, lt-leb, ltb-false, false_from_ne_true}
 use Rattle.std.proofs.lemmas.List.{take-take, length-take-le, get_or-take}
 use Rattle.std.proofs.lemmas.List.Folds.{list_all_at}
 use Rattle.std.proofs.lemmas.List.Sums.{prefix_len_is, prefix_len_stops, prefix_len-le-length, take_while-cons}
@@ -59,12 +59,10 @@ value_over word i are =
 
 pub front_digits : (word : List ℕ) → list_all is_digit (take_while is_digit word) ≡ true
 front_digits [] = refl
-front_digits (b ∷ word) = go (is_digit b) refl (front_digits word)
-  where
-    go : (t : Bool) → is_digit b ≡ t → list_all is_digit (take_while is_digit word) ≡ true → list_all is_digit (take_while is_digit (b ∷ word)) ≡ true
-    go true is others = ap (list_all is_digit) (take_while-cons is_digit b word ∙ ap (λ (t : Bool). cond t (b ∷ take_while is_digit word) []) is)
-        ∙ and_from (is_digit b) (list_all is_digit (take_while is_digit word)) is others
-    go false is others = ap (list_all is_digit) (take_while-cons is_digit b word ∙ ap (λ (t : Bool). cond t (b ∷ take_while is_digit word) []) is)
+front_digits (b ∷ word) = elim (cases_Bool (is_digit b)) [
+  | inl holds ↦ rw (take_while-cons is_digit b word, holds) (and_from (is_digit b) (list_all is_digit (take_while is_digit word)) holds (front_digits word))
+  | inr fails ↦ rw (take_while-cons is_digit b word, fails) refl
+]
 
 -- the digits are a numeral whose number has 64 bits
 abbrev pub is_small : List ℕ → Bool
@@ -95,14 +93,13 @@ unfolding number_in
 too_small n least most word small = rw (lt-leb least (digits_value 10 word) small, and-false (is_numeral word)) refl
 
 pub not_small : (n least most : ℕ) (word : List ℕ) → most < 2 ^ 64 → is_small word ≡ false → number_in n least most word ≡ Err (refused n Number)
-not_small n least most word fits other = go (is_numeral word) (nat_lt (digits_value 10 word) (2 ^ 64)) refl refl other
-  where
-    go : (a b : Bool) → is_numeral word ≡ a → nat_lt (digits_value 10 word) (2 ^ 64) ≡ b → (a && b) ≡ false → number_in n least most word ≡ Err (refused n Number)
-    go false b numeral small h = not_number n least most word numeral
-    go true false numeral small h =
-        let large : 2 ^ 64 ≤ digits_value 10 word = ltb-false (digits_value 10 word) (2 ^ 64) small in
-        too_large n least most word (omega arith)
-    go true true numeral small h = absurd cc
+not_small n least most word fits other = elim (cases_Bool (is_numeral word)) [
+  | inl numeral ↦ elim (cases_lt (digits_value 10 word) (2 ^ 64)) [
+    | inl small ↦ absurd (true≢false (sym (and_from _ _ numeral (lt-ltb _ _ small)) ∙ other))
+    | inr large ↦ too_large n least most word (omega arith)
+  ]
+  | inr none ↦ not_number n least most word none
+]
 
 -- and what is read as one
 pub is_number : (n least most : ℕ) (word : List ℕ) → is_numeral word ≡ true → least ≤ digits_value 10 word → digits_value 10 word ≤ most → number_in n least most word ≡ Ok (digits_value 10 word)

@@ -99,7 +99,6 @@ line_found n text line h = go (position is_feed text) refl h
 pub line_again : (n : ℕ) (line rest : List ℕ) → lacks 10 line ≡ true → line_of n (line ++ (10 ∷ rest)) ≡ Ok (line, rest)
 unfolding line_of
 line_again n line rest h =
-    let text = line ++ (10 ∷ rest) in
     let long : length line < length (line ++ (10 ∷ rest)) = omega (arith, length-append line (10 ∷ rest)) in
     let place : position_or_len is_feed (line ++ (10 ∷ rest)) ≡ length line =
     position_or_len_is is_feed (line ++ (10 ∷ rest)) (length line) 0 (omega arith)
@@ -110,7 +109,4 @@ line_again n line rest h =
     ∙ ap (λ (b : Bool). cond b (Some (length line)) None) (lt-ltb (length line) (length (line ++ (10 ∷ rest))) long) in
     let behind : drop (length line + 1) (line ++ (10 ∷ rest)) ≡ rest =
     ap (drop (length line + 1)) (sym (append_assoc line (10 ∷ []) rest)) ∙ drop_at (line ++ (10 ∷ [])) rest (length line + 1) (length-append line (10 ∷ [])) in
-    ap (cut_at n (line ++ (10 ∷ rest))) found ∙ ap (λ (p : List ℕ × List ℕ). Ok p) (pair_of _ _ _ _ (take_at line (10 ∷ rest) (length line) refl) behind)
-  where
-    pair_of : (a b c d : List ℕ) → a ≡ b → c ≡ d → ◌≡◌ {A = List ℕ × List ℕ} (a, c) (b, d)
-    pair_of a b c d e f = cc
+    ap (cut_at n (line ++ (10 ∷ rest))) found ∙ rw (take_at line (10 ∷ rest) (length line) refl, behind) refl
