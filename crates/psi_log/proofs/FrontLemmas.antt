@@ -8,10 +8,9 @@ use Rattle.std.proofs.lemmas.List.Quantifiers.{position-Some}
 use Rattle.std.proofs.lemmas.List.Sums.{position_or_len_is}
 use Rattle.psi_state.specs.State.{Corners}
 use Rattle.psi_log_format.specs.declared.header.Header.{Header}
-use Rattle.psi_log_format.specs.Log.{LogRegion, Entry, greatest_horizon}
-use Rattle.psi_log_words.specs.Refusal.{Refusal, refused, ◌>>=◌, holds_or}
+use Rattle.psi_log_format.specs.Log.{Entry, greatest_horizon}
+use Rattle.psi_log_words.specs.Refusal.{Refusal, ◌>>=◌}
 use Rattle.psi_log_words.specs.Words.{is_feed, cut_at, line_of, tokens_of, read_version, read_named}
-use Rattle.psi_log_words.specs.declared.refusals.LogCause.TheVariants.{TooLong}
 use Rattle.psi_log_words.proofs.WordLemmas.{bind_ok, ok_same}
 use Rattle.psi_log_scan.specs.Lines.{read_line, named_line, read_header, read_step}
 use Rattle.psi_log_scan.specs.Scanned.{next_step}

@@ -190,9 +190,11 @@ ended_found h text x r =
     let none : line.0.1 ≡ [] = nil_from_length line.0.1 (eqb-true (length line.0.1) 0 (held (refused (8 + h.horizon) TrailingText) (length line.0.1 == 0) over.0 over.1)) in
     let words = read_line_found (7 + h.horizon) (read_end (7 + h.horizon) h.queues) text line.0 line.1 in
     let found = end_found (7 + h.horizon) h.queues words.0 line.0.0 words.1 in
-    subst (λ (y : List ℕ). (text ≡ line_text (codes "end" ∷ numbers_text y ∷ [])) × IsState h.queues y) (ok_same line.0.0 x over.2)
-    (words.2 ∙ ap (λ (ws : List (List ℕ)). line_text ws ++ line.0.1) found.0 ∙ ap (λ (t : List ℕ). line_text (codes "end" ∷ numbers_text line.0.0 ∷ []) ++ t) none
-    ∙ append-nil (line_text (codes "end" ∷ numbers_text line.0.0 ∷ [])), found.1)
+    subst (λ (y : List ℕ). (text ≡ line_text (codes "end" ∷ numbers_text y ∷ [])) × IsState h.queues y) (ok_same line.0.0 x over.2) (
+      words.2 ∙ ap (λ (ws : List (List ℕ)). line_text ws ++ line.0.1) found.0 ∙ ap (λ (t : List ℕ). line_text (codes "end" ∷ numbers_text line.0.0 ∷ []) ++ t) none
+          ∙ append-nil (line_text (codes "end" ∷ numbers_text line.0.0 ∷ [])),
+      found.1,
+    )
 
 pub ended_again : (h : Header) (x : List ℕ) → 1 ≤ h.queues → IsState h.queues x → ended h (end_text x) ≡ Ok x
 unfolding ended end_text

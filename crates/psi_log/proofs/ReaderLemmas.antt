@@ -1,5 +1,5 @@
 -- A reader of logs that goes on by a step, and the regions that it reads.
-use Rattle.std.specs.Prelude.{◌≡◌, ℕ, ◌+◌, ◌<◌, List, length, Bool, true, false, Ok, refl}
+use Rattle.std.specs.Prelude.{◌≡◌, ℕ, ◌+◌, ◌<◌, List, Bool, true, false, Ok, refl}
 use Rattle.std.proofs.Common.{ap, sym, ◌∙◌, subst, arith}
 use Rattle.psi_state.specs.declared.outcome.Step.{Step}
 use Rattle.psi_log_format.specs.declared.header.Header.{Header}

@@ -1,6 +1,5 @@
 -- Of the words of a line the first 4,101 are enough: a line of more than 4,100 is refused for its shape.
-use Rattle.std.specs.Prelude.{◌≡◌, ℕ, ◌+◌, ◌<◌, ◌≤◌, List, [], ◌∷◌, length, take, codes, Bool, true, false, ◌&&◌, nat_le, Option, Some, None, Result, Err, refl, cond}
-use Rattle.std.specs.List.{list_all}
+use Rattle.std.specs.Prelude.{◌≡◌, ℕ, ◌+◌, ◌<◌, ◌≤◌, List, [], ◌∷◌, length, take, codes, Bool, true, false, nat_le, Option, Some, None, Result, Err, refl, cond}
 use Rattle.std.specs.Str.{bytes_eq}
 use Rattle.std.proofs.Common.{ap, sym, ◌∙◌, arith, inl, inr}
 use Rattle.std.proofs.Math.Bool.{and-false}
@@ -9,7 +8,7 @@ use Rattle.std.proofs.lemmas.List.{take_all, length-take-le}
 use Rattle.psi_state.specs.State.{Corners}
 use Rattle.psi_log_format.specs.declared.header.Header.{Header}
 use Rattle.psi_log_words.specs.Refusal.{Refusal, refused, ◌>>=◌, holds_or}
-use Rattle.psi_log_words.specs.Words.{has_pieces, read_named}
+use Rattle.psi_log_words.specs.Words.{read_named}
 use Rattle.psi_log_words.specs.declared.refusals.LogCause.TheVariants.{Shape}
 use Rattle.psi_log_words.specs.Regions.{Given, box_form, set_form, move_form, form_of}
 use Rattle.psi_log_scan.specs.Lines.{read_step}

@@ -14,7 +14,6 @@ use Rattle.psi_log_format.specs.Text.{numbers_text, Change, change_text, step_te
 use Rattle.psi_log_format.specs.Room.{spaced_words}
 use Rattle.psi_log_format.proofs.JoinedLemmas.{then, then_words, one_word, three_pieces}
 use Rattle.psi_log_format.proofs.LinePiecesLemmas.{step_pieces}
-use Rattle.psi_log_words.specs.Refusal.{each}
 use Rattle.psi_log_words.proofs.WordLemmas.{lacks}
 use Rattle.psi_log_words.specs.Regions.{queues_ascend, is_change, changed}
 use Rattle.psi_log_words.proofs.RegionLemmas.{IsChange, changes_lack}

@@ -4,8 +4,8 @@ use Rattle.std.specs.List.{flat_map}
 use Rattle.std.specs.Fmt.{decimal}
 use Rattle.std.proofs.Common.{get_or, set, ap, sym, ◌∙◌, subst, arith, append_assoc, drop-cons, length-append, inl, inr}
 use Rattle.std.proofs.lemmas.Bool.{cases_lt}
-use Rattle.std.proofs.lemmas.List.{take_more_same, take_more, take_at, take-take, drop-take, append-nil, length-drop, length-take-le, length-set, take-set, drop-set-lt, get_or-drop, get_or-take, get_or-set_same, get_or-set_other}
-use Rattle.std.proofs.Math.Seq.{take-add, drop-append_seam}
+use Rattle.std.proofs.lemmas.List.{take_more_same, take_at, take-take, drop-take, append-nil, length-drop, length-take-le, length-set, take-set, drop-set-lt, get_or-drop, get_or-take, get_or-set_same, get_or-set_other}
+use Rattle.std.proofs.Math.Seq.{drop-append_seam}
 use Rattle.psi_log_format.specs.Text.{numbers_text}
 use Rattle.psi_log_format.proofs.JoinedLemmas.{then}
 use Rattle.psi_log_scan.specs.Scanned.{Stands, with_commas}

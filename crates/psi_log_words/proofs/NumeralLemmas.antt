@@ -1,11 +1,11 @@
 -- The numeral at the front of a word, and the number that it writes, digit by digit.
-use Rattle.std.specs.Prelude.{◌≡◌, ℕ, ◌+◌, ◌-◌, ◌*◌, ◌<◌, ◌≤◌, ◌^◌, List, [], ◌∷◌, length, take, cond, Bool, true, false, ◌&&◌, nat_le, nat_lt, Ok, Err, refl}
+use Rattle.std.specs.Prelude.{◌≡◌, ℕ, ◌+◌, ◌-◌, ◌*◌, ◌<◌, ◌≤◌, ◌^◌, List, [], ◌∷◌, length, take, Bool, true, false, ◌&&◌, nat_le, nat_lt, Ok, Err, refl}
 use Rattle.std.specs.List.{list_all, prefix_len, take_while}
 use Rattle.std.specs.Char.{digit_value}
 use Rattle.std.specs.Str.Parse.{digits_value}
 use Rattle.std.proofs.Common.{inl, inr, get_or, ap, sym, ◌∙◌, subst, arith, below_more}
 use Rattle.std.proofs.Math.Bool.{and-false}
-use Rattle.std.proofs.lemmas.Bool.{cases_Bool, true≢false, lt-ltb, cases_lt, and_parts, and_from, le-leb, leb-true, leb-false, lt-leb, ltb-false, false_from_ne_true}
+use Rattle.std.proofs.lemmas.Bool.{cases_Bool, true≢false, lt-ltb, cases_lt, and_parts, and_from, le-leb, leb-true, lt-leb, false_from_ne_true}
 use Rattle.std.proofs.lemmas.List.{take-take, length-take-le, get_or-take}
 use Rattle.std.proofs.lemmas.List.Folds.{list_all_at}
 use Rattle.std.proofs.lemmas.List.Sums.{prefix_len_is, prefix_len_stops, prefix_len-le-length, take_while-cons}

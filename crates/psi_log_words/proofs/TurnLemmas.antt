@@ -1,13 +1,13 @@
 -- Reading the members of a list one after another, as a loop does.
-use Rattle.std.specs.Prelude.{◌≡◌, ℕ, zero, suc, ◌+◌, ◌<◌, ◌≤◌, List, [], ◌∷◌, ◌++◌, length, map, take, drop, true, false, Result, Ok, Err, refl}
+use Rattle.std.specs.Prelude.{◌≡◌, ℕ, suc, ◌+◌, ◌<◌, ◌≤◌, List, [], ◌∷◌, ◌++◌, length, map, take, drop, true, false, Result, Ok, Err, refl}
 use Rattle.std.specs.List.{list_all}
 use Rattle.std.proofs.Common.{get_or, ap, sym, ◌∙◌, append_assoc, arith}
-use Rattle.std.proofs.lemmas.List.{drop_more, append-nil, drop-append-le, take-append-le, take_all, length-drop}
+use Rattle.std.proofs.lemmas.List.{drop_more, append-nil, drop-append-le, take_all, length-drop}
 use Rattle.psi_log_words.proofs.WordLemmas.{bind_ok, ok_same}
-use Rattle.std.proofs.lemmas.Bool.{eqb-true, and_parts}
+use Rattle.std.proofs.lemmas.Bool.{and_parts}
 use Rattle.std.proofs.Math.ListN.{drop_of_length-le}
 use Rattle.psi_log_words.specs.Refusal.{Refusal, ◌>>=◌, each, IsLogError}
-use Rattle.psi_log_words.specs.Words.{has_pieces, pieces_of}
+use Rattle.psi_log_words.specs.Words.{has_pieces}
 use Rattle.psi_log_words.specs.declared.refusals.LogError.{LogError}
 use Rattle.psi_log_words.specs.declared.refusals.LogError.TheVariants.{Refused, OutOfMemory}
 

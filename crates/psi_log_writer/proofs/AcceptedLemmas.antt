@@ -1,5 +1,5 @@
 -- The log of a run that ends with one state is accepted by its checker.
-use Rattle.std.proofs.Common.{◌≡◌, ℕ, zero, suc, ◌+◌, ◌-◌, ◌%◌, ◌<◌, ◌≤◌, ◌^◌, List, [], ◌∷◌, length, map, Bool, true, nat_le, ◌==◌, Some, Result, Ok, inl, inr, refl, sym, ◌∙◌, ap, subst, arith}
+use Rattle.std.proofs.Common.{◌≡◌, ℕ, zero, suc, ◌+◌, ◌-◌, ◌%◌, ◌<◌, ◌≤◌, ◌^◌, List, [], ◌∷◌, length, map, true, nat_le, ◌==◌, Some, Result, Ok, inl, inr, refl, sym, ◌∙◌, ap, subst, arith}
 use Rattle.std.specs.Cmp.Lexicographic.{pointwise}
 use Rattle.std.proofs.lemmas.Bool.{cases_Bool, le-leb, eq-eqb}
 use Rattle.std.proofs.lemmas.List.{length-map}
@@ -18,11 +18,10 @@ use Rattle.psi_horizon.specs.Runs.{region_at, ending_at, region_after}
 use Rattle.psi_horizon.proofs.RunsLemmas.{region_after-whole}
 use Rattle.psi_horizon.proofs.SampleLemmas.{ending-within}
 use Rattle.psi_log_format.specs.declared.header.Header.{Header as Head}
-use Rattle.psi_log_format.specs.Log.{LogRegion, in_box, in_set, Entry, greatest_horizon, IsState, IsRegion, IsEntry, IsLog}
-use Rattle.psi_log_words.specs.Refusal.{Refusal, ◌>>=◌, holds_or}
+use Rattle.psi_log_format.specs.Log.{LogRegion, in_box, Entry, greatest_horizon, IsState, IsRegion, IsEntry, IsLog}
+use Rattle.psi_log_words.specs.Refusal.{Refusal}
 use Rattle.psi_log_words.proofs.StateLemmas.{below_again}
-use Rattle.psi_replay.specs.Verdict.{rejected, states_of, has, covers, is_within, is_small, holds_all, judge_step, judge_steps, judge_end, judged, verdict_of, event_numbers}
-use Rattle.psi_replay.specs.declared.causes.RuleCause.TheVariants.{Header, StepNumber, WrongEvent, OutsideBox, NotCovered, SplitTooLarge, NotSingle, WrongState}
+use Rattle.psi_replay.specs.Verdict.{states_of, has, covers, is_within, is_small, holds_all, judge_step, judge_steps, judge_end, judged, verdict_of, event_numbers}
 use Rattle.psi_log_words.proofs.NumberLemmas.{all_from}
 use Rattle.psi_replay.proofs.ListLemmas.{has-from_In}
 use Rattle.psi_log_writer.specs.Recorded.{region_of, entry_after, recorded}

@@ -2,14 +2,13 @@
 use Rattle.std.proofs.Common.{◌≡◌, ℕ, zero, suc, ◌+◌, ◌-◌, ◌<◌, ◌≤◌, List, [], ◌∷◌, ◌++◌, length, Bool, map, if◌then◌else◌, refl, sym, ◌∙◌, ap, subst, append_assoc, append-nil, arith}
 use Rattle.std.proofs.lemmas.Bool.{lt-ltb, le-ltb}
 use Rattle.psi_state.specs.State.{numbers_from}
-use Rattle.psi_rate.specs.Composition.{SystemParts, system_functions}
+use Rattle.psi_rate.specs.Composition.{SystemParts}
 use Rattle.psi_region.specs.Region.{start}
 use Rattle.psi_horizon.specs.Runs.{region_after}
 use Rattle.psi_log_format.specs.declared.header.Header.{Header}
 use Rattle.psi_log_format.specs.Text.{header_text, begin_text, end_text, entries_text, log_text}
-use Rattle.psi_replay.specs.Verdict.{event_numbers}
-use Rattle.psi_log_writer.specs.Recorded.{region_of, entry_after, recorded, log_of}
-use Rattle.psi_log_writer.specs.Walking.{step_line, front_text, most_held, line_at, text_before, line_in, text_in}
+use Rattle.psi_log_writer.specs.Recorded.{region_of, entry_after, recorded}
+use Rattle.psi_log_writer.specs.Walking.{step_line, front_text, most_held, line_at, text_before, line_in}
 
 module _ (split : ℕ) (f : ℕ → List ℕ → List ℕ) (caps : List ℕ) (events : ℕ → ℕ) where
   -- the lines of n steps from one on, and then of the next

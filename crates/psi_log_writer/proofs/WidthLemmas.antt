@@ -8,18 +8,13 @@ use Rattle.std.proofs.lemmas.Fmt.{length-decimal-le}
 use Rattle.std.proofs.lemmas.Bool.{true≢false, cases_Bool, cases_lt}
 use Rattle.std.proofs.lemmas.List.{get_or_past}
 use Rattle.psi_state.specs.State.{Corners, IsBelow, IsVector, AreCapacities, numbers_from}
-use Rattle.psi_state.specs.Hull.{lows, highs, corners, HaveLength, IsTight}
-use Rattle.psi_state.specs.Boxes.{IsBetween}
-use Rattle.psi_state.proofs.BoxesLemmas.{below-through}
-use Rattle.psi_state.proofs.HullLemmas.{corners-tight}
+use Rattle.psi_state.specs.Hull.{lows, highs, corners}
 use Rattle.psi_state.specs.declared.outcome.Step.{Step}
 use Rattle.psi_event.specs.Law.{IsClosed}
 use Rattle.psi_rate.specs.Composition.{SystemParts, AreClosed, system_functions}
 use Rattle.psi_rate.specs.System.{IsSystem}
 use Rattle.psi_rate.proofs.FunctionsLemmas.{functions-closed}
 use Rattle.psi_rate.proofs.PowersLemmas.{pow-order}
-use Rattle.psi_region.specs.Region.{Area}
-use Rattle.psi_region.proofs.RegionLemmas.{tight-high}
 use Rattle.psi_horizon.specs.Runs.{region_after}
 use Rattle.psi_log_format.specs.declared.header.Header.{Header}
 use Rattle.psi_log_format.specs.Log.{LogRegion, in_box, in_set}
@@ -32,7 +27,7 @@ use Rattle.psi_log_writer.specs.Walking.{step_line, front_text, text_in, IsRoomy
 use Rattle.psi_log_writer.proofs.WalkingLemmas.{next-set}
 use Rattle.psi_log_writer.proofs.TextLemmas.{text_before-front}
 use Rattle.psi_log_writer.proofs.AcceptedLemmas.{events-few}
-use Rattle.psi_log_writer.proofs.RegionLemmas.{corners-below, IsKept, kept-after, state-below, region_of-plain}
+use Rattle.psi_log_writer.proofs.RegionLemmas.{corners-below, kept-after, state-below, region_of-plain}
 use Rattle.psi_log_writer.proofs.BoundLemmas.{AreShort, named-set, HasFew, few-next, step-short, log-from, log-ample}
 
 -- the numbers of a state have no more digits than its capacities
