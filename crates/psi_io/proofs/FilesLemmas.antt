@@ -1,12 +1,14 @@
 -- The files of a shelf in memory: the first of a name, and what a change of it leaves.
-use Rattle.std.proofs.Common.{◌≡◌, ◌≢◌, ℕ, zero, suc, ◌^◌, ◌<◌, ◌≤◌, Bool, true, false, cond, List, [], ◌∷◌, ◌++◌, ◌+◌, length, set, get_or, take, Option, None, Some, Result, Ok, Err, refl, sym, ◌∙◌, ap, inl, inr, arith, eq-eqb}
-use Rattle.std.specs.Prelude.{find, position, option_map, nat_eq, IfErr, IsErrOf}
+use Rattle.std.proofs.Common.{subst, ◌≡◌, ◌≢◌, ℕ, zero, suc, ◌^◌, ◌<◌, ◌≤◌, Bool, true, false, cond, List, [], ◌∷◌, ◌++◌, ◌+◌, length, set, get_or, take, Option, None, Some, Result, Ok, Err, refl, sym, ◌∙◌, ap, inl, inr, arith, eq-eqb}
+use Rattle.std.specs.Prelude.{◌⊎◌, find, position, option_map, nat_eq, IfErr, IsErrOf}
 use Rattle.std.specs.List.{list_any, position_or_len}
 use Rattle.std.specs.Option.{option_map_or, option_or}
 use Rattle.std.specs.Str.{bytes_eq}
 use Rattle.std.proofs.Math.Path.{fun_ext}
 use Rattle.std.proofs.lemmas.Bool.{cases_Bool}
-use Rattle.std.proofs.lemmas.List.Folds.{find-append, list_any_at}
+use Rattle.std.proofs.lemmas.List.Folds.{find_at, find-append, list_any_at}
+use Rattle.std.proofs.lemmas.Iterator.Adapters.{option_map_id}
+use Rattle.std.proofs.lemmas.Option.{slice_get_past}
 use Rattle.std.proofs.lemmas.List.Quantifiers.{position-Some}
 use Rattle.std.proofs.lemmas.List.Recursion.{found_at}
 use Rattle.std.proofs.lemmas.Slice.Eq.{bytes_eq-Decides}
@@ -23,18 +25,9 @@ find-at name files place default found =
     let at = position-Some (has_name name) files place default found in
     found_at (find (has_name name)) (has_name name) Some None refl (λ _ _. refl) files place default at.0 at.2 at.1
 
--- where no place passes a test, nothing is found
-find-past : {X : Type 0} (test : X → Bool) (xs : List X) → length xs ≤ position_or_len test xs → find test xs ≡ None
-find-past test [] past = refl
-find-past test (x ∷ xs) past =
-    elim (cases_Bool (test x)) [
-      | inl passes ↦ absurd (let none = rw passes at past in omega arith)
-      | inr fails ↦ let rest = rw fails at past in rw fails (find-past test xs (omega arith))
-    ]
-
 -- a name without a place has no file
 pub find-none : (name : List ℕ) (files : List ShelfFile) → position (has_name name) files ≡ None → find (has_name name) files ≡ None
-find-none name files none = find-past (has_name name) files (grind arith)
+find-none name files none = find_at (has_name name) files ∙ slice_get_past files (position_or_len (has_name name) files) (grind arith)
 
 -- where no file has a name, the changed files are the same
 pub changed-none :
@@ -69,63 +62,29 @@ changed-at change name files place file found is =
     let at = position-Some (has_name name) files place file found in
     ap (λ (f : ShelfFile). set files place (change f)) is ∙ changed-from change name files place file at.0 at.1 at.2
 
--- a change that keeps the names keeps what a test for a name answers
-same-test :
-    (change : ShelfFile → ShelfFile) → ((file : ShelfFile) → (change file).name ≡ file.name)
-    → (name : List ℕ) (file : ShelfFile) → has_name name (change file) ≡ has_name name file
-same-test change names name file = ap (λ (bytes : List ℕ). bytes_eq bytes name) (names file)
-
--- what a change leaves of each file, it leaves of the file of each name
+-- a change that keeps the names changes the file of its own name alone
 pub find-changed :
-    {A : Type 0} (part : Option ShelfFile → A) (change : ShelfFile → ShelfFile)
-    → ((file : ShelfFile) → (change file).name ≡ file.name) → ((file : ShelfFile) → part (Some (change file)) ≡ part (Some file))
-    → (name other : List ℕ) (files : List ShelfFile)
-    → part (find (has_name other) (changed change name files)) ≡ part (find (has_name other) files)
-find-changed part change names parts name other [] = refl
-find-changed part change names parts name other (file ∷ files) =
+    (change : ShelfFile → ShelfFile) → ((file : ShelfFile) → (change file).name ≡ file.name) → (name other : List ℕ) (files : List ShelfFile)
+    → find (has_name other) (changed change name files) ≡ option_map (λ file. cond (bytes_eq name other) (change file) file) (find (has_name other) files)
+find-changed change names name other [] = refl
+find-changed change names name other (file ∷ files) =
     elim (cases_Bool (has_name name file)) [
-      | inl named ↦ rw (named, same-test change names other file) (elim (cases_Bool (has_name other file)) [
-        | inl own ↦ rw own (parts file)
-        | inr misses ↦ rw misses refl
-      ])
+      | inl named ↦ (let same = ap (λ (bytes : List ℕ). bytes_eq bytes other) ((bytes_eq-Decides file.name name).0 named) in
+          let kept = ap (λ (bytes : List ℕ). bytes_eq bytes other) (names file) in
+          elim (cases_Bool (bytes_eq name other)) [
+            | inl own ↦ rw (named, kept, same, own) refl
+            | inr misses ↦ rw (named, kept, same, misses) (sym (option_map_id (find (has_name other) files)))
+          ])
       | inr past ↦ rw past (elim (cases_Bool (has_name other file)) [
-        | inl own ↦ rw own refl
-        | inr misses ↦ rw misses (find-changed part change names parts name other files)
+        | inl own ↦ rw (own, apart file.name ((bytes_eq-Decides file.name other).0 own) past) refl
+        | inr misses ↦ rw misses (find-changed change names name other files)
       ])
     ]
-
--- the file of the name is the changed one
-pub find-own :
-    (change : ShelfFile → ShelfFile) → ((file : ShelfFile) → (change file).name ≡ file.name) → (name : List ℕ) (files : List ShelfFile)
-    → find (has_name name) (changed change name files) ≡ option_map change (find (has_name name) files)
-find-own change names name [] = refl
-find-own change names name (file ∷ files) =
-    elim (cases_Bool (has_name name file)) [
-      | inl named ↦ rw (named, same-test change names name file, named) refl
-      | inr past ↦ rw (past, past) (find-own change names name files)
-    ]
-
--- a file of a name isn't one of another name
-apart-names : (name other : List ℕ) (file : ShelfFile) → has_name name file ≡ true → other ≢ name → has_name other file ≡ false
-apart-names name other file named apart =
-    elim (cases_Bool (has_name other file)) [
-      | inl own ↦ absurd (apart (sym ((bytes_eq-Decides file.name other).0 own) ∙ (bytes_eq-Decides file.name name).0 named))
+  where
+    apart : (bytes : List ℕ) → bytes ≡ other → bytes_eq bytes name ≡ false → bytes_eq name other ≡ false
+    apart bytes is past = elim (cases_Bool (bytes_eq name other)) [
+      | inl own ↦ absurd (let same = (bytes_eq-Decides bytes name).1 (is ∙ sym ((bytes_eq-Decides name other).0 own)) in cc)
       | inr misses ↦ misses
-    ]
-
--- the files of other names stay
-pub find-other :
-    (change : ShelfFile → ShelfFile) → ((file : ShelfFile) → (change file).name ≡ file.name)
-    → (name other : List ℕ) (files : List ShelfFile)
-    → other ≢ name → find (has_name other) (changed change name files) ≡ find (has_name other) files
-find-other change names name other [] apart = refl
-find-other change names name other (file ∷ files) apart =
-    elim (cases_Bool (has_name name file)) [
-      | inl named ↦ let misses = apart-names name other file named apart in rw (named, same-test change names other file, misses) refl
-      | inr past ↦ rw past (elim (cases_Bool (has_name other file)) [
-        | inl own ↦ rw own refl
-        | inr misses ↦ rw misses (find-other change names name other files apart)
-      ])
     ]
 
 -- a shelf whose file at a name's place has other bytes is the shelf once they are put
@@ -147,64 +106,56 @@ put-new shelf name bytes file none names holds counts =
     λ i. record { name = names i; bytes = holds i; count = counts i } in
     rw (find-none name shelf.files none) (ap (λ (f : ShelfFile). record shelf { files = shelf.files ++ f ∷ [] }) same)
 
--- what is put under a name is told of it
-told-put :
-    (shelf : ShelfContents) (name bytes : List ℕ) (found : Option ShelfFile)
-    → file_of shelf name ≡ found → told_of (after_put shelf name bytes) name ≡ Some bytes
-told-put shelf name bytes None is =
-    let own : bytes_eq name name ≡ true = (bytes_eq-Decides name name).1 refl in
-    rw (is, find-append (has_name name) shelf.files, is, own) refl
-told-put shelf name bytes (Some file) is =
-    rw (is, find-own (with_bytes bytes) (λ _. refl) name shelf.files, is) refl
+-- there is a file, or there is none
+cases-file : (found : Option ShelfFile) → (found ≡ None) ⊎ ((file : ShelfFile) × (found ≡ Some file))
+cases-file None = inl refl
+cases-file (Some file) = inr (file, refl)
 
--- the same for each shelf
-pub told-after_put : (shelf : ShelfContents) (name bytes : List ℕ) → told_of (after_put shelf name bytes) name ≡ Some bytes
-told-after_put shelf name bytes = told-put shelf name bytes (file_of shelf name) refl
+-- what is put under a name is told of it
+pub told_after_put : (shelf : ShelfContents) (name bytes : List ℕ) → told_of (after_put shelf name bytes) name ≡ Some bytes
+told_after_put shelf name bytes =
+    let own : bytes_eq name name ≡ true = (bytes_eq-Decides name name).1 refl in
+    elim (cases-file (file_of shelf name)) [
+      | inl none ↦ rw (none, find-append (has_name name) shelf.files, none, own) refl
+      | inr w ↦ rw (w.1, find-changed (with_bytes bytes) (λ _. refl) name name shelf.files, w.1, own) refl
+    ]
 
 -- nothing after a file
 or-nothing : (found : Option ShelfFile) → option_or found None ≡ found
-or-nothing None = refl
-or-nothing (Some file) = refl
+or-nothing found = grind arith
 
 -- what is put under a name leaves the other names
-others-put :
-    (shelf : ShelfContents) (name bytes other : List ℕ) (found : Option ShelfFile)
-    → file_of shelf name ≡ found → other ≢ name → told_of (after_put shelf name bytes) other ≡ told_of shelf other
-others-put shelf name bytes other None is apart =
-    let misses = apart-names name other (record { name = name; bytes = bytes; count = shelf.absent }) ((bytes_eq-Decides name name).1 refl) apart in
-    rw (is, find-append (has_name other) shelf.files, misses, or-nothing (find (has_name other) shelf.files)) refl
-others-put shelf name bytes other (Some file) is apart =
-    rw (is, find-other (with_bytes bytes) (λ _. refl) name other shelf.files apart) refl
-
--- the same for each shelf
-pub others-after_put :
+pub others_after_put :
     (shelf : ShelfContents) (name bytes other : List ℕ)
     → other ≢ name → told_of (after_put shelf name bytes) other ≡ told_of shelf other
-others-after_put shelf name bytes other apart = others-put shelf name bytes other (file_of shelf name) refl apart
+others_after_put shelf name bytes other apart =
+    let misses : bytes_eq name other ≡ false = grind (arith, bytes_eq-Decides name other) in
+    elim (cases-file (file_of shelf name)) [
+      | inl none ↦ rw (none, find-append (has_name other) shelf.files, misses, or-nothing (find (has_name other) shelf.files)) refl
+      | inr w ↦ rw (w.1, find-changed (with_bytes bytes) (λ _. refl) name other shelf.files, misses, option_map_id) refl
+    ]
 
--- a file whose count is that of the names that aren't there changes no count
+-- a file whose count is that of the names that aren't there changes no count, and neither do other bytes
 count-or :
     (found : Option ShelfFile) (own : Bool) (file : ShelfFile)
     → option_map_or (λ (f : ShelfFile). f.count) (option_or found (cond own (Some file) None)) file.count
     ≡ option_map_or (λ (f : ShelfFile). f.count) found file.count
-count-or (Some other) own file = refl
-count-or None true file = refl
-count-or None false file = refl
+count-or found own file = grind arith
+
+count-kept :
+    (found : Option ShelfFile) (own : Bool) (bytes : List ℕ) (absent : ℕ)
+    → option_map_or (λ (f : ShelfFile). f.count) (option_map (λ file. cond own (with_bytes bytes file) file) found) absent
+    ≡ option_map_or (λ (f : ShelfFile). f.count) found absent
+count-kept found own bytes absent = grind arith
 
 -- what is put under a name leaves each count
-counts-put :
-    (shelf : ShelfContents) (name bytes other : List ℕ) (found : Option ShelfFile)
-    → file_of shelf name ≡ found → faults_of (after_put shelf name bytes) other ≡ faults_of shelf other
-counts-put shelf name bytes other None is =
-    rw (is, find-append (has_name other) shelf.files)
-    (count-or (find (has_name other) shelf.files) (bytes_eq name other) (record { name = name; bytes = bytes; count = shelf.absent }))
-counts-put shelf name bytes other (Some file) is =
-    rw is (find-changed (λ (o : Option ShelfFile). option_map_or (λ (f : ShelfFile). f.count) o shelf.absent) (with_bytes bytes) (λ _. refl) (λ _. refl) name other shelf.files)
-
--- the same for each shelf
-pub counts-after_put :
+pub counts_after_put :
     (shelf : ShelfContents) (name bytes other : List ℕ) → faults_of (after_put shelf name bytes) other ≡ faults_of shelf other
-counts-after_put shelf name bytes other = counts-put shelf name bytes other (file_of shelf name) refl
+counts_after_put shelf name bytes other =
+    elim (cases-file (file_of shelf name)) [
+      | inl none ↦ rw (none, find-append (has_name other) shelf.files) (count-or (find (has_name other) shelf.files) (bytes_eq name other) (record { name = name; bytes = bytes; count = shelf.absent }))
+      | inr w ↦ rw (w.1, find-changed (with_bytes bytes) (λ _. refl) name other shelf.files) (count-kept (find (has_name other) shelf.files) (bytes_eq name other) bytes shelf.absent)
+    ]
 
 -- a shelf with one more fault at a name's place is the shelf after its failed read
 pub fail-place :
@@ -237,89 +188,68 @@ count-fault (Some file) absent = refl
 pub faults-after_failed :
     (shelf : ShelfContents) (name : List ℕ) (most : ℕ) → faults_of (after_failed_read shelf name most) name ≡ counted (faults_of shelf name)
 faults-after_failed shelf name most =
-    rw (find-own with_fault (λ _. refl) name shelf.files) (count-fault (file_of shelf name) shelf.absent)
+    let own : bytes_eq name name ≡ true = (bytes_eq-Decides name name).1 refl in
+    rw (find-changed with_fault (λ _. refl) name name shelf.files, own) (count-fault (file_of shelf name) shelf.absent)
 
 -- a failed read changes nothing that is told
+bytes-kept :
+    (found : Option ShelfFile) (own : Bool)
+    → option_map (λ (f : ShelfFile). f.bytes) (option_map (λ file. cond own (with_fault file) file) found) ≡ option_map (λ (f : ShelfFile). f.bytes) found
+bytes-kept found own = grind arith
+
 pub told-after_failed : (shelf : ShelfContents) (name : List ℕ) (most : ℕ) → told_of (after_failed_read shelf name most) ≡ told_of shelf
 told-after_failed shelf name most =
-    fun_ext (λ other. find-changed (option_map (λ (f : ShelfFile). f.bytes)) with_fault (λ _. refl) (λ _. refl) name other shelf.files)
+    fun_ext (λ other. rw (find-changed with_fault (λ _. refl) name other shelf.files) (bytes-kept (file_of shelf other) (bytes_eq name other)))
 
--- the count of no file falls where one more fault of a name is counted
-count-raised :
-    (name other : List ℕ) (files : List ShelfFile) (absent : ℕ)
-    → option_map_or (λ (f : ShelfFile). f.count) (find (has_name name) files) 0 < 2 ^ 64
-    → option_map_or (λ (f : ShelfFile). f.count) (find (has_name other) files) absent
-    ≤ option_map_or (λ (f : ShelfFile). f.count) (find (has_name other) (changed with_fault name files)) absent
-count-raised name other [] absent small = omega arith
-count-raised name other (file ∷ files) absent small =
-    elim (cases_Bool (has_name name file)) [
-      | inl named ↦
-          let bound : file.count < 2 ^ 64 = rw named at small in
-          rw named (elim (cases_Bool (has_name other file)) [
-            | inl own ↦ rw own (omega arith)
-            | inr misses ↦ rw misses (omega arith)
-          ])
-      | inr past ↦
-          let rest = rw past at small in
-          rw past (elim (cases_Bool (has_name other file)) [
-            | inl own ↦ rw own (omega arith)
-            | inr misses ↦ rw misses (count-raised name other files absent rest)
-          ])
-    ]
+-- one more fault of a name, or of those that aren't there, makes no count smaller
+count-grows :
+    (found : Option ShelfFile) (own : Bool) (absent more : ℕ) → absent ≤ more → (own ≡ true → option_map_or (λ (f : ShelfFile). f.count) found absent < 2 ^ 64)
+    → option_map_or (λ (f : ShelfFile). f.count) found absent
+    ≤ option_map_or (λ (f : ShelfFile). f.count) (option_map (λ file. cond own (with_fault file) file) found) more
+count-grows found own absent more order small = grind arith
 
--- a greater count of the names that aren't there makes no count smaller
-count-absent :
-    (found : Option ShelfFile) (absent : ℕ)
-    → absent < 2 ^ 64
-    → option_map_or (λ (f : ShelfFile). f.count) found absent ≤ option_map_or (λ (f : ShelfFile). f.count) found (counted absent)
-count-absent None absent small = omega arith
-count-absent (Some file) absent small = omega arith
+absent-grows :
+    (found : Option ShelfFile) (absent : ℕ) → option_map_or (λ (f : ShelfFile). f.count) found absent < 2 ^ 64
+    → absent ≤ option_map_or (λ (f : ShelfFile). absent) found (counted absent)
+absent-grows found absent small = grind arith
 
--- a failed read makes no count smaller, by whether its name is there
-counts-failed :
-    (shelf : ShelfContents) (name other : List ℕ) (most : ℕ) (found : Option ShelfFile)
-    → file_of shelf name ≡ found → faults_of shelf name < 2 ^ 64
-    → faults_of shelf other ≤ faults_of (after_failed_read shelf name most) other
-counts-failed shelf name other most None is small =
-    let bound : shelf.absent < 2 ^ 64 = rw is at small in
-    rw (is, changed-none with_fault name shelf.files is) (count-absent (find (has_name other) shelf.files) shelf.absent bound)
-counts-failed shelf name other most (Some file) is small =
-    let bound : option_map_or (λ (f : ShelfFile). f.count) (find (has_name name) shelf.files) 0 < 2 ^ 64 = rw is (rw is at small) in
-    rw is (count-raised name other shelf.files shelf.absent bound)
-
--- the same for each shelf
 pub counts-after_failed :
     (shelf : ShelfContents) (name other : List ℕ) (most : ℕ)
     → faults_of shelf name < 2 ^ 64 → faults_of shelf other ≤ faults_of (after_failed_read shelf name most) other
-counts-after_failed shelf name other most small = counts-failed shelf name other most (file_of shelf name) refl small
+counts-after_failed shelf name other most small =
+    rw (find-changed with_fault (λ _. refl) name other shelf.files)
+    (count-grows (file_of shelf other) (bytes_eq name other) shelf.absent _ (absent-grows (file_of shelf name) shelf.absent small)
+    (λ own. subst (λ n. faults_of shelf n < 2 ^ 64) ((bytes_eq-Decides name other).0 own) small))
 
--- the bytes of the file at a name's place are told of the name
+-- the bytes of the file at a name's place are told of the name, in what the shelf is seen as
 pub told-at :
-    (shelf : ShelfContents) (name : List ℕ) (place : ℕ) (file : ShelfFile)
+    {shelf seen : ShelfContents} → shelf ≡ seen → (name : List ℕ) (place : ℕ) (file : ShelfFile)
     → position (has_name name) shelf.files ≡ Some place → file ≡ get_or shelf.files place file
-    → told_of shelf name ≡ Some file.bytes
-told-at shelf name place file found is = rw (find-at name shelf.files place file found) (ap (λ (f : ShelfFile). Some f.bytes) (sym is))
+    → told_of seen name ≡ Some file.bytes
+told-at {shelf} same name place file found is = rw (← same, find-at name shelf.files place file found) (ap (λ (f : ShelfFile). Some f.bytes) (sym is))
 
 -- and its count is the name's
 pub faults-at :
-    (shelf : ShelfContents) (name : List ℕ) (place : ℕ) (file : ShelfFile)
+    {shelf seen : ShelfContents} → shelf ≡ seen → (name : List ℕ) (place : ℕ) (file : ShelfFile)
     → position (has_name name) shelf.files ≡ Some place → file ≡ get_or shelf.files place file
-    → faults_of shelf name ≡ file.count
-faults-at shelf name place file found is = rw (find-at name shelf.files place file found) (ap (λ (f : ShelfFile). f.count) (sym is))
+    → faults_of seen name ≡ file.count
+faults-at {shelf} same name place file found is = rw (← same, find-at name shelf.files place file found) (ap (λ (f : ShelfFile). f.count) (sym is))
 
 -- nothing is told of a name without a place
 pub told-none :
     (shelf : ShelfContents) (name : List ℕ) → position (has_name name) shelf.files ≡ None → told_of shelf name ≡ None
 told-none shelf name none = ap (option_map (λ (f : ShelfFile). f.bytes)) (find-none name shelf.files none)
 
--- a read of a name that is there, whose number isn't to fail, doesn't fail
+-- a read of a file at its name's place, whose number isn't to fail, doesn't fail
 pub reads-at :
-    (shelf : ShelfContents) (name : List ℕ) (file : ShelfFile)
-    → told_of shelf name ≡ Some file.bytes → list_any (λ (n : ℕ). nat_eq n (counted (length shelf.asked))) shelf.fails ≡ false
-    → FailsToRead shelf name → ⊥
-reads-at shelf name file told spared (inl (place, within, is)) =
-    let found = list_any_at (λ (n : ℕ). nat_eq n (counted (length shelf.asked))) shelf.fails place (counted (length shelf.asked)) within (eq-eqb _ _ is) in cc
-reads-at shelf name file told spared (inr missing) = cc
+    {shelf seen : ShelfContents} → shelf ≡ seen → (name : List ℕ) (place number : ℕ) (file : ShelfFile)
+    → position (has_name name) shelf.files ≡ Some place → file ≡ get_or shelf.files place file
+    → number ≡ counted (length shelf.asked) → list_any (λ (n : ℕ). nat_eq n number) shelf.fails ≡ false → FailsToRead seen name → ⊥
+reads-at {shelf} same name place number file found is own spared fails = go (subst (λ (s : ShelfContents). FailsToRead s name) (sym same) fails)
+  where
+    go : FailsToRead shelf name → ⊥
+    go (inl (k, within, at)) = (let any = list_any_at (λ (n : ℕ). nat_eq n number) shelf.fails k (counted (length shelf.asked)) within (eq-eqb _ _ (at ∙ sym own)) in cc)
+    go (inr missing) = (let told = told-at {shelf = shelf} refl name place file found is in cc)
 
 -- an answer that is an error only if an allocation fails is not a fault
 pub no-fault : {T : Type 0} (r : Result T ShelfFault) → IfErr r (λ fault. fault ≡ OutOfMemory) → IsErrOf r Failed → ⊥

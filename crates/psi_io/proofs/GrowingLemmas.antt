@@ -1,5 +1,5 @@
 -- How what a sink holds grows while a piece is written in parts.
-use Rattle.std.proofs.Common.{◌≡◌, ℕ, ◌+◌, ◌-◌, ◌≤◌, arith, List, ◌++◌, length, take, drop, Option, sym, ◌∙◌, ap, subst, append_assoc, Some}
+use Rattle.std.proofs.Common.{◌≡◌, ℕ, ◌+◌, ◌-◌, ◌≤◌, arith, List, ◌++◌, length, take, drop, Option, sym, ◌∙◌, ap, subst, Some}
 use Rattle.std.proofs.Math.Seq.{take-add}
 use Rattle.std.proofs.lemmas.List.{take-append-drop, take_rest, length-take, length-drop}
 use Rattle.psi_io.specs.Sink.{appended, GrewByPrefix, TookPrefix}
@@ -30,11 +30,7 @@ pub took_more :
     → after ≡ middle ++ take count (take (length piece - at) (drop at piece))
     → after ≡ before ++ take (at + count) piece
 took_more before middle after piece at count took next =
-    next
-    ∙ ap (λ (bytes : List ℕ). bytes ++ take count (take (length piece - at) (drop at piece))) took
-    ∙ append_assoc before (take at piece) (take count (take (length piece - at) (drop at piece)))
-    ∙ ap (λ (rest : List ℕ). before ++ (take at piece ++ take count rest)) (take_rest piece at)
-    ∙ ap (λ (bytes : List ℕ). before ++ bytes) (sym (take-add at count piece))
+    (let grown = grown_more (Some before) (Some middle) (Some after) piece at count (ap Some took) (ap Some next) in cc)
 
 -- a front of a piece followed by a prefix of its rest is a prefix of the piece
 pub took_front :

@@ -5,9 +5,8 @@ ghost use Rattle.std.specs.IoError.{error_kind};
 ghost use Rattle.psi_io.specs.Counts.{counted, Rose};
 ghost use Rattle.psi_io.specs.Shelf.{Delivered, ReadUpTo, TookFile};
 
-use crate::answered::Answered;
-use crate::asked::Asked;
 use crate::consumer::Consumer;
+use crate::history::History;
 use crate::noted::Noted;
 use crate::shelf::{Shelf, ShelfFault};
 use std::alloc::Global;
@@ -25,8 +24,7 @@ const CHUNK: usize = 8192;
 #[derive(Drop)]
 pub struct DiskShelf<'r, R: Files> {
     rt: &'r R,
-    asked: Asked,
-    gave: Answered,
+    history: History,
     count: u64,
 }
 
@@ -35,7 +33,7 @@ impl<'r, R: Files> Model for DiskShelf<'r, R> {
 
     ghost Value = { OverFiles };
 
-    ghost view = { λ shelf. record { asked = shelf.asked.reads; gave = shelf.gave.answers; count = shelf.count } };
+    ghost view = { λ shelf. record { asked = shelf.history.asked; gave = shelf.history.gave; count = shelf.count } };
 }
 
 impl<'r, R: Files> DiskShelf<'r, R> {
@@ -47,8 +45,7 @@ impl<'r, R: Files> DiskShelf<'r, R> {
     {
         DiskShelf {
             rt,
-            asked: Asked::new(),
-            gave: Answered::new(),
+            history: History::new(),
             count: 0,
         }
     }
@@ -155,10 +152,10 @@ impl<R: Files> Shelf for DiskShelf<'_, R> {
         ensures gave { OnOk result (Delivered self.old.gave self.new.gave name.now most (C.taken to.old) (C.taken to.new)) }
         ensures gave_none { OnErr result (self.new.gave ≡ self.old.gave) }
     {
-        self.asked = self.asked.and(name.as_bytes(), most);
+        self.history = self.history.ask(name.as_bytes(), most);
         match feed_opened(fs::open(self.rt, name), most, to) {
             Ok(noted) => {
-                self.gave = self.gave.and(name.as_bytes(), most, &noted);
+                self.history = self.history.give(name.as_bytes(), most, &noted);
                 Ok(())
             }
             Err(fault) => {

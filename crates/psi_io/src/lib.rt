@@ -8,10 +8,9 @@
 //! [`StdSink`] are thin adapters to the files and the output of the system.
 #![tactic(auto)]
 
-mod answered;
-mod asked;
 mod consumer;
 mod disk_shelf;
+mod history;
 mod memory_file;
 mod memory_shelf;
 mod memory_sink;

@@ -6,9 +6,8 @@ ghost use Rattle.psi_io.specs.MemoryShelf.{has_name, told_of, faults_of, FailsTo
 ghost use Rattle.psi_io.specs.Shelf.{Delivered};
 
 use crate::OutOfMemory;
-use crate::answered::Answered;
-use crate::asked::Asked;
 use crate::consumer::Consumer;
+use crate::history::History;
 use crate::memory_file::MemoryFile;
 use crate::shelf::{Shelf, ShelfFault};
 use std::alloc::Global;
@@ -24,8 +23,7 @@ use std::marker::Model;
 pub struct MemoryShelf {
     files: Vec<MemoryFile>,
     absent: u64,
-    asked: Asked,
-    gave: Answered,
+    history: History,
     reads: u64,
     fails: Vec<u64>,
     alloc: Global,
@@ -40,13 +38,13 @@ impl Model for MemoryShelf {
     ghost view = { λ shelf. record {
       files = shelf.files.items;
       absent = shelf.absent;
-      asked = shelf.asked.reads;
-      gave = shelf.gave.answers;
+      asked = shelf.history.asked;
+      gave = shelf.history.gave;
       fails = shelf.fails.items;
     } };
 
     // The number of the last read.
-    ghost invariant = { λ shelf. shelf.reads ≡ min (length shelf.asked.reads) (2 ^ 64 - 1) };
+    ghost invariant = { λ shelf. shelf.reads ≡ min (length shelf.history.asked) (2 ^ 64 - 1) };
 }
 
 impl MemoryShelf {
@@ -61,8 +59,7 @@ impl MemoryShelf {
         MemoryShelf {
             files: Vec::new(alloc),
             absent: 0,
-            asked: Asked::new(),
-            gave: Answered::new(),
+            history: History::new(),
             reads: 0,
             fails,
             alloc,
@@ -75,6 +72,7 @@ impl MemoryShelf {
     ///
     /// [`OutOfMemory`] if an allocation fails. The shelf then stays as
     /// it was.
+    #[tactic(auto, using(crate::proofs::FilesLemmas::told_after_put, crate::proofs::FilesLemmas::others_after_put, crate::proofs::FilesLemmas::counts_after_put))]
     pub fn put(&mut self, name: &str, bytes: &[u8]) -> Result<(), OutOfMemory>
         ensures told { OnOk result (told_of self.new name.now ≡ Some bytes.now) }
         ensures others { (other : List ℕ) → other ≢ name.now → told_of self.new other ≡ told_of self.old other }
@@ -83,6 +81,14 @@ impl MemoryShelf {
         ensures refused { OnErr result (self.new ≡ self.old) }
     {
         let bytes = Vec::from_slice(self.alloc, bytes)?;
+        self.put_copy(name, bytes)
+    }
+
+    // Puts bytes under a name that the shelf keeps.
+    fn put_copy(&mut self, name: &str, bytes: Vec<u8>) -> Result<(), OutOfMemory>
+        ensures after { OnOk result (self.new ≡ after_put self.old name.now bytes.items) }
+        ensures refused { OnErr result (self.new ≡ self.old) }
+    {
         match place_of(self.files.as_slice(), name) {
             Some(place) => self.files[place].replace(bytes),
             None => {
@@ -143,7 +149,7 @@ impl Shelf for MemoryShelf {
         ensures gave { OnOk result (Delivered self.old.gave self.new.gave name.now most (C.taken to.old) (C.taken to.new)) }
         ensures gave_none { OnErr result (self.new.gave ≡ self.old.gave) }
     {
-        self.asked = self.asked.and(name.as_bytes(), most);
+        self.history = self.history.ask(name.as_bytes(), most);
         self.reads = self.reads.saturating_add(1);
         let fails = self.fails.contains(&self.reads);
         match place_of(self.files.as_slice(), name) {
@@ -153,7 +159,7 @@ impl Shelf for MemoryShelf {
             }
             Some(place) => match self.files[place].feed(most, to) {
                 Ok(noted) => {
-                    self.gave = self.gave.and(name.as_bytes(), most, &noted);
+                    self.history = self.history.give(name.as_bytes(), most, &noted);
                     Ok(())
                 }
                 Err(fault) => Err(fault),

@@ -1,7 +1,6 @@
 -- Answers in the proof of `MemoryShelfShelf::feed`.
-use Rattle.std.proofs.Common.{◌≡◌, ◌+◌, ◌^◌, ◌<◌, ◌≤◌, ◌++◌, false, List, ℕ, length, Option, None, Some, Err, get_or, take, refl, sym, ◌∙◌, ap, subst, inr, arith}
-use Rattle.std.specs.Prelude.{nat_eq, position, IfSome}
-use Rattle.std.specs.List.{list_any}
+use Rattle.std.proofs.Common.{◌≡◌, ◌^◌, ◌<◌, ◌≤◌, None, Err, refl, sym, ◌∙◌, ap, subst, inr, arith}
+use Rattle.std.specs.Prelude.{position}
 use Rattle.psi_io.specs.Counts.{counted}
 use Rattle.psi_io.proofs.CountsLemmas.{counted-still, rose-counted}
 use Rattle.psi_io.specs.MemoryShelf.{ShelfContents, has_name, told_of, faults_of}
@@ -10,7 +9,7 @@ use Rattle.psi_io.proofs.memory_shelf.MemoryShelfShelf.feed.Goals as goal
 
 pub returns-in-Some-clause-after_failed : goal.returns-in-Some-clause-after_failed
 returns-in-Some-clause-after_failed g c = λ _.
-    rw (← c.self.view_is, c.count_fault.ensures.after, c.and-self-inside.ensures, c.as_bytes.ensures.value)
+    rw (← c.self.view_is, c.count_fault.ensures.after, c.ask-self-inside.ensures, c.as_bytes.ensures.value)
     (fail-place _ c.args.name.now c.args.most c.in-Some.place c.index_mut.result.now
     (rw c.as_slice.ensures.value at (sym c.in-Some.ensures)) c.index_mut.ensures.value)
 
@@ -24,12 +23,8 @@ returns-in-Some-clause-failed g c = λ is. rose-counted _ _ (returns-in-Some-cla
 
 pub returns-in-Some-clause-counts : goal.returns-in-Some-clause-counts
 returns-in-Some-clause-counts g c = λ other.
-    let found : position (has_name c.args.name.now) c.args.self.now.files ≡ Some c.in-Some.place =
-    rw (← c.self.view_is, ← c.as_slice.ensures.value) (sym c.in-Some.ensures) in
-    let file : c.index_mut.result.now ≡ get_or c.args.self.now.files c.in-Some.place c.index_mut.result.now =
-    rw (← c.self.view_is) c.index_mut.ensures.value in
-    let small : faults_of c.args.self.now c.args.name.now < 2 ^ 64 =
-    omega (arith, c.count_fault.ensures.bounded, faults-at c.args.self.now c.args.name.now c.in-Some.place c.index_mut.result.now found file) in
+    let own = faults-at c.self.view_is c.args.name.now c.in-Some.place c.index_mut.result.now (rw c.as_slice.ensures.value at (sym c.in-Some.ensures)) c.index_mut.ensures.value in
+    let small : faults_of c.args.self.now c.args.name.now < 2 ^ 64 = omega (arith, c.count_fault.ensures.bounded, own) in
     subst (λ (shelf : ShelfContents). faults_of c.args.self.now other ≤ faults_of shelf other)
     (sym (returns-in-Some-clause-after_failed g c refl)) (counts-after_failed c.args.self.now c.args.name.now other c.args.most small)
 
@@ -39,53 +34,35 @@ returns-in-Some-clause-same g c =
 
 pub returns-in-Ok-clause-fails : goal.returns-in-Ok-clause-fails
 returns-in-Ok-clause-fails g c =
-    let found : position (has_name c.args.name.now) c.args.self.now.files ≡ Some c.in-Some.place =
-    rw (← c.self.view_is, ← c.as_slice.ensures.value) (sym c.in-Some.ensures) in
-    let file : c.index.result.now ≡ get_or c.args.self.now.files c.in-Some.place c.index.result.now =
-    rw (← c.self.view_is) c.index.ensures in
-    let told : told_of c.args.self.now c.args.name.now ≡ Some c.index.result.now.bytes =
-    told-at c.args.self.now c.args.name.now c.in-Some.place c.index.result.now found file in
-    let number : c.saturating_add-self-inside.result ≡ counted (length c.self.inside.asked.reads) =
-    c.saturating_add-self-inside.ensures ∙ ap counted c.self.invariant ∙ counted-still _ in
-    let spared : list_any (λ (n : ℕ). nat_eq n (counted (length c.args.self.now.asked))) c.args.self.now.fails ≡ false =
-    rw (← c.self.view_is, ← number, ← c.deref.ensures.value) (sym c.if-fails.ensures.value) in
-    (λ is. absurd (ok-no_fault {T = Unit {0}} tt is), λ fails. absurd (reads-at c.args.self.now c.args.name.now c.index.result.now told spared fails))
+    let number = c.saturating_add-self-inside.ensures ∙ ap counted c.self.invariant ∙ counted-still _ in (
+      λ is. absurd (ok-no_fault {T = Unit {0}} tt is),
+      λ fails. absurd (reads-at c.self.view_is c.args.name.now c.in-Some.place _ c.index.result.now (rw c.as_slice.ensures.value at (sym c.in-Some.ensures)) c.index.ensures
+          number (rw c.deref.ensures.value at (sym c.if-fails.ensures.value)) fails),
+    )
 
 pub returns-in-Ok-clause-after : goal.returns-in-Ok-clause-after
 returns-in-Ok-clause-after g c =
-    let shelf : ShelfContents = record { files = c.self.inside.files.items; absent = c.self.inside.absent; asked = c.self.inside.asked.reads; gave = c.self.inside.gave.answers; fails = c.self.inside.fails.items } in
-    rw (← c.self.view_is, c.and-self-inside.ensures, c.and-self-inside-in-Ok.ensures, c.as_bytes.ensures.value, c.as_bytes-in-Ok.ensures.value, c.in-Ok.ensures.noted)
+    let shelf : ShelfContents = record { files = c.self.inside.files.items; absent = c.self.inside.absent; asked = c.self.inside.history.asked; gave = c.self.inside.history.gave; fails = c.self.inside.fails.items } in
+    rw (← c.self.view_is, c.give-self-inside.ensures, c.ask-self-inside.ensures, c.as_bytes.ensures.value, c.as_bytes-in-Ok.ensures.value, c.in-Ok.ensures.noted)
     (read-place shelf c.args.name.now c.args.most c.index.result.now.bytes
-    (told-at shelf c.args.name.now c.in-Some.place c.index.result.now (rw c.as_slice.ensures.value at (sym c.in-Some.ensures)) c.index.ensures))
+    (told-at {shelf = shelf} refl c.args.name.now c.in-Some.place c.index.result.now (rw c.as_slice.ensures.value at (sym c.in-Some.ensures)) c.index.ensures))
 
 pub returns-in-Ok-clause-bytes : goal.returns-in-Ok-clause-bytes
 returns-in-Ok-clause-bytes g c =
-    let found : position (has_name c.args.name.now) c.args.self.now.files ≡ Some c.in-Some.place =
-    rw (← c.self.view_is, ← c.as_slice.ensures.value) (sym c.in-Some.ensures) in
-    let file : c.index.result.now ≡ get_or c.args.self.now.files c.in-Some.place c.index.result.now =
-    rw (← c.self.view_is) c.index.ensures in
-    let told : told_of c.args.self.now c.args.name.now ≡ Some c.index.result.now.bytes =
-    told-at c.args.self.now c.args.name.now c.in-Some.place c.index.result.now found file in
-    subst (λ (bytes : Option (List ℕ)). IfSome bytes (λ whole. g.C.Consumer.taken c.feed.new.to ≡ g.C.Consumer.taken c.args.to.now ++ take (c.args.most + 1) whole))
-    (sym told) c.in-Ok.ensures.bytes
+    rw (told-at c.self.view_is c.args.name.now c.in-Some.place c.index.result.now (rw c.as_slice.ensures.value at (sym c.in-Some.ensures)) c.index.ensures)
+    c.in-Ok.ensures.bytes
 
 pub returns-in-Err-clause-fails : goal.returns-in-Err-clause-fails
 returns-in-Err-clause-fails g c =
-    let found : position (has_name c.args.name.now) c.args.self.now.files ≡ Some c.in-Some.place =
-    rw (← c.self.view_is, ← c.as_slice.ensures.value) (sym c.in-Some.ensures) in
-    let file : c.index.result.now ≡ get_or c.args.self.now.files c.in-Some.place c.index.result.now =
-    rw (← c.self.view_is) c.index.ensures in
-    let told : told_of c.args.self.now c.args.name.now ≡ Some c.index.result.now.bytes =
-    told-at c.args.self.now c.args.name.now c.in-Some.place c.index.result.now found file in
-    let number : c.saturating_add-self-inside.result ≡ counted (length c.self.inside.asked.reads) =
-    c.saturating_add-self-inside.ensures ∙ ap counted c.self.invariant ∙ counted-still _ in
-    let spared : list_any (λ (n : ℕ). nat_eq n (counted (length c.args.self.now.asked))) c.args.self.now.fails ≡ false =
-    rw (← c.self.view_is, ← number, ← c.deref.ensures.value) (sym c.if-fails.ensures.value) in
-    (λ is. absurd (no-fault {T = Unit {0}} (Err c.in-Err.fault) c.in-Err.ensures.memory is), λ fails. absurd (reads-at c.args.self.now c.args.name.now c.index.result.now told spared fails))
+    let number = c.saturating_add-self-inside.ensures ∙ ap counted c.self.invariant ∙ counted-still _ in (
+      λ is. absurd (no-fault {T = Unit {0}} (Err c.in-Err.fault) c.in-Err.ensures.memory is),
+      λ fails. absurd (reads-at c.self.view_is c.args.name.now c.in-Some.place _ c.index.result.now (rw c.as_slice.ensures.value at (sym c.in-Some.ensures)) c.index.ensures
+          number (rw c.deref.ensures.value at (sym c.if-fails.ensures.value)) fails),
+    )
 
 pub returns-in-None-clause-after_failed : goal.returns-in-None-clause-after_failed
 returns-in-None-clause-after_failed g c = λ _.
-    rw (← c.self.view_is, c.saturating_add-self-inside-in-None.ensures, c.and-self-inside.ensures, c.as_bytes.ensures.value)
+    rw (← c.self.view_is, c.saturating_add-self-inside-in-None.ensures, c.ask-self-inside.ensures, c.as_bytes.ensures.value)
     (fail-absent _ c.args.name.now c.args.most (rw c.as_slice.ensures.value at (sym c.in-None.ensures)))
 
 pub returns-in-None-clause-fails : goal.returns-in-None-clause-fails

@@ -1,4 +1,4 @@
--- `and` makes a value of no bytes, at the list that its clause names.
+-- `ask` makes a value of no bytes, at the list that its clause names.
 use mathlib.Core.Path.{refl}
 use mathlib.Core.List.{[], ◌∷◌, ◌++◌}
 use mir.Syntax.{named, w32}
@@ -18,17 +18,17 @@ use denote.Slice.{shr_slice_vals, shr_slice_Tells}
 use denote.Triple.Entry.{alive}
 use denote.Triple.Walked.{says, Stays, stay_none, stay_none_ref, stay_none_slice, Goes-none, Goes-none_ref, Goes-none_slice, walk_of, ends_at}
 use Rattle.std.proofs.raw_atomic.Walks.{proved}
-use Rattle.psi_io.specs.declared.asked.Asked.{Asked}
-use Rattle.psi_io.specs.contracts.asked.Asked as T
-use Rattle.psi_io.specs.contracts.asked.Asked.and as it
-use Rattle.psi_io.proofs.asked.Asked.and.Statement.{statement}
-use Rattle.psi_io.proofs.asked.Asked.and.Code as code
+use Rattle.psi_io.specs.declared.history.History.{History}
+use Rattle.psi_io.specs.contracts.history.History as T
+use Rattle.psi_io.specs.contracts.history.History.ask as it
+use Rattle.psi_io.proofs.history.History.ask.Statement.{statement}
+use Rattle.psi_io.proofs.history.History.ask.Code as code
 
 abbrev stayed : Stays it.ended.signature.params it.ended.kept
 stayed = (stay_none_ref (0 ∷ []) tt (plain (λ _. T.the_row)) yes, (stay_none_slice (1 ∷ []) tt (plain (λ _. u8)) yes, (stay_none (λ _. u32) yes, tt)))
 
-pub and_spec : {M : Type 1} → statement M
-and_spec 𝓤 𝓛 𝓜 𝓡 wired =
+pub ask_spec : {M : Type 1} → statement M
+ask_spec 𝓤 𝓛 𝓜 𝓡 wired =
     let c = it.clauses 𝓛 𝓜.mem 𝓡.returns in let W = walk_of 𝓛 it.ended stayed c in
     proved 𝓛 it.ended stayed c 𝓜 𝓡
     (Goes-none_ref 𝓛 2 (0 ∷ []) tt (plain (λ _. T.the_row)) yes, (Goes-none_slice 𝓛 2 (1 ∷ []) tt (plain (λ _. u8)) yes, (Goes-none 𝓛 2 (λ _. u32) yes (λ κs x w. refl), tt)))
@@ -36,7 +36,7 @@ and_spec 𝓤 𝓛 𝓜 𝓡 wired =
     (λ κs. (shr_vals, (shr_slice_vals, (uint_vals w32, tt))))
     (λ κs. (shr_Tells (named 0) κs.0 T.the_row, (shr_slice_Tells (named 1) κs.1.0 u8, (uint_Tells w32, tt)))) (λ κs qs bounds a g are.
     let y : W.Ghost = ((κs, qs, bounds, a, (shr_vals a.0, (shr_slice_vals a.1.0, (uint_vals w32 a.1.1.0, tt)))), g) in
-    let more : Asked = record { reads = a.0.now.reads ++ (record { name = a.1.0.now; most = a.1.1.0 }) ∷ [] } in
+    let more : History = record { asked = a.0.now.asked ++ (record { name = a.1.0.now; most = a.1.1.0 }) ∷ []; gave = a.0.now.gave } in
     qed 𝓛 ((raw (alive 𝓛 it.signature κs qs) ⊛ ‵ (owns (types_at it.signature.params κs) a y.0.4)) ∷ raw ((c κs a).requires g) ∷ []) ∵ keep ! (0 ∷ []) $ split ! $
     enter ! _ _ _ _ _ $
     alloc_all ! (λ l. pass_all ! refl ((tt, tt), ((tt, (tt, (record { fits = are.1.0.0.1.0 }, tt))), ((tt, record { fits = are.1.1.0.1 }), tt))) $

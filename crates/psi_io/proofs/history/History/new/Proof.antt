@@ -11,14 +11,14 @@ use denote.Steps.{nothing}
 use denote.Triple.Entry.{on_entry}
 use denote.Triple.Walked.{says, ends_at}
 use Rattle.std.proofs.raw_atomic.Walks.{proved}
-use Rattle.psi_io.specs.declared.asked.Asked.{Asked}
-use Rattle.psi_io.specs.contracts.asked.Asked as T
-use Rattle.psi_io.specs.contracts.asked.Asked.new as it
-use Rattle.psi_io.proofs.asked.Asked.new.Statement.{statement}
-use Rattle.psi_io.proofs.asked.Asked.new.Code as code
+use Rattle.psi_io.specs.declared.history.History.{History}
+use Rattle.psi_io.specs.contracts.history.History as T
+use Rattle.psi_io.specs.contracts.history.History.new as it
+use Rattle.psi_io.proofs.history.History.new.Statement.{statement}
+use Rattle.psi_io.proofs.history.History.new.Code as code
 
-abbrev none : Asked
-none = record { reads = [] }
+abbrev none : History
+none = record { asked = []; gave = [] }
 
 pub new_spec : {M : Type 1} → statement M
 new_spec 𝓤 𝓛 𝓜 𝓡 wired =

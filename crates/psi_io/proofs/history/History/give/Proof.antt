@@ -1,4 +1,4 @@
--- `and` makes a value of no bytes, at the list that its clause names.
+-- `give` makes a value of no bytes, at the list that its clause names.
 use mathlib.Core.Path.{refl}
 use mathlib.Core.List.{[], ◌∷◌, ◌++◌}
 use mir.Syntax.{named, w32}
@@ -18,18 +18,18 @@ use denote.Slice.{shr_slice_vals, shr_slice_Tells}
 use denote.Triple.Entry.{alive}
 use denote.Triple.Walked.{says, Stays, stay_none, stay_none_ref, stay_none_slice, Goes-none, Goes-none_ref, Goes-none_slice, walk_of, ends_at}
 use Rattle.std.proofs.raw_atomic.Walks.{proved}
-use Rattle.psi_io.specs.declared.answered.Answered.{Answered}
-use Rattle.psi_io.specs.contracts.answered.Answered as T
+use Rattle.psi_io.specs.declared.history.History.{History}
+use Rattle.psi_io.specs.contracts.history.History as T
 use Rattle.psi_io.specs.contracts.noted.Noted as H
-use Rattle.psi_io.specs.contracts.answered.Answered.and as it
-use Rattle.psi_io.proofs.answered.Answered.and.Statement.{statement}
-use Rattle.psi_io.proofs.answered.Answered.and.Code as code
+use Rattle.psi_io.specs.contracts.history.History.give as it
+use Rattle.psi_io.proofs.history.History.give.Statement.{statement}
+use Rattle.psi_io.proofs.history.History.give.Code as code
 
 abbrev stayed : Stays it.ended.signature.params it.ended.kept
 stayed = (stay_none_ref (0 ∷ []) tt (plain (λ _. T.the_row)) yes, (stay_none_slice (1 ∷ []) tt (plain (λ _. u8)) yes, (stay_none (λ _. u32) yes, (stay_none_ref (2 ∷ []) tt (plain (λ _. H.the_row)) yes, tt))))
 
-pub and_spec : {M : Type 1} → statement M
-and_spec 𝓤 𝓛 𝓜 𝓡 wired =
+pub give_spec : {M : Type 1} → statement M
+give_spec 𝓤 𝓛 𝓜 𝓡 wired =
     let c = it.clauses 𝓛 𝓜.mem 𝓡.returns in let W = walk_of 𝓛 it.ended stayed c in
     proved 𝓛 it.ended stayed c 𝓜 𝓡
     (Goes-none_ref 𝓛 3 (0 ∷ []) tt (plain (λ _. T.the_row)) yes, (Goes-none_slice 𝓛 3 (1 ∷ []) tt (plain (λ _. u8)) yes, (Goes-none 𝓛 3 (λ _. u32) yes (λ κs x w. refl), (Goes-none_ref 𝓛 3 (2 ∷ []) tt (plain (λ _. H.the_row)) yes, tt))))
@@ -37,7 +37,7 @@ and_spec 𝓤 𝓛 𝓜 𝓡 wired =
     (λ κs. (shr_vals, (shr_slice_vals, (uint_vals w32, (shr_vals, tt)))))
     (λ κs. (shr_Tells (named 0) κs.0 T.the_row, (shr_slice_Tells (named 1) κs.1.0 u8, (uint_Tells w32, (shr_Tells (named 2) κs.1.1.0 H.the_row, tt))))) (λ κs qs bounds a g are.
     let y : W.Ghost = ((κs, qs, bounds, a, (shr_vals a.0, (shr_slice_vals a.1.0, (uint_vals w32 a.1.1.0, (shr_vals a.1.1.1.0, tt))))), g) in
-    let more : Answered = record { answers = a.0.now.answers ++ (record { name = a.1.0.now; most = a.1.1.0; bytes = a.1.1.1.0.now.bytes }) ∷ [] } in
+    let more : History = record { asked = a.0.now.asked; gave = a.0.now.gave ++ (record { name = a.1.0.now; most = a.1.1.0; bytes = a.1.1.1.0.now.bytes }) ∷ [] } in
     qed 𝓛 ((raw (alive 𝓛 it.signature κs qs) ⊛ ‵ (owns (types_at it.signature.params κs) a y.0.4)) ∷ raw ((c κs a).requires g) ∷ []) ∵ keep ! (0 ∷ []) $ split ! $
     enter ! _ _ _ _ _ $
     alloc_all ! (λ l. pass_all ! refl ((tt, tt), ((tt, (tt, (record { fits = are.1.0.0.1.0 }, tt))), ((tt, record { fits = are.1.1.0.1 }), ((tt, tt), tt)))) $
