@@ -19,11 +19,8 @@ pub record Accepted {Status : Type 0} (reply : Reply Status) (fault : Status) (o
   pub err_took : err.took_after ≡ err.took_before ++ reported
   pub written : IsWrittenAs reply fault (alone printed out) (alone reported err) result
 
-some-is : (xs ys : List ℕ) → Some xs ≡ Some ys → xs ≡ ys
-some-is xs ys same = cc
-
 grew-took : (before after text : List ℕ) (part : TookPrefix before after text) → after ≡ before ++ part.front
-grew-took before after text part = some-is after (before ++ part.front) part.grew
+grew-took before after text part = (let same = part.grew in cc)
 
 -- a front of a text is a prefix of it, from nothing on
 front-alone : (before after text : List ℕ) (part : TookPrefix before after text) → TookPrefix [] part.front text

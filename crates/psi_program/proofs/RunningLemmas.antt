@@ -90,16 +90,29 @@ module _ {Status File Unread : Type 0} (faults : Faults Status File) (usage : St
     pub silent_err : IsPrinted result → IsUnchanged call.err
 
   module _ (is : IsProgram) where
-    -- a status that no reply has tells nothing of the reply
-    untold : (status : Status) (P : Reply Status → Type 0) → (IsReplied status → ⊥) → IfSome reply (λ given. IsReplied status → P given)
-    untold status P never = each reply
+    -- what a status that no reply has says, by what it says of faults
+    runs-fault : (status : Status) → (IsReplied status → ⊥) → (¬ (HasFailed call.out) → ¬ (HasFailed call.err) → ¬ Unread → IsReplied status ⊎ (status ≡ faults.out_of_memory))
+        → (IsOther → status ≡ faults.write_fault) → (status ≡ faults.read_fault → ReadFaulted call line)
+        → (status ≡ faults.write_fault → OutFaulted call reply ⊎ ErrFaulted call reply line IsAsked faults.memory_line)
+        → (status ≡ faults.out_of_memory → MemoryLacked call IsAsked faults.memory_line) → (IsReported status → IsUnchanged call.out) → Runs status
+    runs-fault status never complete told read_fault write_fault lacked silent = record {
+      status = untold reply (λ given. status ≡ given.status);
+      out = untold reply (λ given. Grew call.out given.out);
+      err = untold reply (λ given. Grew call.err given.err);
+      own = λ kind. absurd (never kind);
+      complete = complete;
+      other = λ e. absurd (never (subst IsReplied (sym e) is.statuses.usage_replied));
+      told = λ other. inr (told other);
+      read_fault = read_fault;
+      write_fault = write_fault;
+      no_memory = lacked;
+      silent_out = silent;
+      silent_err = λ kind. absurd (never (is.statuses.printed status kind));
+    }
       where
-        each : (t : Option (Reply Status)) → IfSome t (λ given. IsReplied status → P given)
-        each None = tt
-        each (Some given) = λ kind. absurd (never kind)
-
-    not-usage : (status : Status) → (IsReplied status → ⊥) → status ≡ usage → ⊥
-    not-usage status never same = never (subst IsReplied (sym same) is.statuses.usage_replied)
+        untold : (t : Option (Reply Status)) (P : Reply Status → Type 0) → IfSome t (λ given. IsReplied status → P given)
+        untold None P = tt
+        untold (Some given) P = λ kind. absurd (never kind)
 
     -- an ending that was written whole
     runs-whole : (ending : Ending Status File) → Ends ending → IsWhole (ending_reply faults ending) call.out call.err → Runs (ending_reply faults ending).status
@@ -119,34 +132,14 @@ module _ {Status File Unread : Type 0} (faults : Faults Status File) (usage : St
           silent_out = λ kind. still call.out given.out (own.reported kind) whole.printed;
           silent_err = λ kind. still call.err given.err (own.printed kind) whole.reported;
         }
-    runs-whole (unread file) ends whole = record {
-      status = untold faults.read_fault (λ given. faults.read_fault ≡ given.status) is.statuses.no_read;
-      out = untold faults.read_fault (λ given. Grew call.out given.out) is.statuses.no_read;
-      err = untold faults.read_fault (λ given. Grew call.err given.err) is.statuses.no_read;
-      own = λ kind. absurd (is.statuses.no_read kind);
-      complete = λ out err read. absurd (read ends.cause.0);
-      other = λ e. absurd (not-usage faults.read_fault is.statuses.no_read e);
-      told = λ other. absurd (is.asked (is.read ends.cause.0) other);
-      read_fault = λ e. record { cause = ends.cause.0; out = still call.out [] refl whole.printed; err = subst (Grew call.err) ends.cause.1 whole.reported };
-      write_fault = λ e. absurd (is.statuses.read_write e);
-      no_memory = λ e. absurd (is.statuses.read_memory e);
-      silent_out = λ kind. still call.out [] refl whole.printed;
-      silent_err = λ kind. absurd (is.statuses.no_read (is.statuses.printed faults.read_fault kind));
-    }
-    runs-whole no_memory ends whole = record {
-      status = untold faults.out_of_memory (λ given. faults.out_of_memory ≡ given.status) is.statuses.no_memory;
-      out = untold faults.out_of_memory (λ given. Grew call.out given.out) is.statuses.no_memory;
-      err = untold faults.out_of_memory (λ given. Grew call.err given.err) is.statuses.no_memory;
-      own = λ kind. absurd (is.statuses.no_memory kind);
-      complete = λ out err read. inr refl;
-      other = λ e. absurd (not-usage faults.out_of_memory is.statuses.no_memory e);
-      told = λ other. absurd (is.asked ends.cause other);
-      read_fault = λ e. absurd (is.statuses.read_memory (sym e));
-      write_fault = λ e. absurd (is.statuses.write_memory (sym e));
-      no_memory = λ e. record { cause = ends.cause; out = still call.out [] refl whole.printed; err = whole.reported };
-      silent_out = λ kind. still call.out [] refl whole.printed;
-      silent_err = λ kind. absurd (is.statuses.no_memory (is.statuses.printed faults.out_of_memory kind));
-    }
+    runs-whole (unread file) ends whole =
+        runs-fault faults.read_fault is.statuses.no_read (λ out err read. absurd (read ends.cause.0)) (λ other. absurd (is.asked (is.read ends.cause.0) other))
+        (λ e. record { cause = ends.cause.0; out = still call.out [] refl whole.printed; err = subst (Grew call.err) ends.cause.1 whole.reported })
+        (λ e. absurd (is.statuses.read_write e)) (λ e. absurd (is.statuses.read_memory e)) (λ kind. still call.out [] refl whole.printed)
+    runs-whole no_memory ends whole =
+        runs-fault faults.out_of_memory is.statuses.no_memory (λ out err read. inr refl) (λ other. absurd (is.asked ends.cause other))
+        (λ e. absurd (is.statuses.read_memory (sym e))) (λ e. absurd (is.statuses.write_memory (sym e)))
+        (λ e. record { cause = ends.cause; out = still call.out [] refl whole.printed; err = whole.reported }) (λ kind. still call.out [] refl whole.printed)
 
     -- out failed
     part-out : (ending : Ending Status File) (given : Reply Status) → MayReply ending given → GrewByPart call.out (ending_reply faults ending).out → GrewByPart call.out given.out
@@ -179,20 +172,9 @@ module _ {Status File Unread : Type 0} (faults : Faults Status File) (usage : St
       failed (inr cut) out err = err cut.cause
 
       runs-cut : IsCutReply (ending_reply faults ending) call.out call.err → Runs faults.write_fault
-      runs-cut cut = record {
-        status = untold faults.write_fault (λ given. faults.write_fault ≡ given.status) is.statuses.no_write;
-        out = untold faults.write_fault (λ given. Grew call.out given.out) is.statuses.no_write;
-        err = untold faults.write_fault (λ given. Grew call.err given.err) is.statuses.no_write;
-        own = λ kind. absurd (is.statuses.no_write kind);
-        complete = λ out err read. absurd (failed cut out err);
-        other = λ e. absurd (not-usage faults.write_fault is.statuses.no_write e);
-        told = λ other. inr refl;
-        read_fault = λ e. absurd (is.statuses.read_write (sym e));
-        write_fault = λ e. faulted cut;
-        no_memory = λ e. absurd (is.statuses.write_memory e);
-        silent_out = λ kind. absurd (is.statuses.silent kind);
-        silent_err = λ kind. absurd (is.statuses.no_write (is.statuses.printed faults.write_fault kind));
-      }
+      runs-cut cut =
+          runs-fault faults.write_fault is.statuses.no_write (λ out err read. absurd (failed cut out err)) (λ other. refl)
+          (λ e. absurd (is.statuses.read_write (sym e))) (λ e. faulted cut) (λ e. absurd (is.statuses.write_memory e)) (λ kind. absurd (is.statuses.silent kind))
 
       -- however the ending was written
       pub runs : (result : Status) → IsWrittenAs (ending_reply faults ending) faults.write_fault call.out call.err result → Runs result

@@ -1,6 +1,6 @@
 -- How a process ends, from how its program was started.
 use Rattle.std.specs.Prelude.{◌≡◌, ℕ, List, [], refl}
-use Rattle.std.proofs.Common.{inl, inr, ap, ◌∙◌}
+use Rattle.std.proofs.Common.{inl, inr}
 use Rattle.psi_io.specs.Shelf.{Read}
 use Rattle.psi_program.specs.Run.{Tally, no_tally, Crossed, Run, IsStarted, wordless, ran, HasEnded}
 
@@ -13,8 +13,4 @@ ended Is before after status none (ran words has) =
 -- no read was asked for, and no fault was counted
 pub none_counted : (asked : List Read) (files out err : ℕ) → asked ≡ [] → files ≡ 0 → out ≡ 0 → err ≡ 0
     → record { asked = asked; files = λ name. files; out = out; err = err } ≡ no_tally
-none_counted asked files out err no_read no_files no_out no_err =
-    ap (λ (reads : List Read). let tally : Tally = record { asked = reads; files = λ name. files; out = out; err = err } in tally) no_read
-    ∙ ap (λ (n : ℕ). let tally : Tally = record { asked = []; files = λ name. n; out = out; err = err } in tally) no_files
-    ∙ ap (λ (n : ℕ). let tally : Tally = record { asked = []; files = λ name. 0; out = n; err = err } in tally) no_out
-    ∙ ap (λ (n : ℕ). let tally : Tally = record { asked = []; files = λ name. 0; out = 0; err = n } in tally) no_err
+none_counted asked files out err no_read no_files no_out no_err = rw (no_read, no_files, no_out, no_err) refl
