@@ -42,7 +42,7 @@ pub use lines::{
 };
 pub use pieces::{push_number_line, push_pieces, push_state};
 pub use planning::{NetPlan, plan_for};
-pub use replay::{replay_ending, verdict_ending};
+pub use replay::verdict_ending;
 pub use report::{next_sample, report_ending};
 pub use reward::reward_ending;
 pub use sample::sample_ending;

@@ -14,8 +14,7 @@ use crate::ending::Ending;
 use crate::texts::accepted_text;
 use psi_command::Status;
 use psi_log::LogError;
-use psi_net_model::Net;
-use psi_replay::{Verdict, replay_text};
+use psi_replay::Verdict;
 use psi_state::State;
 use std::alloc::Global;
 
@@ -36,14 +35,6 @@ fn tell<'w>(alloc: Global, verdict: Verdict) -> Ending<'w>
     }
 }
 
-// The verdict of the network on the log that a text is.
-fn verdict_on(alloc: Global, net: &Net, text: &[u8]) -> Result<Verdict, LogError>
-    ensures { Gives (λ verdict. verdict) result (replayed (judgement net.now) text.now) }
-{
-    let system = net.system();
-    replay_text(alloc, &system, text)
-}
-
 /// Does the work for a replay that gave this verdict: the horizon and the state of a log that is accepted, the first
 /// line that is refused or breaks a rule, with its cause, or `OutOfMemory`.
 #[tactic(auto, using(crate::proofs::ReplayingLemmas::verdict_replied, crate::proofs::ReplayingLemmas::refusal_replied))]
@@ -55,12 +46,4 @@ pub fn verdict_ending<'w>(alloc: Global, verdict: Result<Verdict, LogError>) -> 
         Err(LogError::Refused { line, cause }) => Ending::LogRefused { line, cause },
         Err(LogError::OutOfMemory) => Ending::OutOfMemory,
     }
-}
-
-/// Does the work for a replay, on the bytes of a log file that are in memory: they are read as a log, and the log is
-/// judged, in one pass. It is that for the verdict, as in [`verdict_ending`].
-pub fn replay_ending<'w>(alloc: Global, net: &Net, text: &[u8]) -> Ending<'w>
-    ensures { EndsWith (ending_of result) (replay_reply net.now text.now) }
-{
-    verdict_ending(alloc, verdict_on(alloc, net, text))
 }
