@@ -49,19 +49,11 @@ is_other event = not (is_some (move_at event))
 
 -- the place of the first other event, where the first of these events is one, and where it isn't
 place-here : (event : NamedEvent) (events : List NamedEvent) → move_at event ≡ None → position_or_len is_other (event ∷ events) ≡ 0
-place-here event events is = here (move_at event) is
-  where
-    here : (o : Option Move) → o ≡ None → cond (not (not (is_some o))) (1 + position_or_len is_other events) 0 ≡ 0
-    here None none = refl
-    here (Some m) none = absurd cc
+place-here event events is = grind arith
 
 place-past : (event : NamedEvent) (events : List NamedEvent) (m : Move) → move_at event ≡ Some m
     → position_or_len is_other (event ∷ events) ≡ 1 + position_or_len is_other events
-place-past event events m is = here (move_at event) is
-  where
-    here : (o : Option Move) → o ≡ Some m → cond (not (not (is_some o))) (1 + position_or_len is_other events) 0 ≡ 1 + position_or_len is_other events
-    here None some = absurd cc
-    here (Some n) some = refl
+place-past event events m is = grind arith
 
 -- where each event is a move, none is another
 none-other : (events : List NamedEvent) (moves : List Move) → AreMovesOf events moves → position_or_len is_other events ≡ length events

@@ -1,12 +1,12 @@
 -- The least coupling of a network, and the first value of a reward.
 use Rattle.std.specs.Prelude.{◌≡◌, ℕ, zero, suc, ◌+◌, Bool, if◌then◌else◌, List, [], ◌∷◌, map, take, Option, Some, None, option_map, slice_get, true, false, refl}
 use Rattle.std.specs.Str.{bytes_eq}
-use Rattle.std.proofs.Common.{ap, ◌∙◌, arith}
+use Rattle.std.proofs.Common.{ℤ, ap, ◌∙◌, arith}
 use Rattle.psi_io.specs.Sink.{appended}
 use Rattle.psi_past.specs.SeedWord.{seed_word}
 use Rattle.psi_reward.specs.declared.kinds.RewardKind.{RewardKind}
 use Rattle.psi_reward.specs.Worth.{worth_of}
-use Rattle.psi_rate.specs.Composition.{SystemParts, function_at, system_functions}
+use Rattle.psi_rate.specs.Composition.{SystemParts, Functions, AreClosed, system_functions}
 use Rattle.psi_horizon.specs.Runs.{ending_at}
 use Rattle.psi_horizon.proofs.RunsLemmas.{ending-reached}
 use Rattle.psi_horizon.proofs.SampleLemmas.{ending-within}
@@ -14,7 +14,7 @@ use Rattle.psi_couple.specs.declared.answers.Coupled.{Coupled}
 use Rattle.psi_couple.specs.declared.answers.Valued.{Valued}
 use Rattle.psi_couple.specs.declared.answers.Coupled.TheVariants as coupled
 use Rattle.psi_couple.specs.declared.answers.Valued.TheVariants as valued
-use Rattle.psi_couple.specs.Coupling.{IsCoupled, ReachesCoupled, DecidesCoupled, CouplesWithin}
+use Rattle.psi_couple.specs.Coupling.{coupled_within, IsCoupled, ReachesCoupled, DecidesCoupled, CouplesWithin}
 use Rattle.psi_couple.specs.Valuing.{value_at, IsValued, ReachesValued, DecidesValues}
 use Rattle.psi_couple.proofs.AgreeingLemmas.{coupled_within-agree, valued_within-agree}
 use Rattle.psi_couple.proofs.CouplingLemmas.{coupled_within-is, coupled-decides}
@@ -32,50 +32,36 @@ use Rattle.psi_reply.proofs.SamplingLemmas.{functions_by_time-closed, functions-
 
 -- ---- the least coupling
 
--- the least coupling of a system that is the network's is that of the network
-pub coupled_by : {E : Type 0} (function : E → List ℕ → List ℕ) (system : SystemParts E) (n : Network) (seed stream : ℕ) (c : Coupled)
+-- the least coupling of a system that is the network's, within a limit, is that of the network
+pub coupled_by : {E : Type 0} (function : E → List ℕ → List ℕ) (system : SystemParts E) (n : Network) (seed stream h : ℕ) (c : Coupled)
     → IsNetwork n → IsSystemOf function n system
-    → IsCoupled (ending_at system.split (system_functions function system (seed_word seed stream)) system.caps) system.limit c → c ≡ coupling n seed stream
-unfolding endings coupling
-coupled_by function system n seed stream c kept of is =
-    let fs = map function system.events in
-    let alike = functions-alike n seed stream fs kept of.functions in
-    coupled_within-agree n.split (caps_of n) (function_at fs (rates_of n) (seed_word seed stream)) (functions_by_time n seed stream) n.limit c alike.0 alike.1
-    (of_network function system n seed stream (λ k f cs l. IsCoupled (ending_at k f cs) l c) of is)
-
-coupling-least : (n : Network) (seed stream : ℕ) → IsCoupled (endings n seed stream) n.limit (coupling n seed stream)
-unfolding coupling
-coupling-least n seed stream = coupled_within-is (endings n seed stream) n.limit
-
-coupled-reaches : (n : Network) (seed stream : ℕ) (c : Coupled) → IsNetwork n → IsCoupled (endings n seed stream) n.limit c
-    → ReachesCoupled (functions_by_time n seed stream) (caps_of n) c
+    → IsCoupled (ending_at system.split (system_functions function system (seed_word seed stream)) system.caps) h c → c ≡ coupled_within (endings n seed stream) h
 unfolding endings
-coupled-reaches n seed stream (coupled.At t s) kept is =
-    ending-reached n.split (caps_of n) (functions_by_time n seed stream) t s (functions_by_time-closed n seed stream kept) is.answer
-coupled-reaches n seed stream (coupled.NotAt l) kept is = tt
+coupled_by function system n seed stream h c kept of is =
+    let own = of_network function system n seed stream (λ k f cs l. IsCoupled (ending_at k f cs) h c) kept of is in
+    coupled_within-agree n.split (caps_of n) own.by_time (functions_by_time n seed stream) h c own.closed own.agree own.holds
 
-coupled-within : (n : Network) (seed stream : ℕ) (c : Coupled) → IsNetwork n → IsCoupled (endings n seed stream) n.limit c → CouplesWithin (caps_of n) c
-unfolding endings
-coupled-within n seed stream (coupled.At t s) kept is =
-    ending-within n.split (caps_of n) (functions_by_time n seed stream) t s (functions_by_time-closed n seed stream kept) is.answer
-coupled-within n seed stream (coupled.NotAt l) kept is = tt
-
-coupled-later : (n : Network) (seed stream : ℕ) (c : Coupled) → IsNetwork n → IsCoupled (endings n seed stream) n.limit c
-    → DecidesCoupled n.split (functions_by_time n seed stream) (caps_of n) n.limit c
-unfolding endings
-coupled-later n seed stream c kept is = coupled-decides n.split (caps_of n) (functions_by_time n seed stream) n.limit c (functions_by_time-closed n seed stream kept) is
+-- every state that starts at the horizon is in its state at time zero, which is within the capacities
+coupled-state : (split : ℕ) (caps : List ℕ) (f : Functions) (h : ℕ) (c : Coupled) → AreClosed caps f → IsCoupled (ending_at split f caps) h c
+    → ReachesCoupled f caps c × CouplesWithin caps c
+coupled-state split caps f h (coupled.At t s) closed is = (ending-reached split caps f t s closed is.answer, ending-within split caps f t s closed is.answer)
+coupled-state split caps f h (coupled.NotAt l) closed is = (tt, tt)
 
 -- what is printed of a network's least coupling is its text
 pub coupling_printed : (before after : Option (List ℕ)) (n : Network) (seed stream : ℕ) → IsNetwork n
     → after ≡ appended before (coupling_text (coupling n seed stream)) → IsCouplingOf before after (coupling_status (coupling n seed stream)) n seed stream
+unfolding endings coupling
 coupling_printed before after n seed stream kept grew =
-    let least = coupling-least n seed stream in
+    let f = functions_by_time n seed stream in
+    let closed = functions_by_time-closed n seed stream kept in
+    let least = coupled_within-is (ending_at n.split f (caps_of n)) n.limit in
+    let state = coupled-state n.split (caps_of n) f n.limit (coupling n seed stream) closed least in
     record {
       coupled = coupling n seed stream;
       least = least;
-      reached = coupled-reaches n seed stream (coupling n seed stream) kept least;
-      later = coupled-later n seed stream (coupling n seed stream) kept least;
-      within = coupled-within n seed stream (coupling n seed stream) kept least;
+      reached = state.0;
+      later = coupled-decides n.split (caps_of n) f n.limit (coupling n seed stream) closed least;
+      within = state.1;
       status = refl;
       text = grew;
     }
@@ -91,13 +77,7 @@ named-found name (r ∷ rs) zero own kind none named kinds same =
     let e : r.name ≡ own = cc in
     let k : r.kind ≡ kind = cc in
     rw (e, same) (ap Some k)
-named-found name (r ∷ rs) (suc i) own kind none named kinds same =
-    first (bytes_eq r.name name) none (λ rest. named-found name rs i own kind rest named kinds same)
-  where
-    first : (b : Bool) → (if b then Some r.kind else kind_named name (take i rs)) ≡ None → (kind_named name (take i rs) ≡ None → kind_named name rs ≡ Some kind)
-        → (if b then Some r.kind else kind_named name rs) ≡ Some kind
-    first true none rest = absurd cc
-    first false none rest = rest none
+named-found name (r ∷ rs) (suc i) own kind none named kinds same = grind (arith, named-found name rs i own kind)
 
 -- one reward more has another name
 pub named-more : (name : List ℕ) (rs : List NamedReward) (i : ℕ) (own : List ℕ) → kind_named name (take i rs) ≡ None
@@ -106,12 +86,7 @@ named-more name [] i own none named other = absurd cc
 named-more name (r ∷ rs) zero own none named other = (let e : r.name ≡ own = cc in rw (e, other) refl)
 named-more name (r ∷ rs) (suc i) own none named other =
     let more : suc i + 1 ≡ suc (i + 1) = omega arith in
-    ap (λ n. kind_named name (take n (r ∷ rs))) more ∙ first (bytes_eq r.name name) none (λ rest. named-more name rs i own rest named other)
-  where
-    first : (b : Bool) → (if b then Some r.kind else kind_named name (take i rs)) ≡ None → (kind_named name (take i rs) ≡ None → kind_named name (take (i + 1) rs) ≡ None)
-        → (if b then Some r.kind else kind_named name (take (i + 1) rs)) ≡ None
-    first true none rest = absurd cc
-    first false none rest = rest none
+    rw more (grind (arith, named-more name rs i own))
 
 -- the first value of a system that is the network's is that of the network
 pub valued_by : {E : Type 0} (function : E → List ℕ → List ℕ) (system : SystemParts E) (n : Network) (seed stream : ℕ) (kind : RewardKind) (v : Valued)
@@ -120,37 +95,27 @@ pub valued_by : {E : Type 0} (function : E → List ℕ → List ℕ) (system : 
     → v ≡ valuation n seed stream kind
 unfolding values valuation
 valued_by function system n seed stream kind v kept of is =
-    let fs = map function system.events in
-    let alike = functions-alike n seed stream fs kept of.functions in
-    valued_within-agree (worth_of kind) n.split (caps_of n) (function_at fs (rates_of n) (seed_word seed stream)) (functions_by_time n seed stream) n.limit v alike.0 alike.1
-    (of_network function system n seed stream (λ k f cs l. IsValued (value_at (worth_of kind) k f cs) l v) of is)
+    let own = of_network function system n seed stream (λ k f cs l. IsValued (value_at (worth_of kind) k f cs) l v) kept of is in
+    valued_within-agree (worth_of kind) n.split (caps_of n) own.by_time (functions_by_time n seed stream) n.limit v own.closed own.agree own.holds
 
-valuation-first : (n : Network) (seed stream : ℕ) (kind : RewardKind) → IsValued (values n seed stream kind) n.limit (valuation n seed stream kind)
-unfolding valuation
-valuation-first n seed stream kind = valued_within-is (values n seed stream kind) n.limit
-
-valued-reaches : (n : Network) (seed stream : ℕ) (kind : RewardKind) (v : Valued) → IsNetwork n → IsValued (values n seed stream kind) n.limit v
-    → ReachesValued (worth_of kind) (functions_by_time n seed stream) (caps_of n) v
-unfolding values
-valued-reaches n seed stream kind (valued.At t z) kept is =
-    value-reached (worth_of kind) n.split (caps_of n) (functions_by_time n seed stream) t z (functions_by_time-closed n seed stream kept) is.answer
-valued-reaches n seed stream kind (valued.NotAt l) kept is = tt
-
-valued-later : (n : Network) (seed stream : ℕ) (kind : RewardKind) (v : Valued) → IsNetwork n → IsValued (values n seed stream kind) n.limit v
-    → DecidesValues (worth_of kind) n.split (functions_by_time n seed stream) (caps_of n) n.limit v
-unfolding values
-valued-later n seed stream kind v kept is =
-    valued-decides (worth_of kind) n.split (caps_of n) (functions_by_time n seed stream) n.limit v (functions_by_time-closed n seed stream kept) is
+-- every state that starts at the horizon has the value at time zero
+valued-state : (worth : List ℕ → ℤ) (split : ℕ) (caps : List ℕ) (f : Functions) (h : ℕ) (v : Valued) → AreClosed caps f → IsValued (value_at worth split f caps) h v
+    → ReachesValued worth f caps v
+valued-state worth split caps f h (valued.At t z) closed is = value-reached worth split caps f t z closed is.answer
+valued-state worth split caps f h (valued.NotAt l) closed is = tt
 
 value-printed : (before after : Option (List ℕ)) (n : Network) (seed stream : ℕ) (kind : RewardKind) → IsNetwork n
     → after ≡ appended before (value_text (valuation n seed stream kind)) → IsValueOf before after (value_status (valuation n seed stream kind)) n seed stream kind
+unfolding values valuation
 value-printed before after n seed stream kind kept grew =
-    let first = valuation-first n seed stream kind in
+    let f = functions_by_time n seed stream in
+    let closed = functions_by_time-closed n seed stream kept in
+    let first = valued_within-is (value_at (worth_of kind) n.split f (caps_of n)) n.limit in
     record {
       valued = valuation n seed stream kind;
       first = first;
-      reached = valued-reaches n seed stream kind (valuation n seed stream kind) kept first;
-      later = valued-later n seed stream kind (valuation n seed stream kind) kept first;
+      reached = valued-state (worth_of kind) n.split (caps_of n) f n.limit (valuation n seed stream kind) closed first;
+      later = valued-decides (worth_of kind) n.split (caps_of n) f n.limit (valuation n seed stream kind) closed first;
       status = refl;
       text = grew;
     }

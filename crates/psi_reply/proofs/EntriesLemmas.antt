@@ -44,16 +44,11 @@ all-more p xs i x at =
 
 -- a test of two parts that goes on where the first holds, and one that ends where it doesn't
 pub and_then : (front here new : Bool) → front ≡ true → new ≡ here → new ≡ (front && here)
-and_then true here new holds is = is
-and_then false here new holds is = absurd cc
+and_then front here new holds is = grind arith
 
 pub and_else : (front here new : Bool) → front ≡ false → new ≡ false → new ≡ (front && here)
-and_else true here new fails is = absurd cc
-and_else false here new fails is = is
+and_else front here new fails is = grind arith
 
 -- the test for nothing, by the test for something
 pub is_none-from : {A : Type 0} (o : Option A) (r : Bool) → is_some o ≡ not r → r ≡ is_none o
-is_none-from None true is = refl
-is_none-from None false is = absurd cc
-is_none-from (Some a) true is = absurd cc
-is_none-from (Some a) false is = refl
+is_none-from o r is = grind arith

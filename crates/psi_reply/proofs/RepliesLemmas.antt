@@ -1,4 +1,5 @@
 -- Each reply is one that its command can have.
+use Rattle.std.proofs.Common.{arith}
 use Rattle.std.specs.Prelude.{ℕ, List, length, Option, Ok, refl, Bool, true, false, nat_le, codes, if◌then◌else◌, Some, None, Result, Err}
 use Rattle.psi_state.specs.declared.Outcome.{Outcome}
 use Rattle.psi_net_model.specs.Network.{Network, caps_of}
@@ -35,68 +36,44 @@ use Rattle.psi_reply.specs.Replay.{judgement}
 
 -- a text for out alone is a reply of a command, and so is a line on a network that is refused
 pub outcome_replied : (command : Command) (outcome : Outcome) → IsReply command (text_reply (outcome_status outcome) (outcome_text outcome))
-outcome_replied command (Met horizon state) = record { status = tt; printed = λ k. refl; reported = λ k. absurd k }
-outcome_replied command (NotMet limit) = record { status = tt; printed = λ k. refl; reported = λ k. absurd k }
+outcome_replied command outcome = grind arith
 
 pub coupling_replied : (command : Command) (c : Coupled) → IsReply command (text_reply (coupling_status c) (coupling_text c))
-coupling_replied command (coupled.At horizon state) = record { status = tt; printed = λ k. refl; reported = λ k. absurd k }
-coupling_replied command (coupled.NotAt limit) = record { status = tt; printed = λ k. refl; reported = λ k. absurd k }
+coupling_replied command c = grind arith
 
-pub valued_replied : (command : Command) (v : Valued) → IsReply command (text_reply (value_status v) (value_text v))
-valued_replied command (valued.At horizon value) = record { status = tt; printed = λ k. refl; reported = λ k. absurd k }
-valued_replied command (valued.NotAt limit) = record { status = tt; printed = λ k. refl; reported = λ k. absurd k }
+valued_replied : (command : Command) (v : Valued) → IsReply command (text_reply (value_status v) (value_text v))
+valued_replied command v = grind arith
 
 -- and a line on a reward that there isn't
 pub value_replied : (file : List ℕ) (seed stream : ℕ) (name : List ℕ) (net : Network) (kind : Option RewardKind)
     → IsReply (reward file seed stream name) (value_reply net seed stream kind)
-value_replied file seed stream name net None = record { status = tt; printed = λ k. absurd k; reported = λ k. refl }
-value_replied file seed stream name net (Some kind) = valued_replied (reward file seed stream name) (valuation net seed stream kind)
+value_replied file seed stream name net kind = grind (arith, valued_replied)
 
 -- what is told of the composed map, or a line on too many states, is a reply of the command that asks for it
+meeting_replied : (command : Command) (met : Meeting) (text : List ℕ) → IsReply command (text_reply (meeting_status met) text)
+meeting_replied command met text = grind arith
+
 pub survey_replied : (file : List ℕ) (seed stream h : ℕ) (net : Network) → IsReply (exact file seed stream h) (survey_reply net seed stream h)
-survey_replied file seed stream h net = chosen (meeting net seed stream h) (exact_text net seed stream h) (nat_le (state_count net) 65536)
-  where
-    chosen : (met : Meeting) (text : List ℕ) (few : Bool)
-        → IsReply (exact file seed stream h) (if few then text_reply (meeting_status met) text else line_reply status.TooManyStates (codes "psi: too many states\n"))
-    chosen (Constant horizon state) text true = record { status = tt; printed = λ k. refl; reported = λ k. absurd k }
-    chosen (NotConstant exponent) text true = record { status = tt; printed = λ k. refl; reported = λ k. absurd k }
-    chosen met text false = record { status = tt; printed = λ k. absurd k; reported = λ k. refl }
+survey_replied file seed stream h net = grind (arith, meeting_replied)
 
 -- a sample, or a line on an event that is no move or on too many customers, is a reply of the command that asks for a closed network
 pub closed_replied : (file : List ℕ) (seed stream total : ℕ) (net : Network) (other : Option ℕ)
     → IsReply (closed file seed stream total) (closed_reply net seed stream total other)
-closed_replied file seed stream total net (Some event) = record { status = tt; printed = λ k. absurd k; reported = λ k. refl }
-closed_replied file seed stream total net None = chosen (closed_sampled net seed stream total) (nat_le total (customers (caps_of net)))
-  where
-    chosen : (outcome : Outcome) (fits : Bool)
-        → IsReply (closed file seed stream total) (if fits then outcome_reply outcome else line_reply status.NoSuchTotal (codes "psi: no state with this total\n"))
-    chosen outcome true = outcome_replied (closed file seed stream total) outcome
-    chosen outcome false = record { status = tt; printed = λ k. absurd k; reported = λ k. refl }
+closed_replied file seed stream total net other = grind (arith, outcome_replied)
 
 pub refused_replied : (command : Command) (refusal : NetRefusal) → IsReply command (refused_reply refusal)
-refused_replied command refusal = record { status = tt; printed = λ k. absurd k; reported = λ k. refl }
+refused_replied command refusal = grind arith
 
 -- the log of a sample, or a line on one that is too long, is a reply of the command that asks for it
 pub certify_replied : (file : List ℕ) (seed stream : ℕ) (net : Network) (outcome : Outcome) → IsReply (certify file seed stream) (certify_reply net seed stream outcome)
-certify_replied file seed stream net (Met horizon state) = logged (log_text (certificate net seed stream horizon state))
-  where
-    chosen : (text : List ℕ) (fits : Bool)
-        → IsReply (certify file seed stream) (if fits then text_reply status.Done text else line_reply status.LogTooLong (codes "psi: log too long\n"))
-    chosen text true = record { status = tt; printed = λ k. refl; reported = λ k. absurd k }
-    chosen text false = record { status = tt; printed = λ k. absurd k; reported = λ k. refl }
-
-    logged : (text : List ℕ) → IsReply (certify file seed stream) (log_reply text)
-    logged text = chosen text (nat_le (length text) 33554432)
-certify_replied file seed stream net (NotMet limit) = record { status = tt; printed = λ k. refl; reported = λ k. absurd k }
+certify_replied file seed stream net outcome = grind arith
 
 -- a verdict, or a line on a text that is no log, is a reply of a replay
 pub verdict_replied : (file log : List ℕ) (verdict : Verdict) → IsReply (replay file log) (verdict_reply verdict)
-verdict_replied file log (Accepted horizon state) = record { status = tt; printed = λ k. refl; reported = λ k. absurd k }
-verdict_replied file log (Rejected line cause) = record { status = tt; printed = λ k. absurd k; reported = λ k. refl }
+verdict_replied file log verdict = grind arith
 
 pub line_replied : (file log line : List ℕ) → IsReply (replay file log) (line_reply status.LogRefused line)
-line_replied file log line = record { status = tt; printed = λ k. absurd k; reported = λ k. refl }
+line_replied file log line = grind arith
 
 pub judged_replied : (file log : List ℕ) (net : Network) (judged : Result Certificate Refusal) → IsReply (replay file log) (judged_log net judged)
-judged_replied file log net (Ok c) = verdict_replied file log (verdict_of c (judgement net c))
-judged_replied file log net (Err refusal) = record { status = tt; printed = λ k. absurd k; reported = λ k. refl }
+judged_replied file log net judged = grind (arith, verdict_replied)

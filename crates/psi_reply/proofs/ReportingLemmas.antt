@@ -48,11 +48,6 @@ pub samples_number : (net : Network) (seed first count : ℕ) → length (sample
 samples_number net seed first zero = refl
 samples_number net seed first (suc count) = ap suc (samples_number net seed (suc first) count)
 
--- what a call has where it has an answer, the answer has
-pub ok_given : {A E : Type 0} (P : A → Type 0) (result : Result A E) (some : Option A) (a : A) → IfOk result P → some ≡ result_ok result → some ≡ Some a → P a
-ok_given P (Ok b) some a holds is found = (let e : b ≡ a = cc in subst P e holds)
-ok_given P (Err e) some a holds is found = absurd cc
-
 -- each of them is that of coupling from the past
 pub samples-drawn : (net : Network) (seed first count : ℕ) → IsNetwork net → AreDrawn net seed first (samples_of net seed first count)
 samples-drawn net seed first zero kept = tt

@@ -26,11 +26,11 @@ use Rattle.psi_reply.specs.Sample.{functions_by_time, sampled, outcome_status, I
 use Rattle.psi_reply.specs.Networks.{IsSystemOf}
 
 -- what the events of a network do, one after the other
-abbrev done_by : List ℕ → List NamedEvent → List (List ℕ → List ℕ)
+abbrev pub done_by : List ℕ → List NamedEvent → List (List ℕ → List ℕ)
 done_by caps events = map (λ e. do_kind caps e.kind) events
 
 -- functions that do what the network's kinds do agree with them on the states
-each-alike : (caps : List ℕ) (fs : List (List ℕ → List ℕ)) (events : List NamedEvent) → EachDoes caps fs events → AreAlike caps (done_by caps events) fs
+pub each-alike : (caps : List ℕ) (fs : List (List ℕ → List ℕ)) (events : List NamedEvent) → EachDoes caps fs events → AreAlike caps (done_by caps events) fs
 each-alike caps [] [] does = record { same_length = refl; each = λ k small. absurd (omega arith) }
 each-alike caps [] (event ∷ events) does = absurd does
 each-alike caps (f ∷ fs) [] does = absurd does
@@ -67,46 +67,41 @@ functions-alike n seed stream fs kept does =
           (function_at-agree (caps_of n) (functions_of n) fs (rates_of n) (seed_word seed stream) alike t),
     )
 
--- what holds of a system's parts, with the functions of its events by time, holds of the network's that it is
-pub of_network : {E : Type 0} (function : E → List ℕ → List ℕ) (system : SystemParts E) (n : Network) (seed stream : ℕ) (P : ℕ → Functions → List ℕ → ℕ → Type 0)
-    → IsSystemOf function n system → P system.split (system_functions function system (seed_word seed stream)) system.caps system.limit
-    → P n.split (function_at (map function system.events) (rates_of n) (seed_word seed stream)) (caps_of n) n.limit
-of_network function system n seed stream P is holds =
-    let At : List ℕ → List ℕ → ℕ → ℕ → Type 0 =
-    λ rs cs l k. P k (function_at (map function system.events) rs (seed_word seed stream)) cs l in
-    subst (λ k. At (rates_of n) (caps_of n) n.limit k) is.split
-    (subst (λ l. At (rates_of n) (caps_of n) l system.split) is.limit
-    (subst (λ cs. At (rates_of n) cs system.limit system.split) is.caps
-    (subst (λ rs. At rs system.caps system.limit system.split) is.rates holds)))
+-- what holds of a network with functions by time that agree with its own on its states
+pub record HoldsAlike (n : Network) (seed stream : ℕ) (P : ℕ → Functions → List ℕ → ℕ → Type 0) : Type 0 where
+  pub by_time : Functions
+  pub closed : AreClosed (caps_of n) by_time
+  pub agree : (t : ℕ) → Agree (caps_of n) (by_time t) (functions_by_time n seed stream t)
+  pub holds : P n.split by_time (caps_of n) n.limit
 
-sampled-by : (n : Network) (seed stream : ℕ) (fs : List (List ℕ → List ℕ)) (o : Outcome) → IsNetwork n → EachDoes (caps_of n) fs n.events
-    → IsOutcome (ending_at n.split (function_at fs (rates_of n) (seed_word seed stream)) (caps_of n)) n.limit o → o ≡ sampled n seed stream
-unfolding sampled
-sampled-by n seed stream fs o kept does is =
-    let alike = functions-alike n seed stream fs kept does in
-    outcome_within-agree n.split (caps_of n) (function_at fs (rates_of n) (seed_word seed stream)) (functions_by_time n seed stream) n.limit o alike.0 alike.1 is
+-- what holds of a system's parts, with the functions of its events by time, holds so of the network's that it is
+pub of_network : {E : Type 0} (function : E → List ℕ → List ℕ) (system : SystemParts E) (n : Network) (seed stream : ℕ) (P : ℕ → Functions → List ℕ → ℕ → Type 0)
+    → IsNetwork n → IsSystemOf function n system → P system.split (system_functions function system (seed_word seed stream)) system.caps system.limit → HoldsAlike n seed stream P
+of_network function system n seed stream P kept is holds =
+    let fs = map function system.events in
+    let alike = functions-alike n seed stream fs kept is.functions in
+    record {
+      by_time = function_at fs (rates_of n) (seed_word seed stream);
+      closed = alike.0;
+      agree = alike.1;
+      holds = rw (← is.split, ← is.limit, ← is.caps, ← is.rates) holds;
+    }
 
 -- the sample of a system that is made of the network is the network's
 pub sampled_by : {E : Type 0} (function : E → List ℕ → List ℕ) (system : SystemParts E) (n : Network) (seed stream : ℕ) (o : Outcome)
-    → IsNetwork n → EachDoes (caps_of n) (map function system.events) n.events
-    → system.rates ≡ rates_of n → system.caps ≡ caps_of n → system.limit ≡ n.limit → system.split ≡ n.split
-    → IsOutcome (ending_at system.split (system_functions function system (seed_word seed stream)) system.caps) system.limit o
-    → o ≡ sampled n seed stream
-sampled_by function system n seed stream o kept does rates caps limit split is =
-    sampled-by n seed stream (map function system.events) o kept does
-    (of_network function system n seed stream (λ k f cs l. IsOutcome (ending_at k f cs) l o)
-    (record { caps = caps; functions = does; rates = rates; limit = limit; split = split }) is)
-
-sampled-least : (n : Network) (seed stream : ℕ) → IsOutcome (ending_at n.split (functions_by_time n seed stream) (caps_of n)) n.limit (sampled n seed stream)
+    → IsNetwork n → IsSystemOf function n system
+    → IsOutcome (ending_at system.split (system_functions function system (seed_word seed stream)) system.caps) system.limit o → o ≡ sampled n seed stream
 unfolding sampled
-sampled-least n seed stream = outcome_within-is (ending_at n.split (functions_by_time n seed stream) (caps_of n)) n.limit
+sampled_by function system n seed stream o kept of is =
+    let own = of_network function system n seed stream (λ k f cs l. IsOutcome (ending_at k f cs) l o) kept of is in
+    outcome_within-agree n.split (caps_of n) own.by_time (functions_by_time n seed stream) n.limit o own.closed own.agree own.holds
 
 -- the sample is that of coupling from the past
 pub sampled-drawn : (n : Network) (seed stream : ℕ) → IsNetwork n → IsDrawn n seed stream (sampled n seed stream)
-unfolding functions_by_time
+unfolding functions_by_time sampled
 sampled-drawn n seed stream kept =
     sample-is (caps_of n) (functions_of n) (rates_of n) n.limit n.split (seed_word seed stream) (sampled n seed stream)
-    (functions_by_time-closed n seed stream kept) (sampled-least n seed stream)
+    (functions_by_time-closed n seed stream kept) (outcome_within-is (ending_at n.split (functions_by_time n seed stream) (caps_of n)) n.limit)
 
 -- what is printed of a network's sample is a sample's text
 pub sampled_printed : (before after : Option (List ℕ)) (n : Network) (seed stream : ℕ) → IsNetwork n

@@ -77,46 +77,21 @@ pub sizes_by : {E : Type 0} (function : E → List ℕ → List ℕ) (system : S
     → told ≡ image_sizes (system_functions function system words) system.caps h → told ≡ sizes n seed stream h
 unfolding sizes
 sizes_by function system n seed stream h told words kept of drawn is =
-    let fs = map function system.events in
-    let alike = functions-alike n seed stream fs kept of.functions in
-    of_network function system n seed stream (λ k f cs l. told ≡ image_sizes f cs h) of
-    (is ∙ ap (λ (w : ℕ → ℕ). image_sizes (system_functions function system w) system.caps h) drawn)
-    ∙ sizes-agree (caps_of n) (function_at fs (rates_of n) (seed_word seed stream)) (functions_by_time n seed stream) alike.0 alike.1 h
+    let own = of_network function system n seed stream (λ k f cs l. told ≡ image_sizes f cs h) kept of
+    (is ∙ ap (λ (w : ℕ → ℕ). image_sizes (system_functions function system w) system.caps h) drawn) in
+    own.holds ∙ sizes-agree (caps_of n) own.by_time (functions_by_time n seed stream) own.closed own.agree h
 
 pub meeting_by : {E : Type 0} (function : E → List ℕ → List ℕ) (system : SystemParts E) (n : Network) (seed stream h : ℕ) (m : Meeting)
     → IsNetwork n → IsSystemOf function n system
     → IsMeeting (meeting_at (system_functions function system (seed_word seed stream)) system.caps) h m → m ≡ meeting n seed stream h
 unfolding meetings meeting
 meeting_by function system n seed stream h m kept of is =
-    let fs = map function system.events in
-    let f = function_at fs (rates_of n) (seed_word seed stream) in
-    let alike = functions-alike n seed stream fs kept of.functions in
+    let own = of_network function system n seed stream (λ k f cs l. IsMeeting (meeting_at f cs) h m) kept of is in
     meeting_within-only (meetings n seed stream) h m
-    (is_meeting-agree (meeting_at f (caps_of n)) (meetings n seed stream) h m
-    (λ t some. ap single (image_at-agree (caps_of n) f (functions_by_time n seed stream) alike.0 alike.1 t))
-    (of_network function system n seed stream (λ k g cs l. IsMeeting (meeting_at g cs) h m) of is))
-
--- the least coupling within another limit
-pub region_by : {E : Type 0} (function : E → List ℕ → List ℕ) (system : SystemParts E) (n : Network) (seed stream h : ℕ) (c : Coupled)
-    → IsNetwork n → IsSystemOf function n system
-    → IsCoupled (ending_at system.split (system_functions function system (seed_word seed stream)) system.caps) h c → c ≡ region n seed stream h
-unfolding endings region
-region_by function system n seed stream h c kept of is =
-    let fs = map function system.events in
-    let alike = functions-alike n seed stream fs kept of.functions in
-    coupled_within-agree n.split (caps_of n) (function_at fs (rates_of n) (seed_word seed stream)) (functions_by_time n seed stream) h c alike.0 alike.1
-    (of_network function system n seed stream (λ k f cs l. IsCoupled (ending_at k f cs) h c) of is)
+    (is_meeting-agree (meeting_at own.by_time (caps_of n)) (meetings n seed stream) h m
+    (λ t some. ap single (image_at-agree (caps_of n) own.by_time (functions_by_time n seed stream) own.closed own.agree t)) own.holds)
 
 -- ---- what is told of the network's composed map
-
-meeting-least : (n : Network) (seed stream h : ℕ) → IsMeeting (meetings n seed stream) h (meeting n seed stream h)
-unfolding meeting meeting_within
-meeting-least n seed stream h =
-    meeting_of-is (meetings n seed stream) h (least_answer (meetings n seed stream) (2 ^ h)) (least_answer-tells (meetings n seed stream) (2 ^ h))
-
-region-least : (n : Network) (seed stream h : ℕ) → IsCoupled (endings n seed stream) h (region n seed stream h)
-unfolding region
-region-least n seed stream h = coupled_within-is (endings n seed stream) h
 
 -- where a region run ends with one state, all states have met by then
 met-by : (n : Network) (seed stream h : ℕ) (c : Coupled) (m : Meeting) → IsNetwork n → IsCoupled (endings n seed stream) h c
@@ -159,12 +134,12 @@ alike n seed stream h c m kept monotone least is =
 
 surveyed : (before after : Option (List ℕ)) (n : Network) (seed stream h : ℕ) → IsNetwork n → state_count n ≤ 65536
     → after ≡ appended before (exact_text n seed stream h) → IsSurveyOf before after (meeting_status (meeting n seed stream h)) n seed stream h
-unfolding exact_text meetings
+unfolding exact_text endings meetings meeting meeting_within region
 surveyed before after n seed stream h kept few grew =
     let f = functions_by_time n seed stream in
     let closed = functions_by_time-closed n seed stream kept in
-    let least = meeting-least n seed stream h in
-    let own = region-least n seed stream h in
+    let least = meeting_of-is (meeting_at f (caps_of n)) h (least_answer (meeting_at f (caps_of n)) (2 ^ h)) (least_answer-tells (meeting_at f (caps_of n)) (2 ^ h)) in
+    let own = coupled_within-is (ending_at n.split f (caps_of n)) h in
     record {
       few = few;
       met = meeting n seed stream h;

@@ -148,11 +148,5 @@ pub fn check_ending<'w>(alloc: Global, net: &Net) -> Ending<'w>
     ensures reply { EndsWith (ending_of result) (text_reply Done (check_text net.now)) }
     ensures marks { HasReplied (ending_of result) → AreMarked net.now }
 {
-    match check_text(alloc, net) {
-        Ok(text) => Ending::Printed {
-            status: Status::Done,
-            text,
-        },
-        Err(_) => Ending::OutOfMemory,
-    }
+    Ending::printed(Status::Done, check_text(alloc, net))
 }

@@ -1,6 +1,6 @@
 //! How the work of a call ends, before anything is written.
 
-ghost use Rattle.std.specs.Prelude.{◌≡◌, ℕ, List, [], IfOk};
+ghost use Rattle.std.specs.Prelude.{◌≡◌, ℕ, List, [], IfOk, IsOk};
 
 use crate::lines::{
     Line, log_refused_line, log_rejected_line, log_unread_line, memory_line, network_unread_line,
@@ -61,12 +61,13 @@ pub enum Ending<'w> {
 impl<'w> Ending<'w> {
     ghost use Rattle.psi_program.specs.Reply.{text_reply};
     ghost use Rattle.psi_program.specs.Written.{reply_with};
-    ghost use Rattle.psi_reply.specs.Ending.{EndsWith, ending_reply, with_line};
+    ghost use Rattle.psi_reply.specs.Ending.{EndsWith, HasReplied, ending_reply, with_line};
     ghost use Rattle.psi_reply.specs.Ended.{ending_of};
 
     // The ending with a text for out, or `OutOfMemory` if an allocation fails.
     pub(crate) fn printed(status: Status, text: Result<Vec<u8>, AllocError>) -> Ending<'w>
-        ensures { (wanted : List ℕ) → IfOk text (λ text. text.items ≡ wanted) → EndsWith (ending_of result) (text_reply status wanted) }
+        ensures ends { (wanted : List ℕ) → IfOk text (λ text. text.items ≡ wanted) → EndsWith (ending_of result) (text_reply status wanted) }
+        ensures replied { HasReplied (ending_of result) → IsOk text }
     {
         match text {
             Ok(text) => Ending::Printed { status, text },

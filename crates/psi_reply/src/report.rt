@@ -1,6 +1,6 @@
 //! `report NET SEED FIRST COUNT`: a report over samples of a network, one for each of several streams.
 
-ghost use Rattle.std.specs.Prelude.{◌≡◌, ◌+◌, ◌^◌, ◌≤◌, IfSome};
+ghost use Rattle.std.specs.Prelude.{◌≡◌, ◌+◌, ◌^◌, ◌≤◌, IfOk};
 ghost use Rattle.psi_report.specs.Samples.{IsSampleOf};
 ghost use Rattle.psi_report.specs.Report.{report_text};
 ghost use Rattle.psi_report.specs.Totals.{StandsFor};
@@ -16,6 +16,7 @@ use crate::ending::Ending;
 use crate::planning::{NetPlan, plan_for};
 use psi_command::Status;
 use psi_event::EventLaw;
+use psi_horizon::OutOfMemory;
 use psi_kinds::Event;
 use psi_net_model::Net;
 use psi_past::SeedPast;
@@ -36,39 +37,42 @@ pub fn next_sample<'n>(plan: &mut NetPlan<'n>, net: &Net, seed: u64, stream: u64
     plan.sample()
 }
 
-// The totals of the samples of `count` streams; none if an allocation fails. One plan serves all
-// streams.
-fn tally_of(alloc: Global, net: &Net, seed: u64, first: u64, count: u32) -> Option<Tally>
+// The totals of the samples of `count` streams. One plan serves all streams.
+fn tally_of(
+    alloc: Global,
+    net: &Net,
+    seed: u64,
+    first: u64,
+    count: u32,
+) -> Result<Tally, OutOfMemory>
     requires few { count ≤ 65536 }
     requires streams { first + count ≤ 2 ^ 64 }
-    ensures { IfSome result (λ tally. StandsFor tally net.now (samples_of net.now seed first count)) }
+    ensures { IfOk result (λ tally. StandsFor tally net.now (samples_of net.now seed first count)) }
 {
-    let mut tally = Tally::new(alloc, net).ok()?;
-    let mut plan = plan_for(alloc, net, seed, first).ok()?;
+    let mut tally = Tally::new(alloc, net)?;
+    let mut plan = plan_for(alloc, net, seed, first)?;
     for i in 0..count {
         let outcome = next_sample(&mut plan, net, seed, first + i as u64);
         tally.add(net, &outcome);
     }
     drop(plan);
-    Some(tally)
+    Ok(tally)
 }
 
-/// The report of the samples of `count` streams, at most 65,536 of them, from `first` on; none where there
-/// is not enough memory.
+/// The report of the samples of `count` streams, at most 65,536 of them, from `first` on.
 pub(crate) fn report_of(
     alloc: Global,
     net: &Net,
     seed: u64,
     first: u64,
     count: u32,
-) -> Option<Vec<u8>>
+) -> Result<Vec<u8>, OutOfMemory>
     requires few { count ≤ 65536 }
     requires streams { first + count ≤ 2 ^ 64 }
-    ensures { IfSome result (λ text. text.items ≡ report_text net.now (samples_of net.now seed first count)) }
+    ensures { IfOk result (λ text. text.items ≡ report_text net.now (samples_of net.now seed first count)) }
 {
     let tally = tally_of(alloc, net, seed, first, count)?;
-    let text = tally.text(alloc, net).ok()?;
-    Some(text)
+    tally.text(alloc, net)
 }
 
 /// Does the work for `report`: the report of the samples that a seed and `count` streams draw of the network, 1 to
@@ -78,11 +82,5 @@ pub fn report_ending<'w>(alloc: Global, net: &Net, seed: u64, first: u64, count:
     requires streams { first + count ≤ 2 ^ 64 }
     ensures { EndsWith (ending_of result) (text_reply Done (report_text net.now (samples_of net.now seed first count))) }
 {
-    match report_of(alloc, net, seed, first, count) {
-        Some(text) => Ending::Printed {
-            status: Status::Done,
-            text,
-        },
-        None => Ending::OutOfMemory,
-    }
+    Ending::printed(Status::Done, report_of(alloc, net, seed, first, count))
 }

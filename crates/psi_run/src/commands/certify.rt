@@ -17,15 +17,14 @@ use crate::files::network_at;
 use crate::writing::finish;
 use psi_command::Status;
 use psi_event::EventLaw;
-use psi_follow::plan_of;
 use psi_horizon::Plan;
 use psi_io::{Shelf, Sink};
 use psi_log::{Header, LineBuf};
 use psi_log_writer::{Block, log_fits, write_log};
 use psi_net::Net;
-use psi_past::{Past, SeedPast};
+use psi_past::Past;
 use psi_region::Follower;
-use psi_reply::{Ending, unmet_ending};
+use psi_reply::{Ending, plan_for, unmet_ending};
 use psi_state::{Outcome, State};
 use std::alloc::Global;
 
@@ -80,8 +79,7 @@ fn write_sample<O: Sink, E: Sink>(
         result }
 {
     let queues = net.queues();
-    let system = net.system();
-    let Ok(mut plan) = plan_of(alloc, system, SeedPast::new(seed, stream)) else {
+    let Ok(mut plan) = plan_for(alloc, net, seed, stream) else {
         return finish(&Ending::OutOfMemory, out, err);
     };
     let outcome = plan.sample();

@@ -19,4 +19,4 @@ returns c =
     subst (EndsWith (ending_of c.printed.result))
     (surveyed_reply c.args.net.now c.args.seed c.args.stream c.args.h c.count_of.result c.in-Ok.survey.sizes c.in-Ok.survey.meeting c.in-Ok-region_of.region c.meeting_status.result wanted
     told.few c.count_of.ensures told.sizes told.meeting c.in-Ok-region_of.ensures c.meeting_status.ensures refl)
-    (c.printed.ensures wanted c.survey_text-text.ensures)
+    (c.printed.ensures.ends wanted c.survey_text-text.ensures)

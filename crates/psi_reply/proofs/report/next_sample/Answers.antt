@@ -8,12 +8,8 @@ use Rattle.psi_reply.proofs.report.next_sample.Goals as goal
 pub returns-clause-value : goal.returns-clause-value
 returns-clause-value c =
     let least = rw (c.replace.ensures, c.new.ensures) at c.sample.ensures.sample.least in
-    sampled_by _ c.args.plan.now.system c.args.net.now c.args.seed c.args.stream c.sample.result c.queues-queues.ensures.kept c.requires.functions c.requires.rates c.requires.caps
-    c.requires.limit c.requires.split least
+    sampled_by _ c.args.plan.now.system c.args.net.now c.args.seed c.args.stream c.sample.result c.queues-queues.ensures.kept c.requires least
 
 pub returns-clause-sample : goal.returns-clause-sample
 returns-clause-sample c =
-    let least = rw (c.replace.ensures, c.new.ensures) at c.sample.ensures.sample.least in
-    let value = sampled_by _ c.args.plan.now.system c.args.net.now c.args.seed c.args.stream c.sample.result c.queues-queues.ensures.kept c.requires.functions c.requires.rates
-    c.requires.caps c.requires.limit c.requires.split least in
-    subst (IsSampleOf c.args.net.now) (sym value) (sampled_counts c.args.net.now c.args.seed c.args.stream c.queues-queues.ensures.kept)
+    subst (IsSampleOf c.args.net.now) (sym (returns-clause-value c)) (sampled_counts c.args.net.now c.args.seed c.args.stream c.queues-queues.ensures.kept)

@@ -6,20 +6,11 @@ use Rattle.psi_report.specs.Totals.{StandsFor}
 use Rattle.psi_kinds.specs.contracts.event.EventEventLaw.TheImpl.{function-value}
 use Rattle.psi_reply.specs.Networks.{IsSystemOf}
 use Rattle.psi_reply.specs.Report.{samples_of}
-use Rattle.psi_reply.proofs.ReportingLemmas.{samples_more, samples_number, ok_given}
+use Rattle.psi_reply.proofs.ReportingLemmas.{samples_more, samples_number}
 use Rattle.psi_reply.proofs.report.tally_of.Goals as goal
 
-pub loop-i-init : goal.loop-i-init
-loop-i-init c = record {
-  stands = ok_given (λ tally. StandsFor tally c.args.net.now []) c.new.result c.ok.result c.in_ok-tally.tally c.new.ensures c.ok.ensures.value c.in_ok-tally.was;
-  system = refl;
-}
-
 pub next_sample-outcome-requires : goal.next_sample-outcome-requires
-next_sample-outcome-requires c =
-    let first = ok_given (λ plan. IsSystemOf function-value.it c.args.net.now plan.system) c.plan_for.result c.ok-2.result c.in_ok-plan.plan c.plan_for.ensures.system c.ok-2.ensures.value
-    c.in_ok-plan.was in
-    subst (λ system. IsSystemOf function-value.it c.args.net.now system) (sym c.loop-i.invariant.system) first
+next_sample-outcome-requires c = subst (λ system. IsSystemOf function-value.it c.args.net.now system) (sym c.loop-i.invariant.system) c.in_ok-plan.ensures.system
 
 pub add-requires-clause-stands : goal.add-requires-clause-stands
 add-requires-clause-stands c =

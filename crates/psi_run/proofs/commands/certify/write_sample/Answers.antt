@@ -14,21 +14,18 @@ write_run-status-requires-clause-most g c = rw c.sample-outcome.ensures.system (
 
 pub returns-in-Met : goal.returns-in-Met
 returns-in-Met g c =
-    let made = c.system-system.ensures in
-    let least = rw (c.in-Ok.ensures, c.new.ensures) at c.sample-outcome.ensures.sample.least in
-    let is = sampled_by _ c.system-system.result c.args.net.now c.args.seed c.args.stream c.sample-outcome.result c.queues-queues.ensures.kept
-    made.functions made.rates made.caps made.limit made.split least in
-    let same = certified_by _ c.system-system.result c.args.net.now c.args.seed c.args.stream c.in-Met.horizon c.in-Met.state c.queues-queues.result c.sample-outcome.result
-    c.queues-queues.ensures.kept (record { caps = made.caps; functions = made.functions; rates = made.rates; limit = made.limit; split = made.split })
-    (queues_counted c.args.net.now c.queues-queues.result c.queues-queues.ensures.count) is c.in-Met.is in
-    let finished = rw (c.sample-outcome.ensures.system, c.sample-outcome.ensures.words, c.in-Ok.ensures, c.new.ensures) at c.write_run-status.ensures in
+    let made = c.in-Ok.ensures in
+    let least = rw made.past at c.sample-outcome.ensures.sample.least in
+    let is = sampled_by _ c.in-Ok.plan.system c.args.net.now c.args.seed c.args.stream c.sample-outcome.result made.kept made.system least in
+    let same = certified_by _ c.in-Ok.plan.system c.args.net.now c.args.seed c.args.stream c.in-Met.horizon c.in-Met.state c.queues-queues.result c.sample-outcome.result
+    made.kept made.system (queues_counted c.args.net.now c.queues-queues.result c.queues-queues.ensures.count) is c.in-Met.is in
+    let finished = rw (c.sample-outcome.ensures.system, c.sample-outcome.ensures.words, made.past) at c.write_run-status.ensures in
     finished_as _ _ _ _ _ _ c.write_run-status.result finished (λ ending ends. subst (λ (r : Reply). EndsWith ending r) same ends)
 
 pub returns-in-NotMet : goal.returns-in-NotMet
 returns-in-NotMet g c =
-    let least = rw (c.in-Ok.ensures, c.new.ensures) at c.sample-outcome.ensures.sample.least in
-    let made = c.system-system.ensures in
-    let is = sampled_by _ c.system-system.result c.args.net.now c.args.seed c.args.stream c.sample-outcome.result c.queues-queues.ensures.kept
-    made.functions made.rates made.caps made.limit made.split least in
+    let made = c.in-Ok.ensures in
+    let least = rw made.past at c.sample-outcome.ensures.sample.least in
+    let is = sampled_by _ c.in-Ok.plan.system c.args.net.now c.args.seed c.args.stream c.sample-outcome.result made.kept made.system least in
     finished_with _ _ _ _ _ _ c.finish-in-NotMet.result c.finish-in-NotMet.ensures
     (subst (λ (o : Outcome). EndsWith (ending_of c.unmet_ending.result) (certify_reply c.args.net.now c.args.seed c.args.stream o)) (sym c.in-NotMet.is ∙ is) c.unmet_ending.ensures)
