@@ -1,6 +1,11 @@
 -- Each command about a network is about one.
 use Rattle.std.specs.Prelude.{◌≡◌, ℕ, List, [], ◌∷◌, Option, refl, Some}
-use Rattle.psi_command.specs.Command.{sample, net_file, check, report, couple, reward, exact, closed, certify, replay, log_file}
+use Rattle.psi_net_model.specs.Network.{Network}
+use Rattle.psi_command.specs.declared.status.Status.{Status}
+use Rattle.psi_command.specs.declared.words.Question.{Question}
+use Rattle.psi_command.specs.declared.words.Question.TheVariants.{Sample, Check, Report, Couple, Reward, Exact, Closed, Replay}
+use Rattle.psi_command.specs.Command.{net_file, certify, replay, log_file}
+use Rattle.psi_command.specs.Request.{asked}
 use Rattle.psi_reply.specs.Sample.{IsSampled}
 use Rattle.psi_run.specs.Reply.{reply_to}
 use Rattle.psi_run.proofs.EndingsLemmas.{IsAbout, first_read}
@@ -13,46 +18,28 @@ use Rattle.psi_reply.specs.Closed.{IsClosedSampled}
 use Rattle.psi_reply.specs.Certified.{IsCertified}
 use Rattle.psi_reply.specs.Replay.{IsReplayed}
 
--- a sample is about one network
-pub sample_about : (told : List ℕ → Option (List ℕ)) (name : List ℕ) (seed stream : ℕ)
-    → IsAbout told (sample name seed stream) name (λ net before after result. IsSampled before after result net seed stream)
-unfolding reply_to
-sample_about told name seed stream = record { reads = first_read (net_file name) []; reply = refl; means = λ before after result has. has }
+-- what the reply to a question says of the network
+abbrev pub Answers : (List ℕ → Option (List ℕ)) → Question → Network → (before after : Option (List ℕ)) → Status → Type 0
+Answers told (Sample seed stream) net before after result = IsSampled before after result net seed stream
+Answers told Check net before after result = IsChecked before after result net
+Answers told (Report seed first count) net before after result = IsReportOf before after result net seed first count
+Answers told (Couple seed stream) net before after result = IsCouplingOf before after result net seed stream
+Answers told (Reward seed stream name) net before after result = IsRewardOf before after result net seed stream (kind_named name.now net.rewards)
+Answers told (Exact seed stream h) net before after result = IsSurveyed before after result net seed stream h
+Answers told (Closed seed stream total) net before after result = IsClosedSampled before after result net seed stream total
+Answers told (Replay log) net before after result = (bytes : List ℕ) → told log.now ≡ Some bytes → IsReplayed before after result net bytes
 
--- a description is about one network
-pub check_about : (told : List ℕ → Option (List ℕ)) (name : List ℕ) → IsAbout told (check name) name (λ net before after result. IsChecked before after result net)
+-- a question is about one network
+pub question_about : (told : List ℕ → Option (List ℕ)) (name : List ℕ) (question : Question) → IsAbout told (asked name question) name (Answers told question)
 unfolding reply_to
-check_about told name = record { reads = first_read (net_file name) []; reply = refl; means = λ before after result has. has }
-
--- a report is about one network
-pub report_about : (told : List ℕ → Option (List ℕ)) (name : List ℕ) (seed first count : ℕ)
-    → IsAbout told (report name seed first count) name (λ net before after result. IsReportOf before after result net seed first count)
-unfolding reply_to
-report_about told name seed first count = record { reads = first_read (net_file name) []; reply = refl; means = λ before after result has. has }
-
--- a coupling is about one network
-pub couple_about : (told : List ℕ → Option (List ℕ)) (name : List ℕ) (seed stream : ℕ)
-    → IsAbout told (couple name seed stream) name (λ net before after result. IsCouplingOf before after result net seed stream)
-unfolding reply_to
-couple_about told name seed stream = record { reads = first_read (net_file name) []; reply = refl; means = λ before after result has. has }
-
--- the value of a reward is about one network
-pub reward_about : (told : List ℕ → Option (List ℕ)) (file : List ℕ) (seed stream : ℕ) (name : List ℕ)
-    → IsAbout told (reward file seed stream name) file (λ net before after result. IsRewardOf before after result net seed stream (kind_named name net.rewards))
-unfolding reply_to
-reward_about told file seed stream name = record { reads = first_read (net_file file) []; reply = refl; means = λ before after result has. has }
-
--- the map of all states is about one network
-pub exact_about : (told : List ℕ → Option (List ℕ)) (name : List ℕ) (seed stream h : ℕ)
-    → IsAbout told (exact name seed stream h) name (λ net before after result. IsSurveyed before after result net seed stream h)
-unfolding reply_to
-exact_about told name seed stream h = record { reads = first_read (net_file name) []; reply = refl; means = λ before after result has. has }
-
--- a sample of a closed network is about one network
-pub closed_about : (told : List ℕ → Option (List ℕ)) (name : List ℕ) (seed stream total : ℕ)
-    → IsAbout told (closed name seed stream total) name (λ net before after result. IsClosedSampled before after result net seed stream total)
-unfolding reply_to
-closed_about told name seed stream total = record { reads = first_read (net_file name) []; reply = refl; means = λ before after result has. has }
+question_about told name (Sample seed stream) = record { reads = first_read (net_file name) []; reply = refl; means = λ before after result has. has }
+question_about told name Check = record { reads = first_read (net_file name) []; reply = refl; means = λ before after result has. has }
+question_about told name (Report seed first count) = record { reads = first_read (net_file name) []; reply = refl; means = λ before after result has. has }
+question_about told name (Couple seed stream) = record { reads = first_read (net_file name) []; reply = refl; means = λ before after result has. has }
+question_about told name (Reward seed stream reward) = record { reads = first_read (net_file name) []; reply = refl; means = λ before after result has. has }
+question_about told name (Exact seed stream h) = record { reads = first_read (net_file name) []; reply = refl; means = λ before after result has. has }
+question_about told name (Closed seed stream total) = record { reads = first_read (net_file name) []; reply = refl; means = λ before after result has. has }
+question_about told name (Replay log) = record { reads = first_read (net_file name) (log_file log.now ∷ []); reply = refl; means = λ before after result has. has }
 
 -- the log of a sample is about one network
 pub certify_about : (told : List ℕ → Option (List ℕ)) (name : List ℕ) (seed stream : ℕ)

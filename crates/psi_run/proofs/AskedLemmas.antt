@@ -5,8 +5,7 @@ use Rattle.psi_io.specs.Counts.{Rose}
 use Rattle.psi_io.specs.Shelf.{Read}
 use Rattle.psi_reply.specs.declared.ending.Ending.{Ending as Ended}
 use Rattle.psi_command.specs.declared.words.Question.{Question}
-use Rattle.psi_command.specs.declared.words.Question.TheVariants.{Sample, Check, Report, Couple, Reward, Exact, Closed, Replay}
-use Rattle.psi_command.specs.Command.{Command, sample, check, report, couple, reward, exact, closed, replay, net_file}
+use Rattle.psi_command.specs.Command.{Command, net_file}
 use Rattle.psi_command.specs.Request.{asked}
 use Rattle.psi_program.specs.Seen.{ShelfSeen}
 use Rattle.psi_run.specs.Reads.{WasLast}
@@ -16,20 +15,11 @@ use Rattle.psi_run.specs.Ending.{IsEnding}
 use Rattle.psi_reply.specs.Ended.{ending_of}
 use Rattle.psi_run.specs.Files.{IsNoNet}
 use Rattle.psi_run.proofs.EndingsLemmas.{no_net}
-use Rattle.psi_run.proofs.AboutsLemmas.{sample_about, check_about, report_about, couple_about, reward_about, exact_about, closed_about, replay_about}
+use Rattle.psi_run.proofs.AboutsLemmas.{question_about}
 
 -- the work for a question where no network was had
 pub asked_none : (shelf : ShelfSeen) (name : List ℕ) (question : Question) (ended : Ended) → IsNoNet shelf name ended → WasLast shelf (net_file name) → IsEnding shelf (Ok (asked name question)) (ending_of ended)
-asked_none shelf name (Sample seed stream) ended none last = no_net (sample name seed stream) name _ shelf ended (sample_about shelf.told name seed stream) none last
-asked_none shelf name Check ended none last = no_net (check name) name _ shelf ended (check_about shelf.told name) none last
-asked_none shelf name (Report seed first count) ended none last = no_net (report name seed first count) name _ shelf ended (report_about shelf.told name seed first count) none last
-asked_none shelf name (Couple seed stream) ended none last = no_net (couple name seed stream) name _ shelf ended (couple_about shelf.told name seed stream) none last
-asked_none shelf name (Reward seed stream reward-name) ended none last =
-    no_net (reward name seed stream reward-name.now) name _ shelf ended (reward_about shelf.told name seed stream reward-name.now) none last
-asked_none shelf name (Exact seed stream h) ended none last = no_net (exact name seed stream h) name _ shelf ended (exact_about shelf.told name seed stream h) none last
-asked_none shelf name (Closed seed stream total) ended none last =
-    no_net (closed name seed stream total) name _ shelf ended (closed_about shelf.told name seed stream total) none last
-asked_none shelf name (Replay log) ended none last = no_net (replay name log.now) name _ shelf ended (replay_about shelf.told name log.now) none last
+asked_none shelf name question ended none last = no_net (asked name question) name _ shelf ended (question_about shelf.told name question) none last
 
 -- what is seen of a shelf over one call after another: the second tells what the first did
 module _ (told : List ℕ → Option (List ℕ)) (reads_before reads_between reads_after : List Read) (before between after : List ℕ → ℕ) where

@@ -1,38 +1,22 @@
 -- The headline over what was read and accepted, from what a run is.
-use Rattle.std.specs.Prelude.{◌≡◌, ◌≢◌, ℕ, ◌+◌, ◌^◌, ◌<◌, List, [], ◌∷◌, take, length, Option, Some, Ok, codes, refl}
-use Rattle.std.specs.Fmt.{decimal}
+use Rattle.std.specs.Prelude.{◌≡◌, ◌≢◌, ℕ, ◌+◌, List, take, length, Some, Ok, refl}
 use Rattle.std.specs.List.{AllByRecursion}
 use Rattle.std.proofs.Common.{inl, inr, sym, subst, arith, ◌∙◌}
 use Rattle.std.proofs.lemmas.Bool.{cases_lt}
 use Rattle.std.proofs.lemmas.List.{take_all}
 use Rattle.psi_io.specs.Shelf.{Given, IsPrefixIn}
-use Rattle.psi_program.specs.Run.{Run, Agrees}
 use Rattle.psi_net_model.specs.Network.{Network}
 use Rattle.psi_net.specs.Reading.{network_of}
 use Rattle.psi_net.proofs.FrontLemmas.{network_of-long}
 use Rattle.psi_command.specs.declared.status.Status.{Status}
-use Rattle.psi_command.specs.declared.status.Status.TheVariants as status
 use Rattle.psi_command.specs.Status.{status_code, IsReplied}
 use Rattle.psi_command.specs.Command.{sample}
 use Rattle.psi_command.proofs.AskingLemmas.{sample_asked}
-use Rattle.psi_run.specs.Run.{IsRunOf}
-use Rattle.psi_run.specs.Headline.{PrintsSample, IsSampleRun, SamplesOfGiven, SamplesOfWhole}
+use Rattle.psi_run.specs.Headline.{SamplesOfGiven, SamplesOfWhole}
 
 -- a status that is none of 6, 7 and 8 is that of a reply
 is-replied : (s : Status) → status_code s ≢ 6 → status_code s ≢ 7 → status_code s ≢ 8 → IsReplied s
-is-replied status.Done read write memory = tt
-is-replied status.NotCoupled read write memory = tt
-is-replied status.Usage read write memory = tt
-is-replied status.NetRefused read write memory = tt
-is-replied status.LogRefused read write memory = tt
-is-replied status.LogTooLong read write memory = tt
-is-replied status.UnknownReward read write memory = tt
-is-replied status.TooManyStates read write memory = tt
-is-replied status.NotClosed read write memory = tt
-is-replied status.NoSuchTotal read write memory = tt
-is-replied status.ReadFault read write memory = absurd (read refl)
-is-replied status.WriteFault read write memory = absurd (write refl)
-is-replied status.OutOfMemory read write memory = absurd (memory refl)
+is-replied s read write memory = grind arith
 
 -- bytes that read as a network are within its bound
 within-bound : (bytes : List ℕ) (net : Network) → network_of bytes ≡ Ok net → bytes ≡ take (1048576 + 1) bytes

@@ -1,6 +1,6 @@
 -- Which files a call reads, from the reads of its parts.
 use Rattle.std.specs.Prelude.{◌≡◌, ℕ, List, [], ◌∷◌, ◌++◌, take, drop, map, Option, Some, None, Result, Ok, Err, IsOk, IfSome, All, refl}
-use Rattle.std.proofs.Common.{sym, ap, ◌∙◌, subst, append_assoc, append-nil, inl, inr}
+use Rattle.std.proofs.Common.{arith, sym, ap, ◌∙◌, subst, append_assoc, append-nil, inl, inr}
 use Rattle.std.proofs.lemmas.List.Elements.{All-nil, All-cons}
 use Rattle.psi_io.specs.Shelf.{Read}
 use Rattle.psi_net_model.specs.Network.{Network}
@@ -13,7 +13,6 @@ use Rattle.psi_command.specs.declared.words.Question.TheVariants.{Sample, Check,
 use Rattle.psi_command.specs.Command.{Command, trial, certify, File, net_file, log_file, files_of}
 use Rattle.psi_command.specs.Request.{asked}
 use Rattle.psi_reply.specs.declared.ending.Ending.{Ending as Ended}
-use Rattle.psi_reply.specs.declared.ending.Ending.TheVariants.{Printed, Usage, NetRefused, LogRefused, LogRejected, LogTooLong, UnknownReward, TooManyStates, NotClosed, NoSuchTotal, NetUnread, LogUnread, OutOfMemory}
 use Rattle.psi_program.specs.Seen.{ShelfSeen}
 use Rattle.psi_run.specs.Reads.{IsNeeded, read_of, WasLast, AreAsked}
 use Rattle.psi_reply.specs.Ending.{ending_reply}
@@ -26,14 +25,7 @@ read_last shelf file is = record { earlier = shelf.asked_before; is = is }
 
 -- the file of a question's network is the first that it names
 names-net : (name : List ℕ) (question : Question) → files_of (asked name question) ≡ net_file name ∷ drop 1 (files_of (asked name question))
-names-net name (Sample seed stream) = refl
-names-net name Check = refl
-names-net name (Report seed first count) = refl
-names-net name (Couple seed stream) = refl
-names-net name (Reward seed stream reward) = refl
-names-net name (Exact seed stream h) = refl
-names-net name (Closed seed stream total) = refl
-names-net name (Replay log) = refl
+names-net name question = grind arith
 
 -- a network that is had where the shelf's model has it is accepted there
 is-accepted : (told : Option (List ℕ)) (net : Network) → IfSome told (λ bytes. network_of bytes ≡ Ok net) → IfSome told (λ bytes. IsOk (network_of bytes))
@@ -66,19 +58,7 @@ needs-all told name (Replay log) net at =
 -- a reply where no network is had tells that it is refused
 refused-none : (shelf : ShelfSeen) (name : List ℕ) (ended : Ended) → IsNoNet shelf name ended
     → IsReplied (ending_reply (ending_of ended)).status → (ending_reply (ending_of ended)).status ≡ ends.NetRefused
-refused-none shelf name (Printed own text) none = absurd none
-refused-none shelf name (Usage place) none = absurd none
-refused-none shelf name (NetRefused refusal) none = λ replied. refl
-refused-none shelf name (LogRefused line cause) none = absurd none
-refused-none shelf name (LogRejected line cause) none = absurd none
-refused-none shelf name LogTooLong none = absurd none
-refused-none shelf name UnknownReward none = absurd none
-refused-none shelf name TooManyStates none = absurd none
-refused-none shelf name (NotClosed event) none = absurd none
-refused-none shelf name NoSuchTotal none = absurd none
-refused-none shelf name (NetUnread own) none = λ replied. absurd replied
-refused-none shelf name (LogUnread own) none = absurd none
-refused-none shelf name OutOfMemory none = λ replied. absurd replied
+refused-none shelf name ended none replied = grind arith
 
 module _ (shelf : ShelfSeen) (name : List ℕ) (question : Question) where
   -- a question's files are read where the network is had, and then those after it

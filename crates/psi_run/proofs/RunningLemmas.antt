@@ -33,16 +33,7 @@ ok-not_err (Err b) ok err = absurd cc
 -- ---- what is known of a reply's status
 
 command-replied : (status : Status) (command : Command) → IsOfCommand status command → IsReplied status
-command-replied ending.Done command k = tt
-command-replied ending.NotCoupled command k = tt
-command-replied ending.NetRefused command k = tt
-command-replied ending.LogRefused command k = tt
-command-replied ending.LogTooLong command k = tt
-command-replied ending.UnknownReward command k = tt
-command-replied ending.TooManyStates command k = tt
-command-replied ending.NotClosed command k = tt
-command-replied ending.NoSuchTotal command k = tt
-command-replied s command k = absurd k
+command-replied status command k = grind arith
 
 reply-replied : (command : Result Command ℕ) (reply : Reply) → IsReplyTo command reply → IsReplied reply.status
 reply-replied (Ok command) reply is = command-replied reply.status command is.status
@@ -75,9 +66,7 @@ reply-err (Err place) reply is printed = absurd (subst (λ (r : Reply). IsPrinte
 -- ---- what is known of the statuses and the words
 
 printed-replied : (status : Status) → IsPrinted status → IsReplied status
-printed-replied ending.Done printed = tt
-printed-replied ending.NotCoupled printed = tt
-printed-replied status printed = absurd printed
+printed-replied status printed = grind arith
 
 pub are-statuses : AreStatuses ending.ReadFault ending.WriteFault ending.OutOfMemory ending.Usage IsReplied IsReported IsPrinted
 are-statuses = record {
