@@ -1,5 +1,5 @@
 -- The least coupling of a network, and the first value of a reward.
-use Rattle.std.specs.Prelude.{◌≡◌, ℕ, zero, suc, ◌+◌, Bool, if◌then◌else◌, List, [], ◌∷◌, map, take, Option, Some, None, option_map, slice_get, true, false, refl}
+use Rattle.std.specs.Prelude.{◌≡◌, ℕ, zero, suc, ◌+◌, if◌then◌else◌, List, [], ◌∷◌, take, Option, Some, None, option_map, slice_get, true, false, refl}
 use Rattle.std.specs.Str.{bytes_eq}
 use Rattle.std.proofs.Common.{ℤ, ap, ◌∙◌, arith}
 use Rattle.psi_io.specs.Sink.{appended}
@@ -14,12 +14,12 @@ use Rattle.psi_couple.specs.declared.answers.Coupled.{Coupled}
 use Rattle.psi_couple.specs.declared.answers.Valued.{Valued}
 use Rattle.psi_couple.specs.declared.answers.Coupled.TheVariants as coupled
 use Rattle.psi_couple.specs.declared.answers.Valued.TheVariants as valued
-use Rattle.psi_couple.specs.Coupling.{coupled_within, IsCoupled, ReachesCoupled, DecidesCoupled, CouplesWithin}
-use Rattle.psi_couple.specs.Valuing.{value_at, IsValued, ReachesValued, DecidesValues}
+use Rattle.psi_couple.specs.Coupling.{coupled_within, IsCoupled, ReachesCoupled, CouplesWithin}
+use Rattle.psi_couple.specs.Valuing.{value_at, IsValued, ReachesValued}
 use Rattle.psi_couple.proofs.AgreeingLemmas.{coupled_within-agree, valued_within-agree}
 use Rattle.psi_couple.proofs.CouplingLemmas.{coupled_within-is, coupled-decides}
 use Rattle.psi_couple.proofs.ValuingLemmas.{value-reached, valued_within-is, valued-decides}
-use Rattle.psi_net_model.specs.Network.{Network, NamedReward, caps_of, rates_of}
+use Rattle.psi_net_model.specs.Network.{Network, NamedReward, caps_of}
 use Rattle.psi_net_model.specs.Valid.{IsNetwork}
 use Rattle.psi_reply.specs.Sample.{functions_by_time}
 use Rattle.psi_reply.specs.Networks.{IsSystemOf}
@@ -28,7 +28,7 @@ use Rattle.psi_reply.specs.Couplings.{coupling_text}
 use Rattle.psi_reply.specs.Reward.{kind_named, values, valuation, value_status, IsValueOf, IsRewardOf}
 use Rattle.psi_reply.specs.Values.{value_text}
 use Rattle.psi_reply.specs.Reply.{value_reply}
-use Rattle.psi_reply.proofs.SamplingLemmas.{functions_by_time-closed, functions-alike, of_network}
+use Rattle.psi_reply.proofs.SamplingLemmas.{functions_by_time-closed, of_network}
 
 -- ---- the least coupling
 

@@ -1,25 +1,20 @@
 -- Each reply is one that its command can have.
 use Rattle.std.proofs.Common.{arith}
-use Rattle.std.specs.Prelude.{ℕ, List, length, Option, Ok, refl, Bool, true, false, nat_le, codes, if◌then◌else◌, Some, None, Result, Err}
+use Rattle.std.specs.Prelude.{ℕ, List, Option, if◌then◌else◌, Result}
 use Rattle.psi_state.specs.declared.Outcome.{Outcome}
-use Rattle.psi_net_model.specs.Network.{Network, caps_of}
+use Rattle.psi_net_model.specs.Network.{Network}
 use Rattle.psi_command.specs.Command.{Command, reward, exact, closed, certify, replay}
 use Rattle.psi_reply.specs.Texts.{outcome_text}
 use Rattle.psi_reply.specs.Sample.{outcome_status}
 use Rattle.psi_program.specs.Reply.{text_reply, line_reply}
-use Rattle.psi_reply.specs.Reply.{IsReply, value_reply, survey_reply, outcome_reply, closed_reply, log_reply, certify_reply, verdict_reply, judged_log, refused_reply}
+use Rattle.psi_reply.specs.Reply.{IsReply, value_reply, survey_reply, closed_reply, certify_reply, verdict_reply, judged_log, refused_reply}
 use Rattle.psi_closed_arcs.specs.Walks.{customers}
 use Rattle.psi_exact.specs.declared.answers.Meeting.{Meeting}
-use Rattle.psi_exact.specs.declared.answers.Meeting.TheVariants.{Constant, NotConstant}
 use Rattle.psi_net_document.specs.declared.refusals.NetRefusal.{NetRefusal}
 use Rattle.psi_command.specs.declared.status.Status.TheVariants as status
-use Rattle.psi_state.specs.declared.Outcome.TheVariants.{Met, NotMet}
 use Rattle.psi_log_format.specs.Log.{Certificate}
-use Rattle.psi_log_format.specs.Text.{log_text}
 use Rattle.psi_log_words.specs.Refusal.{Refusal}
 use Rattle.psi_replay.specs.declared.answers.Verdict.{Verdict}
-use Rattle.psi_replay.specs.declared.answers.Verdict.TheVariants.{Accepted, Rejected}
-use Rattle.psi_replay.specs.Verdict.{verdict_of}
 use Rattle.psi_reward.specs.declared.kinds.RewardKind.{RewardKind}
 use Rattle.psi_couple.specs.declared.answers.Coupled.{Coupled}
 use Rattle.psi_couple.specs.declared.answers.Valued.{Valued}
@@ -27,12 +22,9 @@ use Rattle.psi_couple.specs.declared.answers.Coupled.TheVariants as coupled
 use Rattle.psi_couple.specs.declared.answers.Valued.TheVariants as valued
 use Rattle.psi_reply.specs.Couple.{coupling_status}
 use Rattle.psi_reply.specs.Couplings.{coupling_text}
-use Rattle.psi_reply.specs.Reward.{valuation, value_status}
+use Rattle.psi_reply.specs.Reward.{value_status}
 use Rattle.psi_reply.specs.Values.{value_text}
-use Rattle.psi_reply.specs.Exact.{state_count, meeting, meeting_status, exact_text}
-use Rattle.psi_reply.specs.Closed.{closed_sampled}
-use Rattle.psi_reply.specs.Certify.{certificate}
-use Rattle.psi_reply.specs.Replay.{judgement}
+use Rattle.psi_reply.specs.Exact.{meeting_status}
 
 -- a text for out alone is a reply of a command, and so is a line on a network that is refused
 pub outcome_replied : (command : Command) (outcome : Outcome) → IsReply command (text_reply (outcome_status outcome) (outcome_text outcome))

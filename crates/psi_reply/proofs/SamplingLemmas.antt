@@ -1,6 +1,6 @@
 -- The sample of a network.
 use Rattle.std.specs.Prelude.{◌≡◌, ℕ, zero, suc, ◌<◌, List, [], ◌∷◌, length, map, slice_index_or, All, Option, refl}
-use Rattle.std.proofs.Common.{ap, sym, subst, arith}
+use Rattle.std.proofs.Common.{ap, sym, arith}
 use Rattle.std.proofs.lemmas.List.Elements.{All-map}
 use Rattle.psi_state.specs.declared.Outcome.{Outcome}
 use Rattle.psi_past.specs.SeedWord.{seed_word}

@@ -9,7 +9,7 @@ use Rattle.psi_state.proofs.BoxesLemmas.{In-of_all_states}
 use Rattle.psi_state.proofs.AscendingLemmas.{image-agree}
 use Rattle.psi_event.specs.Law.{IsMonotone}
 use Rattle.psi_past.specs.SeedWord.{seed_word}
-use Rattle.psi_rate.specs.Composition.{SystemParts, function_at, system_functions, compose, image_at, AreClosed, AreMonotone}
+use Rattle.psi_rate.specs.Composition.{SystemParts, system_functions, compose, image_at, AreClosed, AreMonotone}
 use Rattle.psi_rate.specs.Least.{least_answer}
 use Rattle.psi_rate.specs.Outcomes.{meeting_at}
 use Rattle.psi_rate.proofs.FunctionsLemmas.{function_at-monotone}
@@ -19,7 +19,6 @@ use Rattle.psi_horizon.specs.Agreeing.{Agree}
 use Rattle.psi_couple.specs.declared.answers.Coupled.{Coupled}
 use Rattle.psi_couple.specs.declared.answers.Coupled.TheVariants as coupled
 use Rattle.psi_couple.specs.Coupling.{IsCoupled}
-use Rattle.psi_couple.proofs.AgreeingLemmas.{coupled_within-agree}
 use Rattle.psi_couple.proofs.CouplingLemmas.{coupled_within-is}
 use Rattle.psi_exact.specs.declared.answers.Meeting.{Meeting}
 use Rattle.psi_exact.specs.declared.answers.Meeting.TheVariants.{Constant, NotConstant}
@@ -39,7 +38,7 @@ use Rattle.psi_reply.specs.Couple.{endings}
 use Rattle.psi_reply.specs.Exact.{meetings, meeting, sizes, state_count, meeting_status, exact_text, HasMetBy, AreAlike, IsSurveyOf, IsSurveyed, region}
 use Rattle.psi_program.specs.Reply.{text_reply, line_reply}
 use Rattle.psi_reply.specs.Reply.{Reply, survey_reply}
-use Rattle.psi_reply.proofs.SamplingLemmas.{functions_by_time-closed, functions-alike, of_network}
+use Rattle.psi_reply.proofs.SamplingLemmas.{functions_by_time-closed, of_network}
 
 -- ---- the survey of a system that is the network's
 

@@ -1,5 +1,5 @@
 -- Answers in the proof of `report::tally_of`.
-use Rattle.std.specs.Prelude.{◌≡◌, ◌+◌, List, [], ◌∷◌, ◌++◌, length, refl}
+use Rattle.std.specs.Prelude.{◌≡◌, ◌+◌, List, [], ◌∷◌, ◌++◌, length}
 use Rattle.std.proofs.Common.{sym, ap, ◌∙◌, subst, arith}
 use Rattle.psi_state.specs.declared.Outcome.{Outcome}
 use Rattle.psi_report.specs.Totals.{StandsFor}
