@@ -31,23 +31,17 @@ fn may_follow(some: bool, last: Item, item: Item) -> bool
 fn may_begin(item: Item) -> bool
     ensures { result ≡ may_begin item }
 {
-    match item {
-        Item::Sum => true,
-        _ => false,
-    }
+    matches!(item, Item::Sum)
 }
 
 // Whether figures may end with an item, where samples are met or not.
 fn may_end(some: bool, item: Item) -> bool
     ensures { result ≡ may_end some item }
 {
-    match (some, item) {
-        (true, Item::Greatest) => true,
-        (true, Item::RewardGreatest) => true,
-        (false, Item::Sum) => true,
-        (false, Item::RewardSum) => true,
-        _ => false,
-    }
+    matches!(
+        (some, item),
+        (true, Item::Greatest | Item::RewardGreatest) | (false, Item::Sum | Item::RewardSum)
+    )
 }
 
 // The most rewards that a network has, or the most queues.

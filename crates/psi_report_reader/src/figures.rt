@@ -1,6 +1,6 @@
 //! The figures of two lists of samples together.
 
-ghost use Rattle.std.specs.Prelude.{◌≡◌, true, false, IfOk, Some, None, MatchOption};
+ghost use Rattle.std.specs.Prelude.{◌≡◌, true, false, IfOk, Some, None, MatchOption, MatchResult};
 ghost use Rattle.psi_report.specs.Joined.{paired};
 ghost use Rattle.psi_report_reader.specs.Sound.{is_sum, same_sum, is_alike};
 ghost use Rattle.psi_report_reader.specs.Merging.{sums_of, difference, joined_value, joined_figure, is_value, large_figure};
@@ -15,11 +15,7 @@ const LIMIT: u128 = 10_000_000_000_000_000_000_000_000_000_000_000_000;
 pub(crate) fn is_sum(item: Item) -> bool
     ensures { result ≡ is_sum item }
 {
-    match item {
-        Item::Sum => true,
-        Item::RewardSum => true,
-        _ => false,
-    }
+    matches!(item, Item::Sum | Item::RewardSum)
 }
 
 /// The sums among figures, one for each queue and each reward.
@@ -39,11 +35,10 @@ pub(crate) fn sums_of(alloc: Global, figures: &[Figure]) -> Result<Vec<Figure>, 
 pub(crate) fn same_sum(item: Item, other: Item) -> bool
     ensures { result ≡ same_sum item other }
 {
-    match (item, other) {
-        (Item::Sum, Item::Sum) => true,
-        (Item::RewardSum, Item::RewardSum) => true,
-        _ => false,
-    }
+    matches!(
+        (item, other),
+        (Item::Sum, Item::Sum) | (Item::RewardSum, Item::RewardSum)
+    )
 }
 
 /// Whether two sums are of the same queue or reward.
@@ -74,12 +69,9 @@ fn joined_value(item: Item, value: i128, other: i128) -> Option<i128>
     ensures { MatchOption result (is_value (joined_value item value other) ≡ false) (λ both. both ≡ joined_value item value other) }
 {
     match item {
-        Item::Sum => value.checked_add(other),
-        Item::RewardSum => value.checked_add(other),
-        Item::Least => Some(value.min(other)),
-        Item::RewardLeast => Some(value.min(other)),
-        Item::Greatest => Some(value.max(other)),
-        Item::RewardGreatest => Some(value.max(other)),
+        Item::Sum | Item::RewardSum => value.checked_add(other),
+        Item::Least | Item::RewardLeast => Some(value.min(other)),
+        Item::Greatest | Item::RewardGreatest => Some(value.max(other)),
     }
 }
 
@@ -105,19 +97,19 @@ fn joined_figure(figure: &Figure, other: &Figure) -> Option<Figure>
     }
 }
 
-/// Joins figures to others, each to the one at its place, up to the first whose value is too large, whose place it
-/// answers.
-pub(crate) fn join_figures(figures: &mut Vec<Figure>, others: &[Figure]) -> Option<usize>
-    ensures { MatchOption result (figures.new.items ≡ paired joined_figure figures.old.items others.now)
-        (λ place. large_figure 0 (paired joined_figure figures.old.items others.now) ≡ Some place) }
+/// The figures joined with others, each with the one at its place; or the first place of one whose value is too large.
+pub(crate) fn join_figures(figures: Vec<Figure>, others: &[Figure]) -> Result<Vec<Figure>, usize>
+    ensures { MatchResult result (λ both. both.items ≡ paired joined_figure figures.items others.now)
+        (λ place. large_figure 0 (paired joined_figure figures.items others.now) ≡ Some place) }
 {
-    for place in 0..figures.len().min(others.len()) {
-        match joined_figure(&figures[place], &others[place]) {
-            Some(both) => figures[place] = both,
-            None => return Some(place),
+    let mut both = figures;
+    for place in 0..both.len().min(others.len()) {
+        match joined_figure(&both[place], &others[place]) {
+            Some(figure) => both[place] = figure,
+            None => return Err(place),
         }
     }
-    None
+    Ok(both)
 }
 
 /// The first place of a figure whose value is too large.

@@ -1,8 +1,7 @@
 //! The report of two lists of samples of one network, from the report of each.
 
 ghost use Rattle.std.specs.Prelude.{◌≡◌, Some, None, IfOk, MatchResult};
-ghost use Rattle.psi_report.specs.Joined.{paired};
-ghost use Rattle.psi_report_reader.specs.Merging.{sums_of, difference, line_of_sum, joined_figure, joined_figures, joined, large_figure, fitting, merged, Merges};
+ghost use Rattle.psi_report_reader.specs.Merging.{sums_of, difference, line_of_sum, joined_figures, joined, large_figure, fitting, merged, Merges};
 
 use crate::counts::{have_64_bits, join_counts};
 use crate::error::MergeError;
@@ -35,18 +34,6 @@ fn line_of_sum(report: &Report, place: usize) -> u64
     first.saturating_add((place as u64).saturating_mul(3))
 }
 
-// The figures of two reports in which samples are met, or the first place of one whose value is too large.
-fn paired(figures: Vec<Figure>, other: &[Figure]) -> Result<Vec<Figure>, usize>
-    ensures { MatchResult result (λ both. both.items ≡ paired joined_figure figures.items other.now)
-        (λ place. large_figure 0 (paired joined_figure figures.items other.now) ≡ Some place) }
-{
-    let mut both = figures;
-    match join_figures(&mut both, other) {
-        Some(place) => Err(place),
-        None => Ok(both),
-    }
-}
-
 // The figures of both reports, those of one alone where no sample of the other is met; or the first place of one whose
 // value is too large.
 fn joined_figures(
@@ -63,7 +50,7 @@ fn joined_figures(
     } else if others == 0 {
         figures
     } else {
-        paired(figures, other.as_slice())?
+        join_figures(figures, other.as_slice())?
     };
     match large_figure(both.as_slice()) {
         Some(place) => Err(place),

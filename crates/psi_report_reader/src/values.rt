@@ -29,10 +29,8 @@ fn is_extreme(item: Item, value: i128) -> bool
     ensures few { result ≡ true → unsigned_abs value ≤ 2097120000000000 }
 {
     match item {
-        Item::Least => is_customers(value),
-        Item::Greatest => is_customers(value),
-        Item::RewardLeast => is_reward_value(value),
-        Item::RewardGreatest => is_reward_value(value),
+        Item::Least | Item::Greatest => is_customers(value),
+        Item::RewardLeast | Item::RewardGreatest => is_reward_value(value),
         _ => false,
     }
 }
@@ -42,8 +40,7 @@ fn is_ordered(item: Item, last: i128, value: i128) -> bool
     ensures { result ≡ is_ordered item last value }
 {
     match item {
-        Item::Greatest => last <= value,
-        Item::RewardGreatest => last <= value,
+        Item::Greatest | Item::RewardGreatest => last <= value,
         _ => true,
     }
 }

@@ -10,11 +10,7 @@ use psi_report::{Figure, Item};
 fn is_greatest(item: Item) -> bool
     ensures { result ≡ is_greatest item }
 {
-    match item {
-        Item::Greatest => true,
-        Item::RewardGreatest => true,
-        _ => false,
-    }
+    matches!(item, Item::Greatest | Item::RewardGreatest)
 }
 
 // Whether values aren't all the same, of which this is the greatest and the least stands before it.
