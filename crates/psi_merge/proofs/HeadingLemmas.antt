@@ -6,10 +6,9 @@ use Rattle.std.proofs.lemmas.List.{append-nil, length-append}
 use Rattle.psi_state.specs.declared.Outcome.{Outcome}
 use Rattle.psi_net_model.specs.Network.{Network}
 use Rattle.psi_report.specs.Report.{report_text, contents_of}
-use Rattle.psi_report_reader.proofs.SampleLemmas.{of-left, of-right}
-use Rattle.psi_report_reader.proofs.SampleLawLemmas.{samples-read, samples-merged}
-use Rattle.psi_report_reader.proofs.SoundLemmas.{report-sound}
-use Rattle.psi_report_reader.proofs.ShortLemmas.{reports-short}
+use Rattle.psi_report_reader.proofs.SampleLemmas.{samples_read, samples_merged, of-left, of-right}
+use Rattle.psi_report_reader.proofs.SoundLemmas.{report_sound}
+use Rattle.psi_report_reader.proofs.ShortLemmas.{reports_short}
 use Rattle.psi_merge.specs.declared.status.Status.{Status}
 use Rattle.psi_merge.specs.declared.status.Status.TheVariants.{OutOfMemory}
 use Rattle.psi_merge.specs.Status.{IsReplied}
@@ -39,8 +38,8 @@ few-right net outcomes others are = record {
 report-found : (net : Network) (outcomes : List Outcome) → AreFewOf net outcomes → report_in (report_text net outcomes) ≡ Ok (contents_of net outcomes)
 unfolding report_in
 report-found net outcomes are =
-    let short = reports-short net outcomes are.samples are.few in
-    rw (le-leb (length (report_text net outcomes)) 1048576 (omega arith), samples-read net outcomes are.samples are.few, report-sound net outcomes are.samples) refl
+    let short = reports_short net outcomes are.samples are.few in
+    rw (le-leb (length (report_text net outcomes)) 1048576 (omega arith), samples_read net outcomes are.samples are.few, report_sound net outcomes are.samples) refl
 
 report-told : (net : Network) (told : List ℕ → Option (List ℕ)) (word : List ℕ) (outcomes : List Outcome) → AreFewOf net outcomes → told word ≡ Some (report_text net outcomes)
     → report_at told word ≡ Some (Ok (contents_of net outcomes))
@@ -57,7 +56,7 @@ files-merged net told (word ∷ words) (outcomes ∷ lists) before are samples =
     let both : AreFewOf net ((before ++ outcomes) ++ all_of lists) = subst (AreFewOf net) joined samples in
     let first = few-left net (before ++ outcomes) (all_of lists) both in
     let own = few-right net before outcomes first in
-    rw (report-told net told word outcomes own are.0, samples-merged net before outcomes first.samples first.few)
+    rw (report-told net told word outcomes own are.0, samples_merged net before outcomes first.samples first.few)
     (files-merged net told words lists (before ++ outcomes) are.1 both ∙ ap (λ os. Some (Ok (contents_of net os))) (sym joined))
 
 whole-merged : (net : Network) (told : List ℕ → Option (List ℕ)) (words : List (List ℕ)) (lists : List (List Outcome)) → are_files words ≡ true → AreReports net told words lists

@@ -3,6 +3,7 @@ use Rattle.std.specs.Prelude.{◌≡◌, ℕ, ◌+◌, List, [], ◌++◌, map, 
 use Rattle.std.specs.List.{list_any}
 use Rattle.std.specs.Str.{bytes_eq}
 use Rattle.std.proofs.Common.{sym, ◌∙◌, subst}
+use Rattle.std.proofs.lemmas.Bool.{not-true}
 use Rattle.std.proofs.lemmas.List.{map_push, length-map}
 use Rattle.std.proofs.lemmas.List.Elements.{All-nil, All-push}
 use Rattle.toml.specs.Data.{Data, Members, get_member}
@@ -27,9 +28,9 @@ use Rattle.psi_net.proofs.NetworkLemmas.{network_kept}
 use Rattle.psi_net.proofs.KeptRewardsLemmas.{reward_kept}
 use Rattle.psi_state.specs.declared.Outcome.{Outcome}
 use Rattle.psi_report_reader.specs.Samples.{AreNames, IsDescribed, AreOf}
-use Rattle.psi_report_reader.proofs.SampleLawLemmas.{samples-read, samples-merged}
-use Rattle.psi_report_reader.proofs.SoundLemmas.{report-sound}
-use Rattle.psi_report_reader.proofs.ShortLemmas.{reports-short}
+use Rattle.psi_report_reader.proofs.SampleLemmas.{samples_read, samples_merged}
+use Rattle.psi_report_reader.proofs.SoundLemmas.{report_sound}
+use Rattle.psi_report_reader.proofs.ShortLemmas.{reports_short}
 use Rattle.psi_report_laws.specs.Described.{NetworksAreDescribed, AreCounted, ReportsAreReadBack, ReportsAreMerged}
 use Rattle.psi_report_laws.proofs.NameLemmas.{names-push}
 
@@ -49,11 +50,7 @@ name-read place key d name h =
 -- a name that isn't taken
 fresh-read : (place : Place) (earlier : List (List ℕ)) (name : List ℕ) (u : Unit {0}) → unless_taken place earlier name ≡ Ok u → list_any (bytes_eq name) earlier ≡ false
 unfolding unless_taken
-fresh-read place earlier name u h = go (list_any (bytes_eq name) earlier) (held _ (not (list_any (bytes_eq name) earlier)) u h)
-  where
-    go : (t : Bool) → not t ≡ true → t ≡ false
-    go true is = absurd cc
-    go false is = refl
+fresh-read place earlier name u h = not-true (list_any (bytes_eq name) earlier) (held _ (not (list_any (bytes_eq name) earlier)) u h)
 
 -- a name, and none before it is the same
 record IsFresh (earlier : List (List ℕ)) (name : List ℕ) : Type 0 where
@@ -203,7 +200,7 @@ samples-of bytes net outcomes is are = record { network = networks-described byt
 pub reports-read : ReportsAreReadBack
 reports-read bytes net outcomes is are =
     let own = samples-of bytes net outcomes is are in
-    record { reading = samples-read net outcomes own are.few; right = report-sound net outcomes own; short = reports-short net outcomes own are.few }
+    record { reading = samples_read net outcomes own are.few; right = report_sound net outcomes own; short = reports_short net outcomes own are.few }
 
 pub reports-merged : ReportsAreMerged
-reports-merged bytes net outcomes others is are = samples-merged net outcomes others (samples-of bytes net (outcomes ++ others) is are) are.few
+reports-merged bytes net outcomes others is are = samples_merged net outcomes others (samples-of bytes net (outcomes ++ others) is are) are.few

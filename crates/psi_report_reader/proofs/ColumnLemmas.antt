@@ -2,7 +2,7 @@
 use Rattle.std.specs.Prelude.{◌≡◌, ℕ, zero, suc, ◌<◌, ◌≤◌, ℤ, pos, List, [], ◌∷◌, length, map, replicate, slice_index, All, refl}
 use Rattle.std.proofs.Common.{ap, sym, ◌∙◌, arith}
 use Rattle.std.proofs.lemmas.List.{length-replicate}
-use Rattle.std.proofs.lemmas.List.Elements.{All-nil, All-cons, All-head, All-tail}
+use Rattle.std.proofs.lemmas.List.Elements.{All-nil, All-cons, All-head, All-tail, All-replicate}
 use Rattle.psi_state.specs.State.{IsBelow}
 
 -- numbers, each in front of the row at its place
@@ -77,11 +77,7 @@ below-fronts cap caps (v ∷ vs) (row ∷ rows) most all =
     (below-front v cap row caps (All-head (λ v. v ≤ cap) v vs most) (All-head (λ row. IsBelow row caps) row rows all))
     (below-fronts cap caps vs rows (All-tail (λ v. v ≤ cap) v vs most) (All-tail (λ row. IsBelow row caps) row rows all))
 
-empty-below : (n : ℕ) → All (λ row. IsBelow row []) (replicate n [])
-empty-below zero = All-nil (λ row. IsBelow row [])
-empty-below (suc n) = All-cons (λ row. IsBelow row []) [] (replicate n []) (record { same_length = refl; each = λ i less. absurd (omega arith) }) (empty-below n)
-
 pub rows-below : (cap n : ℕ) (columns : List (List ℕ)) → All (All (λ v. v ≤ cap)) columns → All (λ row. IsBelow row (replicate (length columns) cap)) (rows_of n columns)
-rows-below cap n [] all = empty-below n
+rows-below cap n [] all = All-replicate (λ row. IsBelow row []) n [] (record { same_length = refl; each = λ i less. absurd (omega arith) })
 rows-below cap n (vs ∷ columns) all =
     below-fronts cap (replicate (length columns) cap) vs (rows_of n columns) (All-head (All (λ v. v ≤ cap)) vs columns all) (rows-below cap n columns (All-tail (All (λ v. v ≤ cap)) vs columns all))

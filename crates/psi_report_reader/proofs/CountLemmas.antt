@@ -1,8 +1,9 @@
 -- Counts of horizons, with one more and with many.
 use Rattle.std.specs.Prelude.{◌≡◌, ℕ, zero, suc, ◌+◌, ◌-◌, ◌<◌, ◌≤◌, List, [], ◌∷◌, ◌++◌, length, take, true, false, refl}
 use Rattle.std.specs.List.{insert}
-use Rattle.std.proofs.Common.{get_or, set, ap, sym, ◌∙◌, inl, inr, arith}
-use Rattle.std.proofs.lemmas.Bool.{and_parts, cases_lt, cases_Bool, eq-eqb, ne_eqb, lt-ltb, le-ltb, le-leb, lt-leb, ltb-true, false_from_ne_true}
+use Rattle.std.proofs.Common.{get_or, set, ap, sym, ◌∙◌, arith}
+use Rattle.std.proofs.lemmas.Bool.{and_right, eq-eqb, ne_eqb, lt-ltb, le-ltb, le-leb, lt-leb, false_from_ne_true}
+use Rattle.std.proofs.lemmas.Bool.Decides.{nat_tests}
 use Rattle.std.proofs.lemmas.List.{take_more}
 use Rattle.psi_report.specs.declared.figure.HorizonCount.{HorizonCount}
 use Rattle.psi_report_reader.specs.Counts.{with_count, place_of, joined_counts}
@@ -18,10 +19,7 @@ place-later : (t : ℕ) (c : HorizonCount) (cs : List HorizonCount) → c.horizo
 place-later t c cs high = rw (lt-leb t c.horizon high) refl
 
 place-above : (t p : ℕ) (c : HorizonCount) (cs : List HorizonCount) → place_of t (c ∷ cs) ≡ suc p → (c.horizon < t) × (place_of t cs ≡ p)
-place-above t p c cs at = elim (cases_lt c.horizon t) [
-  | inl high ↦ (high, (let later = place-later t c cs high in omega arith))
-  | inr low ↦ (let here = place-here t c cs low in absurd (omega arith))
-]
+place-above t p c cs at = grind (arith, nat_tests)
 
 -- ---- one more count
 
@@ -62,25 +60,14 @@ with_count-insert k (c ∷ cs) (suc p) at other =
 pub counts_fit-not : (cs : List HorizonCount) (p : ℕ) (e : HorizonCount) → p < length cs → is_count e.count ≡ false → counts_fit (set cs p e) ≡ false
 counts_fit-not [] p e small large = absurd (omega arith)
 counts_fit-not (c ∷ cs) zero e small large = rw large refl
-counts_fit-not (c ∷ cs) (suc p) e small large = elim (cases_Bool (is_count c.count)) [
-  | inl is ↦ rw (is, counts_fit-not cs p e (omega arith) large) refl
-  | inr is ↦ rw is refl
-]
+counts_fit-not (c ∷ cs) (suc p) e small large = and_right (is_count c.count) (counts_fit (set cs p e)) (counts_fit-not cs p e (omega arith) large)
 
 -- ---- many counts
 
 -- what fits with one more fits
 counts_fit-kept : (k : HorizonCount) (cs : List HorizonCount) → counts_fit (with_count k cs) ≡ true → counts_fit cs ≡ true
 counts_fit-kept k [] fit = refl
-counts_fit-kept k (c ∷ cs) fit = by_order k.horizon c.horizon
-    (λ equal. (
-    let parts = and_parts (is_count (k.count + c.count)) (counts_fit cs) (rw (with_count-same k c cs equal) at fit) in
-    let least = ltb-true (k.count + c.count) 18446744073709551616 parts.0 in
-    rw (lt-ltb c.count 18446744073709551616 (omega arith), parts.1) refl))
-    (λ less. (and_parts (is_count k.count) (counts_fit (c ∷ cs)) (rw (with_count-lower k c cs less) at fit)).1)
-    (λ more. (
-    let parts = and_parts (is_count c.count) (counts_fit (with_count k cs)) (rw (with_count-higher k c cs more) at fit) in
-    rw (parts.0, counts_fit-kept k cs parts.1) refl))
+counts_fit-kept k (c ∷ cs) fit = grind (arith, nat_tests, counts_fit-kept k cs)
 
 fit-joined : (cs ks : List HorizonCount) → counts_fit (joined_counts cs ks) ≡ true → counts_fit ks ≡ true
 fit-joined [] ks fit = fit

@@ -1,10 +1,11 @@
 -- The decimal digits of a number are read as this number.
-use Rattle.std.specs.Prelude.{◌≡◌, ℕ, ◌+◌, ◌-◌, ◌*◌, ◌/◌, ◌%◌, ◌^◌, ◌<◌, ◌≤◌, ℤ, pos, negsuc, List, [], ◌∷◌, ◌++◌, length, All, true, nat_le, nat_lt, Option, Some, None, suc, refl}
+use Rattle.std.specs.Prelude.{◌≡◌, ℕ, ◌+◌, ◌*◌, ◌/◌, ◌%◌, ◌^◌, ◌<◌, ◌≤◌, ℤ, pos, negsuc, List, [], ◌∷◌, ◌++◌, length, All, Option, Some, suc, refl}
 use Rattle.std.specs.Fmt.{decimal, signed_decimal}
 use Rattle.std.specs.Int.RustNames.{unsigned_abs}
 use Rattle.std.specs.Option.{option_and_then}
 use Rattle.std.proofs.Common.{ap, ◌∙◌, arith}
-use Rattle.std.proofs.lemmas.Bool.{le-leb, lt-ltb, ne_eqb}
+use Rattle.std.proofs.lemmas.Bool.{lt-ltb, ne_eqb}
+use Rattle.std.proofs.lemmas.Bool.Decides.{nat_tests}
 use Rattle.std.proofs.lemmas.Fmt.{decimal_by_steps_wide}
 use Rattle.std.proofs.lemmas.List.{length-append}
 use Rattle.std.proofs.lemmas.List.Elements.{All-nil, All-cons, All-head, All-push}
@@ -24,21 +25,14 @@ pub record AreDigitsOf (n : ℕ) (ds : List ℕ) : Type 0 where
 
 digit-value : (value n byte : ℕ) → byte ≡ 48 + n → n < 10 → value < 10 ^ 36 → with_digit value byte ≡ Some (value * 10 + n)
 unfolding with_digit
-digit-value value n byte is few fits =
-    let low : nat_le 48 byte ≡ true = le-leb 48 byte (omega arith) in
-    let high : nat_le byte 57 ≡ true = le-leb byte 57 (omega arith) in
-    let less : nat_lt value (10 ^ 36) ≡ true = lt-ltb value (10 ^ 36) fits in
-    let same : byte - 48 ≡ n = omega arith in
-    rw (low, high, less, same) refl
+digit-value value n byte is few fits = grind (arith, nat_tests)
 
 then-same : (f g h : ℕ → Option ℕ) → ((w : ℕ) → f w ≡ option_and_then h (g w)) → (o : Option ℕ)
     → option_and_then f o ≡ option_and_then h (option_and_then g o)
-then-same f g h same None = refl
-then-same f g h same (Some w) = same w
+then-same f g h same o = grind (arith, same)
 
 then-some : (o : Option ℕ) → option_and_then (λ n. Some n) o ≡ o
-then-some None = refl
-then-some (Some n) = refl
+then-some o = grind arith
 
 -- one more digit at the end
 digits-push : (value : ℕ) (ds : List ℕ) (byte : ℕ) → with_digits value (ds ++ byte ∷ []) ≡ option_and_then (λ w. with_digit w byte) (with_digits value ds)
@@ -83,7 +77,6 @@ digits-integer : (n : ℕ) (word : List ℕ) → AreDigitsOf n word → n < 10 ^
 digits-integer n [] are fits = (let some = are.some in absurd (omega arith))
 digits-integer n (d ∷ ds) are fits =
     let digit : IsDigit d = All-head IsDigit d ds are.digits in
-    let low : 48 ≤ d = digit.least in
     rw (ne_eqb d 45 (λ e. absurd (omega arith)), are.value fits) refl
 
 pub integer-signed : (z : ℤ) → unsigned_abs z < 10 ^ 37 → integer_of (signed_decimal z) ≡ Some z

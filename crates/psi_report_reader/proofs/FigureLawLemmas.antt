@@ -2,7 +2,7 @@
 use Rattle.std.specs.Prelude.{◌≡◌, ℕ, suc, ◌≤◌, ℤ, pos, List, [], ◌∷◌, ◌++◌, map, length, Bool, true, false, ◌==◌, cond, nat_lt, int_le, None, All, refl}
 use Rattle.std.specs.List.{flat_map}
 use Rattle.std.specs.Str.{bytes_eq}
-use Rattle.std.proofs.Common.{ap, sym, ◌∙◌, subst, append_assoc, inl, inr, arith}
+use Rattle.std.proofs.Common.{ap, sym, ◌∙◌, subst, append_assoc, inl, inr, arith, rules}
 use Rattle.std.proofs.lemmas.Bool.{lt-ltb, ne_eqb}
 use Rattle.std.proofs.lemmas.List.{append-nil, length-map, length-append}
 use Rattle.std.proofs.lemmas.Slice.Eq.{bytes_eq-Decides}
@@ -12,7 +12,7 @@ use Rattle.psi_state.proofs.MembersLemmas.{In-append_right}
 use Rattle.psi_reward.specs.Ranges.{least, greatest}
 use Rattle.psi_report.specs.Quantities.{Quantity, sum_of}
 use Rattle.psi_report.specs.declared.figure.Item.{Item}
-use Rattle.psi_report.specs.declared.figure.Item.TheVariants.{Sum, Least, Greatest, RewardSum, RewardLeast, RewardGreatest}
+use Rattle.psi_report.specs.declared.figure.Item.TheVariants.{Sum, RewardSum}
 use Rattle.psi_report.specs.declared.figure.Figure.{Figure}
 use Rattle.psi_report.specs.Report.{Trio, queue_trio, reward_trio, figure, extremes, quantity_figures}
 use Rattle.psi_report_reader.specs.Sound.{may_follow, is_sum, may_end, same_sum, most_of, is_new, is_customers, is_reward_value, is_extreme, is_ordered, extreme_follows, agrees, may_stand, flaw_behind, figures_flaw}
@@ -52,8 +52,6 @@ record IsTrio (trio : Trio) (p : ℤ → Bool) : Type 0 where
   least : is_sum trio.least ≡ false
   greatest : is_sum trio.greatest ≡ false
   own : same_sum trio.sum trio.sum ≡ true
-  not_least : (i : Item) → same_sum trio.least i ≡ false
-  not_greatest : (i : Item) → same_sum trio.greatest i ≡ false
   first : may_follow true trio.sum trio.least ≡ true
   second : may_follow true trio.least trio.greatest ≡ true
   low : (z : ℤ) → is_extreme trio.least z ≡ p z
@@ -65,36 +63,10 @@ no-sum : (i j : Item) → is_sum i ≡ false → same_sum i j ≡ false
 no-sum i j isnt = grind arith
 
 queues-are : IsTrio queue_trio is_customers
-queues-are = record {
-  sum = refl;
-  least = refl;
-  greatest = refl;
-  own = refl;
-  not_least = λ i. no-sum Least i refl;
-  not_greatest = λ i. no-sum Greatest i refl;
-  first = refl;
-  second = refl;
-  low = λ z. refl;
-  high = λ z. refl;
-  free = λ y z. refl;
-  order = λ y z. refl;
-}
+queues-are = search rules
 
 rewards-are : IsTrio reward_trio is_reward_value
-rewards-are = record {
-  sum = refl;
-  least = refl;
-  greatest = refl;
-  own = refl;
-  not_least = λ i. no-sum RewardLeast i refl;
-  not_greatest = λ i. no-sum RewardGreatest i refl;
-  first = refl;
-  second = refl;
-  low = λ z. refl;
-  high = λ z. refl;
-  free = λ y z. refl;
-  order = λ y z. refl;
-}
+rewards-are = search rules
 
 some-met : (n : ℕ) → nat_lt 0 (suc n) ≡ true
 some-met n = lt-ltb 0 (suc n) (omega arith)
@@ -115,8 +87,8 @@ module _ (trio : Trio) (p : ℤ → Bool) (is : IsTrio trio p) where
   trio-names : (i : Item) (b : Bool) → same_sum trio.sum i ≡ b → (states : List (List ℕ)) (q : Quantity) → names i (quantity_figures trio states q) ≡ cond b (q.name ∷ []) []
   trio-names i true own [] q = rw own refl
   trio-names i false other [] q = rw other refl
-  trio-names i true own (x ∷ xs) q = rw (own, is.not_least i, is.not_greatest i) refl
-  trio-names i false other (x ∷ xs) q = rw (other, is.not_least i, is.not_greatest i) refl
+  trio-names i true own (x ∷ xs) q = rw (own, no-sum trio.least i is.least, no-sum trio.greatest i is.greatest) refl
+  trio-names i false other (x ∷ xs) q = rw (other, no-sum trio.least i is.least, no-sum trio.greatest i is.greatest) refl
 
   room-behind : (states : List (List ℕ)) (before : List Figure) (q : Quantity) (qs : List Quantity) → HasRoom trio.sum before (q ∷ qs) → HasRoom trio.sum (before ++ quantity_figures trio states q) qs
   room-behind states before q qs room =
@@ -225,14 +197,9 @@ shown-sound states (q ∷ qs) rs some queues rewards =
     let ends = last-has reward_trio is_reward_value rewards-are (λ i. may_end (nat_lt 0 n) i ≡ true) states f rs queue_ends (last-ends states reward_trio refl refl) in
     let others = map (λ (r : Quantity). r.name) rs in
     let alone : names RewardSum first ++ others ≡ others = ap (λ (ns : List (List ℕ)). ns ++ others) (no-rewards states (q ∷ qs)) in
-    let long : length (names RewardSum first ++ others) ≡ length others = ap length alone in
-    let few = queues.few in
-    let few_rewards = rewards.few in
-    let count = length-map (q ∷ qs) (λ (r : Quantity). r.name) in
-    let reward_count = length-map rs (λ (r : Quantity). r.name) in
     first-behind n q.name (sum_of (map q.value states)) ((extremes queue_trio q.name (map q.value states) ++ flat_map (quantity_figures queue_trio states) qs) ++ second) e again
-    ∙ quantities-behind queue_trio is_customers queues-are states (q ∷ qs) [] e second again again (record { differ = queues.differ; few = omega arith }) queues.passing
+    ∙ quantities-behind queue_trio is_customers queues-are states (q ∷ qs) [] e second again again (record { differ = queues.differ; few = simp length-map (omega arith) }) queues.passing
     ∙ ap (flaw_behind n first f) (sym (append-nil second))
     ∙ quantities-behind reward_trio is_reward_value rewards-are states rs first f [] next (next-follows states reward_trio reward_trio refl refl)
-    (record { differ = subst (IsDistinct {A = List ℕ}) (sym alone) rewards.differ; few = omega arith }) rewards.passing
+    (record { differ = subst (IsDistinct {A = List ℕ}) (sym alone) rewards.differ; few = rw (alone, length-map) (omega arith) }) rewards.passing
     ∙ rw ends refl

@@ -1,9 +1,8 @@
 -- Figures of queues of which none is wrong are those of so many states.
-use Rattle.std.specs.Prelude.{◌≡◌, ℕ, zero, suc, ◌<◌, ◌≤◌, ℤ, pos, ◌≤ℤ◌, List, [], ◌∷◌, ◌++◌, map, length, true, ◌&&◌, int_le, unsigned_abs, None, All, refl}
+use Rattle.std.specs.Prelude.{◌≡◌, ℕ, zero, suc, ◌<◌, ◌≤◌, ℤ, pos, ◌≤ℤ◌, List, [], ◌∷◌, ◌++◌, map, length, true, unsigned_abs, None, All, refl}
 use Rattle.std.specs.List.{flat_map}
-use Rattle.std.specs.Str.{bytes_eq}
 use Rattle.std.proofs.Common.{ap, sym, ◌∙◌, subst, arith}
-use Rattle.std.proofs.lemmas.Bool.{and_parts, eqb-true}
+use Rattle.std.proofs.lemmas.Bool.{eqb-true}
 use Rattle.std.proofs.lemmas.Int.{ints}
 use Rattle.std.proofs.lemmas.List.{length-map}
 use Rattle.std.proofs.lemmas.List.Elements.{All-nil, All-cons, All-head, All-tail, All-filter}
@@ -13,13 +12,13 @@ use Rattle.psi_report.specs.Quantities.{sum_of}
 use Rattle.psi_report.specs.declared.figure.Item.{Item}
 use Rattle.psi_report.specs.declared.figure.Item.TheVariants.{Sum, Least, Greatest}
 use Rattle.psi_report.specs.declared.figure.Figure.{Figure}
-use Rattle.psi_report.specs.Report.{queue_trio, figure, extremes, figures_of}
+use Rattle.psi_report.specs.Report.{queue_trio, extremes, figures_of}
 use Rattle.psi_report_reader.specs.Reached.{is_of_queue, AreOfQueues}
-use Rattle.psi_report_reader.specs.Sound.{is_sum, may_follow, is_customers, AreSummed, figures_flaw}
+use Rattle.psi_report_reader.specs.Sound.{is_sum, may_follow, AreSummed, figures_flaw}
 use Rattle.psi_report_reader.proofs.BetweenLemmas.{between}
+use Rattle.psi_report_reader.proofs.FieldLemmas.{figure-record}
 use Rattle.psi_report_reader.proofs.GroupLemmas.{Group, group_figures, IsGroup, figures-grouped}
 use Rattle.psi_report_reader.proofs.ReachLemmas.{sums_reached}
-use Rattle.psi_report_reader.proofs.SampleLemmas.{ordered-back}
 use Rattle.psi_report_reader.proofs.SumNamesLemmas.{names}
 
 -- a queue's name, and how many customers it holds in each state
@@ -56,21 +55,16 @@ least-from i follows = grind arith
 greatest-from : (i : Item) → may_follow true Least i ≡ true → i ≡ Greatest
 greatest-from i follows = grind arith
 
-same-figure : (f : Figure) (item : Item) (name : List ℕ) (value : ℤ) → f.item ≡ item → f.name ≡ name → f.value ≡ value → figure item name value ≡ f
-same-figure f item name value one two three = rw (← one, ← two, ← three) refl
-
 -- values with this least, this greatest and this sum
 three-figures : (n : ℕ) (s l g : Figure) (zs : List ℤ) → 0 < n → s.item ≡ Sum → l.item ≡ Least → g.item ≡ Greatest → l.name ≡ s.name → g.name ≡ s.name
     → pos 0 ≤ℤ l.value → g.value ≤ℤ pos 65535 → AreSummed n l.value g.value s.value zs → IsHeld n s.name (s ∷ l ∷ g ∷ [])
 three-figures n s l g [] some one two three low_name high_name low high summed = (let count = summed.count in absurd (omega arith))
 three-figures n s l g (z ∷ zs) some one two three low_name high_name low high summed =
     let held = between 65535 z zs (rw summed.low_is low) (rw summed.high_is high) in
-    let count : length (map pos held.numbers) ≡ length held.numbers = length-map held.numbers pos in
-    let whole : length (map pos held.numbers) ≡ length (z ∷ zs) = ap length held.same in
-    let all = summed.count in
-    let first = same-figure s Sum s.name (sum_of (z ∷ zs)) one refl (sym summed.sum_is) in
-    let second = same-figure l Least s.name (least (z ∷ zs)) two low_name (sym summed.low_is) in
-    let third = same-figure g Greatest s.name (greatest (z ∷ zs)) three high_name (sym summed.high_is) in
+    let whole = simp length-map at (ap length held.same) in
+    let first = figure-record Sum s.item s.name s.name (sum_of (z ∷ zs)) s.value (sym one) refl summed.sum_is in
+    let second = figure-record Least l.item s.name l.name (least (z ∷ zs)) l.value (sym two) (sym low_name) summed.low_is in
+    let third = figure-record Greatest g.item s.name g.name (greatest (z ∷ zs)) g.value (sym three) (sym high_name) summed.high_is in
     record { numbers = held.numbers; same = rw (held.same, first, second, third) refl; long = omega arith; few = held.few }
 
 group-held : (n : ℕ) (g : Group) → is_of_queue g.sum.item ≡ true → IsGroup n g → IsHeld n g.sum.name (group_figures n g)
@@ -79,7 +73,7 @@ group-held zero g queue is =
     let none : unsigned_abs g.sum.value ≡ 0 = eqb-true (unsigned_abs g.sum.value) 0 is.1 in
     record {
       numbers = [];
-      same = ap (λ f. f ∷ []) (same-figure g.sum Sum g.sum.name (pos 0) (queue-sum g.sum.item queue is.0) refl (omega (arith, ints)));
+      same = ap (λ f. f ∷ []) (figure-record Sum g.sum.item g.sum.name g.sum.name (pos 0) g.sum.value (sym (queue-sum g.sum.item queue is.0)) refl (omega (arith, ints)));
       long = refl;
       few = All-nil (λ v. v ≤ 65535);
     }
@@ -88,18 +82,12 @@ group-held (suc m) g queue is =
     let one = queue-sum g.sum.item queue is.0 in
     let two = least-from g.low.item (rw one at has.first) in
     let three = greatest-from g.high.item (rw two at has.second) in
-    let f : (bytes_eq g.sum.name g.low.name && (is_customers g.low.value && true)) ≡ true = rw two at has.low_follows in
-    let h : (bytes_eq g.low.name g.high.name && (is_customers g.high.value && int_le g.low.value g.high.value)) ≡ true = rw three at has.high_follows in
-    let fs = and_parts (bytes_eq g.sum.name g.low.name) (is_customers g.low.value && true) f in
-    let hs = and_parts (bytes_eq g.low.name g.high.name) (is_customers g.high.value && int_le g.low.value g.high.value) h in
-    let gs = and_parts (is_customers g.high.value) (int_le g.low.value g.high.value) hs.1 in
-    let low = and_parts (int_le (pos 0) g.low.value) (int_le g.low.value (pos 65535)) (and_parts (is_customers g.low.value) true fs.1).0 in
-    let high = and_parts (int_le (pos 0) g.high.value) (int_le g.high.value (pos 65535)) gs.0 in
-    let same : g.sum.name ≡ g.low.name = (bytes_eq-Decides g.sum.name g.low.name).0 fs.0 in
-    let next : g.low.name ≡ g.high.name = (bytes_eq-Decides g.low.name g.high.name).0 hs.0 in
-    let reached = sums_reached (suc m) g.low.value g.high.value g.sum.value (omega arith) (ordered-back g.low.value g.high.value gs.1) has.allowed in
-    three-figures (suc m) g.sum g.low g.high reached.0 (omega arith) one two three (sym same) (sym next ∙ sym same)
-    (ordered-back (pos 0) g.low.value low.0) (ordered-back g.high.value (pos 65535) high.1) reached.1
+    let low = rw two at has.low_follows in
+    let high = rw three at has.high_follows in
+    let same : g.sum.name ≡ g.low.name = (bytes_eq-Decides g.sum.name g.low.name).0 (grind arith) in
+    let next : g.low.name ≡ g.high.name = (bytes_eq-Decides g.low.name g.high.name).0 (grind arith) in
+    let reached = sums_reached (suc m) g.low.value g.high.value g.sum.value (omega arith) (grind (arith, ints)) has.allowed in
+    three-figures (suc m) g.sum g.low g.high reached.0 (omega arith) one two three (sym same) (sym next ∙ sym same) (grind (arith, ints)) (grind (arith, ints)) reached.1
 
 -- ---- all figures
 

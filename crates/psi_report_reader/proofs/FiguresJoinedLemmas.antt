@@ -1,5 +1,5 @@
 -- The figures of two lists of samples, one after another, from those of each.
-use Rattle.std.specs.Prelude.{◌≡◌, ℕ, suc, ◌+◌, ℤ, List, [], ◌∷◌, ◌++◌, map, length, true, None, refl}
+use Rattle.std.specs.Prelude.{◌≡◌, ℕ, suc, ◌+◌, ℤ, List, [], ◌∷◌, ◌++◌, map, length, true, false, None, refl}
 use Rattle.std.specs.List.{flat_map}
 use Rattle.std.proofs.Common.{ap, sym, ◌∙◌, arith}
 use Rattle.std.proofs.lemmas.Bool.{ne_eqb}
@@ -34,18 +34,16 @@ length-trios : (trio : Trio) (x y : List ℕ) (xs ys : List (List ℕ)) (qs : Li
 length-trios trio x y xs ys [] = refl
 length-trios trio x y xs ys (q ∷ qs) = ap (λ n. suc (suc (suc n))) (length-trios trio x y xs ys qs)
 
-queue-joined : (name : List ℕ) (y : ℤ) (ys : List ℤ) (z : ℤ) (zs : List ℤ)
-    → paired joined_figure (figures_of queue_trio name (y ∷ ys)) (figures_of queue_trio name (z ∷ zs)) ≡ figures_of queue_trio name ((y ∷ ys) ++ (z ∷ zs))
-queue-joined name y ys z zs = cc (sum_of-append (y ∷ ys) (z ∷ zs), least-append y ys z zs, greatest-append y ys z zs)
-
-reward-joined : (name : List ℕ) (y : ℤ) (ys : List ℤ) (z : ℤ) (zs : List ℤ)
-    → paired joined_figure (figures_of reward_trio name (y ∷ ys)) (figures_of reward_trio name (z ∷ zs)) ≡ figures_of reward_trio name ((y ∷ ys) ++ (z ∷ zs))
-reward-joined name y ys z zs = cc (sum_of-append (y ∷ ys) (z ∷ zs), least-append y ys z zs, greatest-append y ys z zs)
-
 -- a trio whose figures are joined so
 abbrev IsJoined : Trio → Type 0
 IsJoined trio = (name : List ℕ) (y : ℤ) (ys : List ℤ) (z : ℤ) (zs : List ℤ)
     → paired joined_figure (figures_of trio name (y ∷ ys)) (figures_of trio name (z ∷ zs)) ≡ figures_of trio name ((y ∷ ys) ++ (z ∷ zs))
+
+queue-joined : IsJoined queue_trio
+queue-joined name y ys z zs = cc (sum_of-append (y ∷ ys) (z ∷ zs), least-append y ys z zs, greatest-append y ys z zs)
+
+reward-joined : IsJoined reward_trio
+reward-joined name y ys z zs = cc (sum_of-append (y ∷ ys) (z ∷ zs), least-append y ys z zs, greatest-append y ys z zs)
 
 trios-joined : (trio : Trio) → IsJoined trio → (x y : List ℕ) (xs ys : List (List ℕ)) (qs : List Quantity)
     → paired joined_figure (flat_map (quantity_figures trio (x ∷ xs)) qs) (flat_map (quantity_figures trio (y ∷ ys)) qs)
@@ -77,22 +75,18 @@ figures-joined net (x ∷ xs) (y ∷ ys) =
 abbrev sum_figure : Item → List (List ℕ) → Quantity → Figure
 sum_figure item states q = figure item q.name (sum_of (map q.value states))
 
-queue-sums : (states : List (List ℕ)) (qs : List Quantity) → sums_of (flat_map (quantity_figures queue_trio states) qs) ≡ map (sum_figure Sum states) qs
-queue-sums states [] = refl
-queue-sums [] (q ∷ qs) = ap (λ fs. sum_figure Sum [] q ∷ fs) (queue-sums [] qs)
-queue-sums (x ∷ xs) (q ∷ qs) = ap (λ fs. sum_figure Sum (x ∷ xs) q ∷ fs) (queue-sums (x ∷ xs) qs)
-
-reward-sums : (states : List (List ℕ)) (qs : List Quantity) → sums_of (flat_map (quantity_figures reward_trio states) qs) ≡ map (sum_figure RewardSum states) qs
-reward-sums states [] = refl
-reward-sums [] (q ∷ qs) = ap (λ fs. sum_figure RewardSum [] q ∷ fs) (reward-sums [] qs)
-reward-sums (x ∷ xs) (q ∷ qs) = ap (λ fs. sum_figure RewardSum (x ∷ xs) q ∷ fs) (reward-sums (x ∷ xs) qs)
+trio-sums : (trio : Trio) → is_sum trio.sum ≡ true → is_sum trio.least ≡ false → is_sum trio.greatest ≡ false → (states : List (List ℕ)) (qs : List Quantity)
+    → sums_of (flat_map (quantity_figures trio states) qs) ≡ map (sum_figure trio.sum states) qs
+trio-sums trio one two three states [] = refl
+trio-sums trio one two three [] (q ∷ qs) = rw one (ap (λ fs. sum_figure trio.sum [] q ∷ fs) (trio-sums trio one two three [] qs))
+trio-sums trio one two three (x ∷ xs) (q ∷ qs) = rw (one, two, three) (ap (λ fs. sum_figure trio.sum (x ∷ xs) q ∷ fs) (trio-sums trio one two three (x ∷ xs) qs))
 
 all-sums : (net : Network) (states : List (List ℕ))
     → sums_of (all_figures net states) ≡ map (sum_figure Sum states) (queue_quantities net) ++ map (sum_figure RewardSum states) (reward_quantities net)
 all-sums net states =
     filter-append (λ f. is_sum f.item) (flat_map (quantity_figures queue_trio states) (queue_quantities net)) (flat_map (quantity_figures reward_trio states) (reward_quantities net))
-    ∙ ap (λ (fs : List Figure). fs ++ sums_of (flat_map (quantity_figures reward_trio states) (reward_quantities net))) (queue-sums states (queue_quantities net))
-    ∙ ap (λ (fs : List Figure). map (sum_figure Sum states) (queue_quantities net) ++ fs) (reward-sums states (reward_quantities net))
+    ∙ ap (λ (fs : List Figure). fs ++ sums_of (flat_map (quantity_figures reward_trio states) (reward_quantities net))) (trio-sums queue_trio refl refl refl states (queue_quantities net))
+    ∙ ap (λ (fs : List Figure). map (sum_figure Sum states) (queue_quantities net) ++ fs) (trio-sums reward_trio refl refl refl states (reward_quantities net))
 
 difference-alike : (k : ℕ) (item : Item) → same_sum item item ≡ true → (xs ys : List (List ℕ)) (qs : List Quantity) (fs gs : List Figure) → ((n : ℕ) → difference n fs gs ≡ None)
     → difference k (map (sum_figure item xs) qs ++ fs) (map (sum_figure item ys) qs ++ gs) ≡ None

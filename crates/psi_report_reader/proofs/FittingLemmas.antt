@@ -1,7 +1,7 @@
 -- What is merged is a report, and what can be told of two reports together is merged.
-use Rattle.std.specs.Prelude.{◌≡◌, ℕ, ◌+◌, ◌^◌, ◌<◌, List, [], ◌∷◌, slice_index_or, All, Bool, true, false, ◌&&◌, ◌==◌, nat_lt, unsigned_abs, Option, Some, None, Ok, if◌then◌else◌, refl}
-use Rattle.std.proofs.Common.{◌∙◌, subst}
-use Rattle.std.proofs.lemmas.Bool.{and_parts, ltb-true}
+use Rattle.std.specs.Prelude.{◌≡◌, ℕ, ◌+◌, ◌^◌, ◌<◌, List, [], ◌∷◌, slice_index_or, All, true, ◌==◌, nat_lt, unsigned_abs, Option, Some, None, Ok, refl}
+use Rattle.std.proofs.Common.{◌∙◌, subst, arith}
+use Rattle.std.proofs.lemmas.Bool.{cond_both, ltb-true}
 use Rattle.std.proofs.lemmas.List.Elements.{All-nil, All-cons, All-head, All-tail, All-weaker}
 use Rattle.std.proofs.lemmas.List.Sums.{AllPass-from_list_all}
 use Rattle.psi_net_model.specs.Name.{is_name}
@@ -11,7 +11,6 @@ use Rattle.psi_report.specs.declared.figure.Figure.{Figure}
 use Rattle.psi_report.specs.Contents.{Contents}
 use Rattle.psi_report_reader.specs.Counts.{with_count, joined_counts}
 use Rattle.psi_report_reader.specs.Reading.{IsReport}
-use Rattle.psi_report_reader.specs.Sound.{figures_line}
 use Rattle.psi_report_reader.specs.Merging.{sums_of, difference, is_count, is_value, counts_fit, large_figure, too_large, joined_figure, joined_figures, joined, fitting_unless, merged_unless, merged}
 use Rattle.psi_report_reader.specs.Lines.{MergedIsReport, FittingAreMerged}
 use Rattle.psi_report_reader.proofs.FieldLemmas.{FitsCount, FitsFigure}
@@ -26,13 +25,11 @@ IsStep h = h.horizon < 2 ^ 64
 
 with-step : (k : HorizonCount) (cs : List HorizonCount) → IsStep k → All IsStep cs → All IsStep (with_count k cs)
 with-step k [] own all = All-cons IsStep k [] own all
-with-step k (c ∷ cs) own all = go (k.horizon == c.horizon) (nat_lt k.horizon c.horizon) (with-step k cs own (All-tail IsStep c cs all))
-  where
-    go : (s t : Bool) → All IsStep (with_count k cs)
-        → All IsStep (if s then record { horizon = c.horizon; count = k.count + c.count } ∷ cs else if t then k ∷ c ∷ cs else c ∷ with_count k cs)
-    go true t more = All-cons IsStep (record { horizon = c.horizon; count = k.count + c.count }) cs (All-head IsStep c cs all) (All-tail IsStep c cs all)
-    go false true more = All-cons IsStep k (c ∷ cs) own all
-    go false false more = All-cons IsStep c (with_count k cs) (All-head IsStep c cs all) more
+with-step k (c ∷ cs) own all =
+    cond_both (k.horizon == c.horizon) (record { horizon = c.horizon; count = k.count + c.count } ∷ cs) _ (All IsStep)
+    (λ same. All-cons IsStep (record { horizon = c.horizon; count = k.count + c.count }) cs (All-head IsStep c cs all) (All-tail IsStep c cs all))
+    (λ apart. cond_both (nat_lt k.horizon c.horizon) (k ∷ c ∷ cs) (c ∷ with_count k cs) (All IsStep) (λ less. All-cons IsStep k (c ∷ cs) own all)
+    (λ more. All-cons IsStep c (with_count k cs) (All-head IsStep c cs all) (with-step k cs own (All-tail IsStep c cs all))))
 
 joined-steps : (cs ks : List HorizonCount) → All IsStep cs → All IsStep ks → All IsStep (joined_counts cs ks)
 joined-steps [] ks all others = others
@@ -53,12 +50,8 @@ paired-named (f ∷ fs) [] all = all
 paired-named (f ∷ fs) (g ∷ gs) all = All-cons IsNamed (joined_figure f g) (paired joined_figure fs gs) (All-head IsNamed f fs all) (paired-named fs gs (All-tail IsNamed f fs all))
 
 joined-named : (m n : ℕ) (fs gs : List Figure) → All IsNamed fs → All IsNamed gs → All IsNamed (joined_figures m n fs gs)
-joined-named m n fs gs all others = go (m == 0) (n == 0)
-  where
-    go : (s t : Bool) → All IsNamed (if s then gs else if t then fs else paired joined_figure fs gs)
-    go true t = others
-    go false true = all
-    go false false = paired-named fs gs all
+joined-named m n fs gs all others =
+    cond_both (m == 0) gs _ (All IsNamed) (λ none. others) (λ some. cond_both (n == 0) fs (paired joined_figure fs gs) (All IsNamed) (λ none. all) (λ more. paired-named fs gs all))
 
 figures-told : (k : ℕ) (fs : List Figure) → All IsNamed fs → large_figure k fs ≡ None → All FitsFigure fs
 figures-told k [] all none = All-nil FitsFigure
@@ -77,11 +70,7 @@ record IsSmall (c : Contents) : Type 0 where
 
 small : (b c : Contents) → too_large b c ≡ None → IsSmall c
 unfolding too_large
-small b c none =
-    let first = passed (is_count c.samples) (if is_count c.met && counts_fit c.horizons then figures_line b (large_figure 0 c.figures) else Some 3) 2 none in
-    let second = passed (is_count c.met && counts_fit c.horizons) (figures_line b (large_figure 0 c.figures)) 3 first.1 in
-    let numbers = and_parts (is_count c.met) (counts_fit c.horizons) second.0 in
-    record { samples = first.0; met = numbers.0; counts = numbers.1; figures = no-line b (large_figure 0 c.figures) second.1 }
+small b c none = record { samples = grind arith; met = grind arith; counts = grind arith; figures = no-line b (large_figure 0 c.figures) (grind arith) }
 
 steps-of : (c : Contents) → IsReport c → All IsStep c.horizons
 steps-of c is = All-weaker FitsCount IsStep (λ h fits. fits.0) c.horizons is.horizons

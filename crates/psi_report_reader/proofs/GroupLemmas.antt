@@ -1,47 +1,35 @@
 -- Figures of which none is wrong, parted into those of each queue and of each reward: a sum, and where samples are met its extremes.
-use Rattle.std.specs.Prelude.{◌≡◌, ℕ, zero, suc, ◌*◌, List, [], ◌∷◌, ◌++◌, map, length, Bool, true, false, ◌&&◌, ◌==◌, nat_lt, cond, unsigned_abs, None, All, if◌then◌else◌, refl}
+use Rattle.std.specs.Prelude.{◌≡◌, ℕ, zero, suc, ◌*◌, List, [], ◌∷◌, ◌++◌, map, length, true, false, ◌==◌, nat_lt, cond, unsigned_abs, None, All, if◌then◌else◌, refl}
 use Rattle.std.specs.List.{flat_map, slice_get}
-use Rattle.std.proofs.Common.{ap, sym, ◌∙◌, arith}
+use Rattle.std.proofs.Common.{ap, ◌∙◌, arith}
 use Rattle.std.proofs.lemmas.Bool.{and_parts, lt-ltb, ne_eqb}
 use Rattle.std.proofs.lemmas.List.Elements.{All-nil, All-cons}
 use Rattle.psi_report.specs.declared.figure.Item.{Item}
-use Rattle.psi_report.specs.declared.figure.Item.TheVariants.{Least, RewardLeast}
 use Rattle.psi_report.specs.declared.figure.Figure.{Figure}
-use Rattle.psi_report_reader.specs.Sound.{is_sum, is_greatest, may_follow, may_begin, may_end, is_new, extreme_follows, allows, agrees, sum_stands, may_stand, flaw_behind, figures_flaw}
+use Rattle.psi_report_reader.specs.Sound.{is_sum, may_follow, may_begin, may_end, is_new, extreme_follows, allows, agrees, sum_stands, may_stand, flaw_behind, figures_flaw}
 use Rattle.psi_report_reader.specs.Merging.{sums_of}
 use Rattle.psi_report_reader.proofs.RightLemmas.{passed}
 
 -- ---- items
 
--- the least of a queue's or a reward's values
-abbrev is_least : Item → Bool
-is_least Least = true
-is_least RewardLeast = true
-is_least _ = false
+-- what follows a sum where samples are met: two figures that are none, and a sum after them
+record Follows (i j k : Item) : Type 0 where
+  low : is_sum j ≡ false
+  high : is_sum k ≡ false
+  next : (l : Item) → may_follow true k l ≡ true → is_sum l ≡ true
 
-after-sum : (i j : Item) → is_sum i ≡ true → may_follow true i j ≡ true → is_least j ≡ true
-after-sum i j is next = grind arith
-
-after-least : (i j : Item) → is_least i ≡ true → may_follow true i j ≡ true → is_greatest j ≡ true
-after-least i j is next = grind arith
-
-after-greatest : (i j : Item) → is_greatest i ≡ true → may_follow true i j ≡ true → is_sum j ≡ true
-after-greatest i j is next = grind arith
+follow-sum : (i j k : Item) → is_sum i ≡ true → may_follow true i j ≡ true → may_follow true j k ≡ true → Follows i j k
+follow-sum i j k is one two = record { low = grind arith; high = grind arith; next = λ l three. grind arith }
 
 after-only : (i j : Item) → may_follow false i j ≡ true → is_sum j ≡ true
 after-only i j next = grind arith
 
-least-none : (i : Item) → is_least i ≡ true → is_sum i ≡ false
-least-none i is = grind arith
-
-greatest-none : (i : Item) → is_greatest i ≡ true → is_sum i ≡ false
-greatest-none i is = grind arith
-
+-- figures end neither with a sum nor with what follows one
 sum-open : (i : Item) → is_sum i ≡ true → may_end true i ≡ true → ⊥
 sum-open i is ends = grind arith
 
-least-open : (i : Item) → is_least i ≡ true → may_end true i ≡ true → ⊥
-least-open i is ends = grind arith
+least-open : (i j : Item) → is_sum i ≡ true → may_follow true i j ≡ true → may_end true j ≡ true → ⊥
+least-open i j is next ends = grind arith
 
 pub begin-sum : (i : Item) → may_begin i ≡ true → is_sum i ≡ true
 begin-sum i is = grind arith
@@ -72,11 +60,7 @@ pub record StandsFirst (n : ℕ) (f : Figure) (fs : List Figure) : Type 0 where
   pub rest : flaw_behind n (f ∷ []) f fs ≡ None
 
 pub first-stands : (n : ℕ) (f : Figure) (fs : List Figure) → figures_flaw n (f ∷ fs) ≡ None → StandsFirst n f fs
-first-stands n f fs right =
-    let both = passed (may_begin f.item && sum_stands n [] f fs) (flaw_behind n (f ∷ []) f fs) 0 right in
-    let parts = and_parts (may_begin f.item) (sum_stands n [] f fs) both.0 in
-    let sum = and_parts (is_new [] f) (agrees n f fs) parts.1 in
-    record { begins = parts.0; new = sum.0; agree = sum.1; rest = both.1 }
+first-stands n f fs right = record { begins = grind arith; new = grind arith; agree = grind arith; rest = grind arith }
 
 -- ---- groups
 
@@ -140,8 +124,7 @@ module _ (m : ℕ) where
 
   -- a sum with its extremes, and what comes after them
   record HasTrio (f l h : Figure) (rest : List Figure) : Type 0 where
-    low : is_sum l.item ≡ false
-    greatest : is_greatest h.item ≡ true
+    items : Follows f.item l.item h.item
     range : HasRange (suc m) (record { sum = f; low = l; high = h })
     before : List Figure
     right : flaw_behind (suc m) before h rest ≡ None
@@ -153,15 +136,12 @@ module _ (m : ℕ) where
       let second = one-stands (suc m) (before ++ l ∷ []) l h rest first.rest in
       let one = follows before f l (h ∷ rest) first in
       let two = follows (before ++ l ∷ []) l h rest second in
-      let least = after-sum f.item l.item sum one in
-      let greatest = after-least l.item h.item least two in
-      let low = least-none l.item least in
-      let low_follows : extreme_follows f l ≡ true = rw low at first.own in
-      let high_follows : extreme_follows l h ≡ true = rw (greatest-none h.item greatest) at second.own in
+      let items = follow-sum f.item l.item h.item sum one two in
+      let low_follows : extreme_follows f l ≡ true = rw items.low at first.own in
+      let high_follows : extreme_follows l h ≡ true = rw items.high at second.own in
       let count : (suc m == 0) ≡ false = ne_eqb (suc m) 0 (λ e. absurd (omega arith)) in
       record {
-        low = low;
-        greatest = greatest;
+        items = items;
         range = record { first = one; second = two; low_follows = low_follows; high_follows = high_follows; allowed = rw (count, one, two, low_follows, high_follows) at agree };
         before = (before ++ l ∷ []) ++ h ∷ [];
         right = second.rest;
@@ -171,7 +151,7 @@ module _ (m : ℕ) where
   with-trio f l h rest sum has are = record {
     groups = record { sum = f; low = l; high = h } ∷ are.groups;
     same = ap (λ (gs : List Figure). f ∷ l ∷ h ∷ gs) are.same;
-    sums = rw (sum, has.low, greatest-none h.item has.greatest) (ap (λ (gs : List Figure). f ∷ gs) are.sums);
+    sums = rw (sum, has.items.low, has.items.high) (ap (λ (gs : List Figure). f ∷ gs) are.sums);
     each = All-cons (IsGroup (suc m)) (record { sum = f; low = l; high = h }) are.groups (sum, has.range) are.each;
   }
 
@@ -179,12 +159,12 @@ module _ (m : ℕ) where
   trios before f [] sum agree right = absurd (sum-open f.item sum (ends before f right))
   trios before f (l ∷ []) sum agree right =
       let first = one-stands (suc m) before f l [] right in
-      absurd (least-open l.item (after-sum f.item l.item sum (follows before f l [] first)) (ends (before ++ l ∷ []) l first.rest))
+      absurd (least-open f.item l.item sum (follows before f l [] first) (ends (before ++ l ∷ []) l first.rest))
   trios before f (l ∷ h ∷ []) sum agree right = with-trio f l h [] sum (has-trio before f l h [] sum agree right) (no-groups (suc m))
   trios before f (l ∷ h ∷ g ∷ rest) sum agree right =
       let trio = has-trio before f l h (g ∷ rest) sum agree right in
       let stands = one-stands (suc m) trio.before h g rest trio.right in
-      let next = after-greatest h.item g.item trio.greatest (follows trio.before h g rest stands) in
+      let next = trio.items.next g.item (follows trio.before h g rest stands) in
       with-trio f l h (g ∷ rest) sum trio (trios (trio.before ++ g ∷ []) g rest next (sum-parts (suc m) trio.before h g rest stands next).1 stands.rest)
 
 pub figures-grouped : (n : ℕ) (fs : List Figure) → figures_flaw n fs ≡ None → AreGroups n fs
@@ -209,11 +189,7 @@ each-third m (g ∷ groups) zero = refl
 each-third m (g ∷ groups) (suc k) = (let count : 3 * suc k ≡ suc (suc (suc (3 * k))) = omega arith in rw count (each-third m groups k))
 
 pub sum-place : (n : ℕ) (fs : List Figure) → figures_flaw n fs ≡ None → (k : ℕ) → slice_get (sums_of fs) k ≡ slice_get fs (rows_before n k)
-sum-place n fs right k = go n (figures-grouped n fs right)
-  where
-    go : (n : ℕ) → AreGroups n fs → slice_get (sums_of fs) k ≡ slice_get fs (rows_before n k)
-    go zero are = rw (← are.sums) (each-alone are.groups k) ∙ ap (λ (gs : List Figure). slice_get gs k) are.same
-    go (suc m) are =
-        let count : (suc m == 0) ≡ false = ne_eqb (suc m) 0 (λ e. absurd (omega arith)) in
-        ap (λ (gs : List Figure). slice_get gs k) (sym are.sums) ∙ each-third m are.groups k ∙ ap (λ (gs : List Figure). slice_get gs (3 * k)) are.same
-        ∙ rw count refl
+sum-place zero fs right k = (let are = figures-grouped zero fs right in rw (← are.sums) (each-alone are.groups k) ∙ ap (λ (gs : List Figure). slice_get gs k) are.same)
+sum-place (suc m) fs right k =
+    let are = figures-grouped (suc m) fs right in
+    rw (ne_eqb (suc m) 0 (λ e. absurd (omega arith)), ← are.sums) (each-third m are.groups k ∙ ap (λ (gs : List Figure). slice_get gs (3 * k)) are.same)

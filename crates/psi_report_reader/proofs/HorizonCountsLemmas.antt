@@ -1,7 +1,8 @@
 -- Counts of horizons in ascending order, which how many samples have each horizon determines: so those of two lists of samples are known from those of each.
 use Rattle.std.specs.Prelude.{◌≡◌, ℕ, zero, suc, ◌+◌, ◌<◌, ◌≤◌, List, [], ◌∷◌, ◌++◌, map, filter, ◌==◌, nat_lt, cond, refl}
 use Rattle.std.proofs.Common.{ap, sym, ◌∙◌, inl, inr, arith}
-use Rattle.std.proofs.lemmas.Bool.{cases_Bool, cases_eq, eq-eqb, ne_eqb, ltb-true, ltb-false}
+use Rattle.std.proofs.lemmas.Bool.{eq-eqb}
+use Rattle.std.proofs.lemmas.Bool.Decides.{nat_tests}
 use Rattle.std.proofs.lemmas.List.Sums.{sum_by-cons, sum_by-append}
 use Rattle.psi_state.specs.Members.{In}
 use Rattle.psi_state.specs.State.{numbers_from}
@@ -11,7 +12,7 @@ use Rattle.psi_report.specs.Report.{times, horizon_count}
 use Rattle.psi_report.proofs.HorizonLemmas.{AreAbove, Ascends, counted, distinct-filter}
 use Rattle.psi_report.specs.declared.figure.HorizonCount.{HorizonCount}
 use Rattle.psi_report_reader.specs.Counts.{with_count, joined_counts}
-use Rattle.psi_report_reader.proofs.CountLemmas.{with_count-same, with_count-lower, with_count-higher}
+use Rattle.psi_report_reader.proofs.FieldLemmas.{count-record}
 use Rattle.psi_report_reader.proofs.OrderLemmas.{by_order}
 
 -- ---- counts in ascending order
@@ -32,9 +33,7 @@ rising-lower low high (c ∷ cs) less rise = (let next = rise.0 in omega arith, 
 
 having-none : (t low : ℕ) (cs : List HorizonCount) → Rising low cs → t < low → having t cs ≡ 0
 having-none t low [] rise less = refl
-having-none t low (c ∷ cs) rise less =
-    let next = rise.0 in
-    rw (ne_eqb c.horizon t (λ e. omega arith)) (let rest = having-none t (suc c.horizon) cs rise.1.1 (omega arith) in omega arith)
+having-none t low (c ∷ cs) rise less = grind (arith, having-none t (suc c.horizon) cs)
 
 having-here : (c : HorizonCount) (cs : List HorizonCount) (low : ℕ) → Rising low (c ∷ cs) → having c.horizon (c ∷ cs) ≡ c.count
 having-here c cs low rise = rw (eq-eqb c.horizon c.horizon refl) (let rest = having-none c.horizon (suc c.horizon) cs rise.1.1 (omega arith) in omega arith)
@@ -47,8 +46,6 @@ rising-same low (c ∷ cs) [] rise other same = (let here = having-here c cs low
 rising-same low (c ∷ cs) (d ∷ ds) rise other same =
     let own = having-here c cs low rise in
     let next = having-here d ds low other in
-    let some = rise.1.0 in
-    let any = other.1.0 in
     by_order c.horizon d.horizon
     (λ equal. (
     let count : c.count ≡ d.count = (let both = same c.horizon in let there : having c.horizon (d ∷ ds) ≡ d.count = ap (λ (t : ℕ). having t (d ∷ ds)) equal ∙ next in omega arith) in
@@ -59,26 +56,17 @@ rising-same low (c ∷ cs) (d ∷ ds) rise other same =
     (λ more. (let both = same d.horizon in let none = having-none d.horizon c.horizon (c ∷ cs) (omega arith, rise.1) more in absurd (omega arith)))
   where
     joined : (c d : HorizonCount) (cs ds : List HorizonCount) → c.horizon ≡ d.horizon → c.count ≡ d.count → cs ≡ ds → c ∷ cs ≡ d ∷ ds
-    joined c d cs ds one two rest = ap (λ (xs : List HorizonCount). c ∷ xs) rest ∙ ap (λ (h : HorizonCount). h ∷ ds) (same-count c.horizon d.horizon c.count d.count one two)
-      where
-        same-count : (s t m n : ℕ) → s ≡ t → m ≡ n → ◌≡◌ {A = HorizonCount} (record { horizon = s; count = m }) (record { horizon = t; count = n })
-        same-count s t m n one two = rw (one, two) refl
+    joined c d cs ds one two rest = ap (λ (xs : List HorizonCount). c ∷ xs) rest ∙ ap (λ (h : HorizonCount). h ∷ ds) (count-record c.horizon d.horizon c.count d.count one two)
 
 -- ---- one count more, and many
 
 pub rising-with : (low : ℕ) (k : HorizonCount) (cs : List HorizonCount) → low ≤ k.horizon → 0 < k.count → Rising low cs → Rising low (with_count k cs)
 rising-with low k [] first some rise = (first, (some, tt))
-rising-with low k (c ∷ cs) first some rise = by_order k.horizon c.horizon
-    (λ same. rw (with_count-same k c cs same) (rise.0, ((let any = rise.1.0 in omega arith), rise.1.1)))
-    (λ less. rw (with_count-lower k c cs less) (first, (some, (less, rise.1))))
-    (λ more. rw (with_count-higher k c cs more) (rise.0, (rise.1.0, rising-with (suc c.horizon) k cs more some rise.1.1)))
+rising-with low k (c ∷ cs) first some rise = grind (arith, nat_tests, rising-with (suc c.horizon) k cs)
 
 having-with : (t : ℕ) (k : HorizonCount) (cs : List HorizonCount) → having t (with_count k cs) ≡ cond {A = ℕ} (k.horizon == t) k.count 0 + having t cs
 having-with t k [] = refl
-having-with t k (c ∷ cs) = by_order k.horizon c.horizon
-    (λ same. rw (with_count-same k c cs same, same) (elim (cases_Bool (c.horizon == t)) [ inl is ↦ rw is (omega arith) | inr isnt ↦ rw isnt (omega arith) ]))
-    (λ less. rw (with_count-lower k c cs less) refl)
-    (λ more. rw (with_count-higher k c cs more) (let rest = having-with t k cs in omega arith))
+having-with t k (c ∷ cs) = grind (arith, nat_tests, having-with t k cs)
 
 rising-joined : (low : ℕ) (cs ks : List HorizonCount) → Rising low cs → Rising low ks → Rising low (joined_counts cs ks)
 rising-joined low [] ks rise other = other
@@ -100,22 +88,11 @@ some_of f k n = map (counted f) (filter (λ t. nat_lt 0 (f t)) (numbers_from k n
 
 rising-some : (f : ℕ → ℕ) (k n : ℕ) → Rising k (some_of f k n)
 rising-some f k zero = tt
-rising-some f k (suc n) = elim (cases_Bool (nat_lt 0 (f k))) [
-  | inl is ↦ rw is (omega arith, (ltb-true 0 (f k) is, rising-some f (suc k) n))
-  | inr none ↦ rw none (rising-lower k (suc k) (some_of f (suc k) n) (omega arith) (rising-some f (suc k) n))
-]
+rising-some f k (suc n) = grind (arith, nat_tests, rising-lower k (suc k) (some_of f (suc k) n), rising-some f (suc k) n)
 
 having-some : (f : ℕ → ℕ) (t k n : ℕ) → k ≤ t → t < k + n → having t (some_of f k n) ≡ f t
 having-some f t k zero low high = absurd (omega arith)
-having-some f t k (suc n) low high = elim (cases_eq k t) [
-  | inl here ↦ (let rest = having-none t (suc k) (some_of f (suc k) n) (rising-some f (suc k) n) (omega arith) in
-      elim (cases_Bool (nat_lt 0 (f k))) [
-        | inl is ↦ rw (is, eq-eqb k t here) (let own : f k ≡ f t = ap f here in omega arith)
-        | inr none ↦ rw none (let few = ltb-false 0 (f k) none in let own : f k ≡ f t = ap f here in omega arith)
-      ])
-  | inr later ↦ (let rest = having-some f t (suc k) n (omega arith) (omega arith) in
-      elim (cases_Bool (nat_lt 0 (f k))) [ inl is ↦ rw (is, ne_eqb k t later) (omega arith) | inr none ↦ rw none rest ])
-]
+having-some f t k (suc n) low high = grind (arith, nat_tests, having-none t (suc k) (some_of f (suc k) n) (rising-some f (suc k) n), having-some f t (suc k) n)
 
 numbers-above : (x k n : ℕ) → x < k → AreAbove x (numbers_from k n)
 numbers-above x k zero less = tt

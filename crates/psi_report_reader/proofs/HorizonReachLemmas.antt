@@ -1,8 +1,8 @@
 -- Horizons of which none is wrong are those of samples.
-use Rattle.std.specs.Prelude.{◌≡◌, ℕ, zero, suc, ◌+◌, ◌-◌, ◌<◌, ◌≤◌, List, [], ◌∷◌, ◌++◌, length, replicate, All, true, ◌&&◌, ◌==◌, nat_le, nat_lt, cond, Option, Some, None, refl}
-use Rattle.std.specs.Int.{is_power_of_two}
-use Rattle.std.proofs.Common.{sym, inl, inr, arith}
-use Rattle.std.proofs.lemmas.Bool.{and_parts, cases_Bool, eqb-true, ltb-true, leb-true}
+use Rattle.std.specs.Prelude.{◌≡◌, ℕ, zero, suc, ◌+◌, ◌-◌, ◌<◌, ◌≤◌, List, [], ◌∷◌, ◌++◌, length, replicate, All, true, ◌==◌, cond, Option, Some, None, refl}
+use Rattle.std.proofs.Common.{sym, arith}
+use Rattle.std.proofs.lemmas.Bool.{eqb-true, ltb-true}
+use Rattle.std.proofs.lemmas.Bool.Decides.{nat_tests}
 use Rattle.std.proofs.lemmas.List.{length-append, length-replicate}
 use Rattle.std.proofs.lemmas.List.Sums.{sum_by-cons}
 use Rattle.std.proofs.lemmas.List.Elements.{All-nil, All-append, All-replicate}
@@ -16,22 +16,13 @@ use Rattle.psi_report_reader.proofs.RightLemmas.{passed}
 
 horizon-power : (t : ℕ) → is_horizon t ≡ true → IsHorizon t
 horizon-power t is =
-    let parts = and_parts (is_power_of_two t) (nat_le t 4194304) is in
-    let most : t ≤ 4194304 = leb-true t 4194304 parts.1 in
-    let power = power-below 23 t (omega arith) (eqb-true _ 1 parts.0) in
-    let few = power.few in
+    let power = power-below 23 t (grind (arith, nat_tests)) (grind (arith, nat_tests)) in
     record { exponent = power.exponent; few = omega arith; power = power.power }
 
 -- so many samples more of one horizon
 times-replicate : (t n h : ℕ) (hs : List ℕ) → times t (replicate n h ++ hs) ≡ cond {A = ℕ} (h == t) n 0 + times t hs
-times-replicate t zero h hs = elim (cases_Bool (h == t)) [ inl is ↦ rw is (omega arith) | inr isnt ↦ rw isnt (omega arith) ]
-times-replicate t (suc n) h hs =
-    let one = sum_by-cons (λ m. cond {A = ℕ} (m == t) 1 0) h (replicate n h ++ hs) in
-    let rest = times-replicate t n h hs in
-    elim (cases_Bool (h == t)) [
-      | inl is ↦ (let first : cond {A = ℕ} (h == t) 1 0 ≡ 1 = rw is refl in let more : times t (replicate n h ++ hs) ≡ n + times t hs = rw is at rest in rw is (omega arith))
-      | inr isnt ↦ (let first : cond {A = ℕ} (h == t) 1 0 ≡ 0 = rw isnt refl in let more : times t (replicate n h ++ hs) ≡ 0 + times t hs = rw isnt at rest in rw isnt (omega arith))
-    ]
+times-replicate t zero h hs = grind arith
+times-replicate t (suc n) h hs = grind (arith, times-replicate t n h hs, sum_by-cons (λ m. cond {A = ℕ} (m == t) 1 0) h (replicate n h ++ hs))
 
 -- so many horizons of samples, of which each count has its number
 record AreSpread (n : ℕ) (cs : List HorizonCount) : Type 0 where
@@ -40,34 +31,20 @@ record AreSpread (n : ℕ) (cs : List HorizonCount) : Type 0 where
   each : All IsHorizon horizons
   same : (t : ℕ) → having t cs ≡ times t horizons
 
--- what isn't wrong of a count
-record IsNext (last : Option ℕ) (left : ℕ) (c : HorizonCount) : Type 0 where
-  power : is_horizon c.horizon ≡ true
-  above : is_above last c.horizon ≡ true
-  some : 0 < c.count
-  few : c.count ≤ left
-
-next-parts : (last : Option ℕ) (left : ℕ) (c : HorizonCount) → is_next last left c ≡ true → IsNext last left c
-next-parts last left c is =
-    let next = and_parts (is_horizon c.horizon && is_above last c.horizon) (nat_lt 0 c.count && nat_le c.count left) is in
-    let first = and_parts (is_horizon c.horizon) (is_above last c.horizon) next.0 in
-    let counts = and_parts (nat_lt 0 c.count) (nat_le c.count left) next.1 in
-    record { power = first.0; above = first.1; some = ltb-true 0 c.count counts.0; few = leb-true c.count left counts.1 }
+next-parts : (last : Option ℕ) (left : ℕ) (c : HorizonCount) → is_next last left c ≡ true
+    → ((is_horizon c.horizon ≡ true) × (is_above last c.horizon ≡ true)) × ((0 < c.count) × (c.count ≤ left))
+next-parts last left c is = ((grind arith, grind arith), (grind (arith, nat_tests), grind (arith, nat_tests)))
 
 horizons-spread : (k : ℕ) (last : Option ℕ) (left : ℕ) (cs : List HorizonCount) → horizons_flaw k last left cs ≡ None → AreSpread left cs
 horizons-spread k last left [] is = record { horizons = []; count = sym (eqb-true left 0 (passed (left == 0) None k is).0); each = All-nil IsHorizon; same = λ t. refl }
 horizons-spread k last left (c ∷ cs) is =
     let both = passed (is_next last left c) (horizons_flaw (k + 1) (Some c.horizon) (left - c.count) cs) k is in
     let next = next-parts last left c both.0 in
-    let few = next.few in
     let are = horizons-spread (k + 1) (Some c.horizon) (left - c.count) cs both.1 in
-    let long = length-append (replicate c.count c.horizon) are.horizons in
-    let first = length-replicate c.count c.horizon in
-    let rest = are.count in
     record {
       horizons = replicate c.count c.horizon ++ are.horizons;
-      count = omega arith;
-      each = All-append IsHorizon (replicate c.count c.horizon) are.horizons (All-replicate IsHorizon c.count c.horizon (horizon-power c.horizon next.power)) are.each;
+      count = simp (length-append, length-replicate) (omega arith);
+      each = All-append IsHorizon (replicate c.count c.horizon) are.horizons (All-replicate IsHorizon c.count c.horizon (horizon-power c.horizon next.0.0)) are.each;
       same = λ t. (let more = are.same t in let whole = times-replicate t c.count c.horizon are.horizons in omega arith);
     }
 
@@ -76,7 +53,7 @@ rising-right k left low last [] above is = tt
 rising-right k left low last (c ∷ cs) above is =
     let both = passed (is_next last left c) (horizons_flaw (k + 1) (Some c.horizon) (left - c.count) cs) k is in
     let next = next-parts last left c both.0 in
-    (above c.horizon next.above, (next.some, rising-right (k + 1) (left - c.count) (suc c.horizon) (Some c.horizon) cs (λ t less. ltb-true c.horizon t less) both.1))
+    (above c.horizon next.0.1, (next.1.0, rising-right (k + 1) (left - c.count) (suc c.horizon) (Some c.horizon) cs (λ t less. ltb-true c.horizon t less) both.1))
 
 -- so many horizons of samples, which are counted so
 pub record AreCounted (n : ℕ) (cs : List HorizonCount) : Type 0 where

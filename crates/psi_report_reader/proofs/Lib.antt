@@ -17,7 +17,7 @@ pub mod MergeLawLemmas
 mod JudgeLemmas
 mod RightLemmas
 mod GroupLemmas
-mod SumNamesLemmas
+pub mod SumNamesLemmas
 mod WalkLemmas
 mod AllowLemmas
 mod WorthLemmas
@@ -30,7 +30,6 @@ mod ColumnLemmas
 mod BetweenLemmas
 mod HorizonReachLemmas
 mod FigureReachLemmas
-pub mod SampleLawLemmas
 pub mod SoundLemmas
 pub mod ReachedLemmas
 mod FieldLemmas

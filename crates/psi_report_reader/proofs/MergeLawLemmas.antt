@@ -44,5 +44,5 @@ merged-fit net outcomes others fit =
     ∙ ap (fitting (contents_of net others)) (contents-joined net outcomes others)
     ∙ accepted (contents_of net others) (contents_of net (outcomes ++ others)) (report-fits (contents_of net others) (contents_of net (outcomes ++ others)) fit)
 
-pub reports-merged : ReportsAreMerged
-reports-merged net outcomes others are = merged-fit net outcomes others (contents-fit net (outcomes ++ others) are)
+pub reports_merged : ReportsAreMerged
+reports_merged net outcomes others are = merged-fit net outcomes others (contents-fit net (outcomes ++ others) are)

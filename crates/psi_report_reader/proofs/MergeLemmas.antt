@@ -1,7 +1,7 @@
 -- Reports that are merged, part by part.
-use Rattle.std.specs.Prelude.{◌≡◌, ℕ, ◌+◌, ◌^◌, ◌<◌, ◌≤◌, List, [], ◌∷◌, length, slice_index_or, All, ◌&&◌, Bool, true, false, Some, None, Result, Ok, Err, refl}
+use Rattle.std.specs.Prelude.{◌≡◌, ℕ, ◌+◌, ◌^◌, ◌<◌, ◌≤◌, List, [], ◌∷◌, length, slice_index_or, All, true, false, Some, None, Result, Ok, Err, refl}
 use Rattle.std.proofs.Common.{ap, arith}
-use Rattle.std.proofs.lemmas.Bool.{lt-ltb, le-ltb}
+use Rattle.std.proofs.lemmas.Bool.{lt-ltb, le-ltb, and_left, and_right}
 use Rattle.std.proofs.lemmas.List.Elements.{All-head, All-tail}
 use Rattle.std.proofs.lemmas.List.Sums.{list_all-from_AllPass}
 use Rattle.std.specs.Int.RustNames.{unsigned_abs}
@@ -15,13 +15,6 @@ use Rattle.psi_report_reader.specs.Counts.{joined_counts}
 use Rattle.psi_report_reader.specs.Sound.{line_at}
 use Rattle.psi_report_reader.specs.Merging.{sums_of, difference, line_of_sum, is_count, counts_fit, large_figure, too_large, joined_figures, joined, fitting, merged, Merges}
 use Rattle.psi_report_reader.proofs.FieldLemmas.{FitsCount, FitsFigure}
-
-and-left : (p q : Bool) → p ≡ false → (p && q) ≡ false
-and-left p q is = rw is refl
-
-and-right : (p q : Bool) → q ≡ false → (p && q) ≡ false
-and-right true q is = is
-and-right false q is = refl
 
 refused : (b c : Contents) (line : ℕ) → too_large b c ≡ Some line → fitting b c ≡ Err (TooLarge line)
 refused b c line is = rw is refl
@@ -39,12 +32,12 @@ module _ (a b : Contents) where
     pub met-large : 18446744073709551616 ≤ a.met + b.met → fitting b (joined a b) ≡ Err (TooLarge 3)
     unfolding joined too_large
     met-large large = refused b (joined a b) 3
-        (rw (lt-ltb (a.samples + b.samples) 18446744073709551616 few, and-left (is_count (a.met + b.met)) (counts_fit (joined_counts a.horizons b.horizons)) (le-ltb (a.met + b.met) 18446744073709551616 large)) refl)
+        (rw (lt-ltb (a.samples + b.samples) 18446744073709551616 few, and_left (is_count (a.met + b.met)) (counts_fit (joined_counts a.horizons b.horizons)) (le-ltb (a.met + b.met) 18446744073709551616 large)) refl)
 
     pub counts-large : counts_fit (joined_counts a.horizons b.horizons) ≡ false → fitting b (joined a b) ≡ Err (TooLarge 3)
     unfolding joined too_large
     counts-large large = refused b (joined a b) 3
-        (rw (lt-ltb (a.samples + b.samples) 18446744073709551616 few, and-right (is_count (a.met + b.met)) (counts_fit (joined_counts a.horizons b.horizons)) large) refl)
+        (rw (lt-ltb (a.samples + b.samples) 18446744073709551616 few, and_right (is_count (a.met + b.met)) (counts_fit (joined_counts a.horizons b.horizons)) large) refl)
 
     module _ (some : a.met + b.met < 18446744073709551616) (counts_are : counts_fit (joined_counts a.horizons b.horizons) ≡ true) where
       pub figures-large : (k first line : ℕ) → large_figure 0 (joined_figures a.met b.met a.figures b.figures) ≡ Some k

@@ -19,7 +19,7 @@ use Rattle.psi_report_reader.specs.Sound.{is_sum, same_sum, is_alike, line_at, f
 use Rattle.psi_report_reader.specs.Merging.{sums_of, difference, line_of_sum, too_large, fitting_unless, merged_unless, joined, merged}
 use Rattle.psi_report_reader.specs.Lines.{IsNumbered, shown, TellsNetwork, NetworksAreTold, OtherLinesAreNone}
 use Rattle.psi_report_reader.proofs.SampleLemmas.{samples-fit}
-use Rattle.psi_report_reader.proofs.SoundLemmas.{report-sound}
+use Rattle.psi_report_reader.proofs.SoundLemmas.{report_sound}
 use Rattle.psi_report_reader.proofs.FiguresJoinedLemmas.{difference-none}
 use Rattle.psi_report_reader.proofs.FieldLemmas.{rows-alike, lines-few}
 use Rattle.psi_report_reader.proofs.GroupLemmas.{rows_before, sum-place}
@@ -135,6 +135,6 @@ other_lines a b line numbered right is net outcomes others are own few same alik
         let place : line_of_sum b k ≡ line = cc in
         let other = samples-fit net others own few in
         let rows = rows-alike line b (contents_of net others) numbered.report other alike in
-        sum-wrong a b (contents_of net others) numbered right other (report-sound net others own)
+        sum-wrong a b (contents_of net others) numbered right other (report_sound net others own)
         (subst (λ (c : Contents). difference 0 (sums_of c.figures) (sums_of (contents_of net others).figures) ≡ None) same (contents-alike net outcomes others)) k at
         (λ least. rw place (tell-alike line b (contents_of net others) numbered.report other (rw place at least) rows))

@@ -1,10 +1,11 @@
 -- The fields of a report need no quotes: their lines are the fields with commas between them.
-use Rattle.std.specs.Prelude.{◌≡◌, ℕ, ◌^◌, ◌<◌, ◌≤◌, ℤ, pos, negsuc, List, [], ◌∷◌, ◌++◌, slice_index_or, All, true, false, ◌==◌, suc, refl}
+use Rattle.std.specs.Prelude.{◌≡◌, ℕ, ◌^◌, ◌<◌, ℤ, pos, negsuc, List, [], ◌∷◌, ◌++◌, slice_index_or, All, true, false, ◌==◌, suc, refl}
 use Rattle.std.specs.Fmt.{decimal, signed_decimal}
 use Rattle.std.specs.Int.RustNames.{unsigned_abs}
 use Rattle.std.specs.List.{list_any, list_all, slice_split}
 use Rattle.std.proofs.Common.{ap, ◌∙◌, append_assoc, arith}
 use Rattle.std.proofs.lemmas.Bool.{ne_eqb}
+use Rattle.std.proofs.lemmas.Bool.Decides.{nat_tests}
 use Rattle.std.proofs.lemmas.List.{append-nil}
 use Rattle.std.proofs.lemmas.List.Elements.{All-cons, All-head, All-tail, All-append, All-weaker}
 use Rattle.std.proofs.lemmas.List.Sums.{AllPass-from_list_all}
@@ -38,14 +39,7 @@ pub name-bytes-plain : (word : List ℕ) → list_all is_name_byte word ≡ true
 name-bytes-plain word are k d less = name-byte-plain (slice_index_or word k d) (AllPass-from_list_all is_name_byte word are k d less)
 
 digit-plain : (byte : ℕ) → IsDigit byte → IsPlain byte
-digit-plain byte is =
-    let low : 48 ≤ byte = is.least in
-    record {
-      comma = ne_eqb byte 44 (λ e. absurd (omega arith));
-      quote = ne_eqb byte 34 (λ e. absurd (omega arith));
-      return = ne_eqb byte 13 (λ e. absurd (omega arith));
-      feed = ne_eqb byte 10 (λ e. absurd (omega arith));
-    }
+digit-plain byte is = name-byte-plain byte (grind (arith, nat_tests))
 
 pub decimal-plain : (n : ℕ) → n < 10 ^ 64 → All IsPlain (decimal n)
 decimal-plain n fits = All-weaker IsDigit IsPlain digit-plain (decimal n) (decimal-digits n fits).digits

@@ -35,8 +35,6 @@ power-below (suc k) t small once =
     (λ even. (
     let none : ones (t % 2) ≡ 0 = ap ones even ∙ no-bit in
     let half = power-below k (t / 2) (omega arith) (omega arith) in
-    let own : t / 2 ≡ 2 ^ half.exponent = half.power in
-    let few = half.few in
     let next : 2 ^ suc half.exponent ≡ 2 ^ half.exponent * 2 = pow-suc 2 half.exponent in
     record { exponent = suc half.exponent; few = omega arith; power = omega arith }))
     (λ less. absurd (omega arith))

@@ -1,14 +1,12 @@
 -- Values with a least, a greatest and a sum that these allow.
-use Rattle.std.specs.Prelude.{◌≡◌, ℕ, zero, suc, ◌-◌, ℤ, pos, ◌+ℤ◌, ◌-ℤ◌, ◌*ℤ◌, ◌≤ℤ◌, List, [], ◌∷◌, length, All, int_le, refl}
+use Rattle.std.specs.Prelude.{◌≡◌, ℕ, zero, suc, ℤ, pos, ◌+ℤ◌, ◌-ℤ◌, ◌*ℤ◌, ◌≤ℤ◌, List, [], ◌∷◌, length, All, refl}
 use Rattle.std.proofs.Common.{ap, ◌∙◌, arith}
-use Rattle.std.proofs.lemmas.Bool.{and_parts}
 use Rattle.std.proofs.lemmas.Int.{ints, clamps, by_lt_z}
 use Rattle.std.proofs.lemmas.List.Elements.{All-nil, All-cons}
 use Rattle.psi_reward.specs.Ranges.{least, greatest}
 use Rattle.psi_report.specs.Quantities.{sum_of}
-use Rattle.psi_report_reader.specs.Sound.{all_but_one, AreSummed, SumsAreReached}
-use Rattle.psi_report_reader.proofs.AllowLemmas.{times-more, times-none, times-rises}
-use Rattle.psi_report_reader.proofs.SampleLemmas.{ordered-back}
+use Rattle.psi_report_reader.specs.Sound.{AreSummed, SumsAreReached}
+use Rattle.psi_report_reader.proofs.AllowLemmas.{times-more, times-rises, allows-back}
 use Rattle.psi_report_reader.proofs.WorthLemmas.{least-has, greatest-has}
 
 -- so many values between two, with a sum
@@ -33,13 +31,10 @@ with-one m low high v rest sum first last whole is = record {
 fill : (m : ℕ) (low high sum : ℤ) → low ≤ℤ high → (pos m *ℤ low) ≤ℤ sum → sum ≤ℤ (pos m *ℤ high) → Filled m low high sum
 unfolding sum_of
 fill zero low high sum order least most =
-    let from : pos 0 ≤ℤ sum = rw (times-none low) at least in
-    let to : sum ≤ℤ pos 0 = rw (times-none high) at most in
-    let none : pos 0 ≡ sum = omega (arith, ints) in
-    record { values = []; count = refl; above = All-nil (λ v. low ≤ℤ v); below = All-nil (λ v. v ≤ℤ high); summed = none }
+    record { values = []; count = refl; above = All-nil (λ v. low ≤ℤ v); below = All-nil (λ v. v ≤ℤ high); summed = omega (arith, ints) }
 fill (suc m) low high sum order least most =
-    let from : (low +ℤ (pos m *ℤ low)) ≤ℤ sum = rw (times-more m low) at least in
-    let to : sum ≤ℤ (high +ℤ (pos m *ℤ high)) = rw (times-more m high) at most in
+    let from = rw (times-more m low) at least in
+    let to = rw (times-more m high) at most in
     by_lt_z high (sum -ℤ (pos m *ℤ low))
     (λ less. with-one m low high high (sum -ℤ high) sum order (omega (arith, ints)) (omega (arith, ints)) (fill m low high (sum -ℤ high) order (omega (arith, ints)) (omega (arith, ints))))
     (λ more. with-one m low high (sum -ℤ (pos m *ℤ low)) (pos m *ℤ low) sum (omega (arith, ints)) more (omega (arith, ints))
@@ -67,27 +62,15 @@ both-ends m low high sum rest order whole is =
       },
     )
 
-one-value : (low high sum : ℤ) → low ≤ℤ high → high ≤ℤ sum → sum ≤ℤ low → (values : List ℤ) × AreSummed 1 low high sum values
-unfolding sum_of
-one-value low high sum order from to =
-    (sum ∷ [], record { count = refl; low_is = omega (arith, ints); high_is = omega (arith, ints); sum_is = omega (arith, ints) })
-
 pub sums_reached : SumsAreReached
+unfolding sum_of
 sums_reached zero low high sum some order is = absurd (omega arith)
 sums_reached (suc zero) low high sum some order is =
-    let count : suc zero - 1 ≡ 0 = omega arith in
-    let parts = and_parts (int_le (all_but_one 1 low high) sum) (int_le sum (all_but_one 1 high low)) is in
-    let from : (pos 0 *ℤ low +ℤ high) ≤ℤ sum = ordered-back (pos 0 *ℤ low +ℤ high) sum parts.0 in
-    let to : sum ≤ℤ (pos 0 *ℤ high +ℤ low) = ordered-back sum (pos 0 *ℤ high +ℤ low) parts.1 in
-    let lower : (pos 0 +ℤ high) ≤ℤ sum = rw (times-none low) at from in
-    let upper : sum ≤ℤ (pos 0 +ℤ low) = rw (times-none high) at to in
-    one-value low high sum order (omega (arith, ints)) (omega (arith, ints))
+    let are = allows-back 0 low high sum order is in
+    (sum ∷ [], record { count = refl; low_is = omega (arith, ints); high_is = omega (arith, ints); sum_is = omega (arith, ints) })
 sums_reached (suc (suc m)) low high sum some order is =
-    let count : suc (suc m) - 1 ≡ suc m = omega arith in
-    let parts = and_parts (int_le (all_but_one (suc (suc m)) low high) sum) (int_le sum (all_but_one (suc (suc m)) high low)) is in
-    let first = ordered-back (all_but_one (suc (suc m)) low high) sum parts.0 in
-    let second = ordered-back sum (all_but_one (suc (suc m)) high low) parts.1 in
-    let from : ((low +ℤ (pos m *ℤ low)) +ℤ high) ≤ℤ sum = rw (count, times-more m low) at first in
-    let to : sum ≤ℤ ((high +ℤ (pos m *ℤ high)) +ℤ low) = rw (count, times-more m high) at second in
+    let are = allows-back (suc m) low high sum order is in
+    let from = rw (times-more m low) at are.least in
+    let to = rw (times-more m high) at are.most in
     both-ends m low high sum ((sum -ℤ low) -ℤ high) order (omega (arith, ints))
     (fill m low high ((sum -ℤ low) -ℤ high) order (omega (arith, ints)) (omega (arith, ints)))

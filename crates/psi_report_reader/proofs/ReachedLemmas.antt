@@ -1,9 +1,9 @@
 -- A report of queues alone in which no line is wrong is that of samples.
-use Rattle.std.specs.Prelude.{◌≡◌, ℕ, zero, suc, ◌+◌, ◌-◌, ◌<◌, ◌≤◌, List, [], ◌∷◌, ◌++◌, map, length, replicate, slice_index, All, true, refl}
+use Rattle.std.specs.Prelude.{◌≡◌, ℕ, zero, suc, ◌+◌, ◌-◌, ◌<◌, ◌≤◌, List, [], ◌∷◌, ◌++◌, map, length, replicate, All, true, refl}
 use Rattle.std.specs.List.{flat_map}
 use Rattle.std.proofs.Common.{ap, sym, ◌∙◌, subst, arith}
-use Rattle.std.proofs.lemmas.List.{append-nil, length-map}
-use Rattle.std.proofs.lemmas.List.Elements.{All-nil, All-cons, All-head, All-tail, All-map}
+use Rattle.std.proofs.lemmas.List.{append-nil, length-map, length-replicate}
+use Rattle.std.proofs.lemmas.List.Elements.{All-nil, All-cons, All-head, All-tail, All-map, All-replicate}
 use Rattle.psi_state.specs.State.{IsBelow}
 use Rattle.psi_state.specs.declared.Outcome.{Outcome}
 use Rattle.psi_state.specs.declared.Outcome.TheVariants.{Met, NotMet}
@@ -34,48 +34,34 @@ use Rattle.psi_report_reader.proofs.SumNamesLemmas.{names}
 -- ---- samples of these horizons and states, and others that aren't met
 
 abbrev unmet : ℕ → List Outcome
-unmet zero = []
-unmet (suc k) = NotMet 0 ∷ unmet k
+unmet k = replicate k (NotMet 0)
 
 abbrev samples : ℕ → List ℕ → List (List ℕ) → List Outcome
 samples k [] xs = unmet k
 samples k (t ∷ ts) [] = unmet k
 samples k (t ∷ ts) (x ∷ xs) = Met t x ∷ samples k ts xs
 
-length-unmet : (k : ℕ) → length (unmet k) ≡ k
-length-unmet zero = refl
-length-unmet (suc k) = ap suc (length-unmet k)
-
-unmet-states : (k : ℕ) → met_states (unmet k) ≡ []
-unfolding met_states
-unmet-states zero = refl
-unmet-states (suc k) = unmet-states k
-
-unmet-horizons : (k : ℕ) → met_horizons (unmet k) ≡ []
-unfolding met_horizons
-unmet-horizons zero = refl
-unmet-horizons (suc k) = unmet-horizons k
+unmet-none : (k : ℕ) → (met_states (unmet k) ≡ []) × (met_horizons (unmet k) ≡ [])
+unfolding met_states met_horizons
+unmet-none zero = (refl, refl)
+unmet-none (suc k) = unmet-none k
 
 length-samples : (k : ℕ) (ts : List ℕ) (xs : List (List ℕ)) → length ts ≡ length xs → length (samples k ts xs) ≡ length xs + k
-length-samples k [] [] same = length-unmet k ∙ (omega arith)
+length-samples k [] [] same = length-replicate k (NotMet 0) ∙ (omega arith)
 length-samples k [] (x ∷ xs) same = absurd (omega arith)
 length-samples k (t ∷ ts) [] same = absurd (omega arith)
 length-samples k (t ∷ ts) (x ∷ xs) same = (let rest = length-samples k ts xs (omega arith) in omega arith)
 
 samples-of : (k : ℕ) (ts : List ℕ) (xs : List (List ℕ)) → length ts ≡ length xs → (met_states (samples k ts xs) ≡ xs) × (met_horizons (samples k ts xs) ≡ ts)
 unfolding met_states met_horizons
-samples-of k [] [] same = (unmet-states k, unmet-horizons k)
+samples-of k [] [] same = unmet-none k
 samples-of k [] (x ∷ xs) same = absurd (omega arith)
 samples-of k (t ∷ ts) [] same = absurd (omega arith)
 samples-of k (t ∷ ts) (x ∷ xs) same = (let rest = samples-of k ts xs (omega arith) in (ap (λ ys. x ∷ ys) rest.0, ap (λ ys. t ∷ ys) rest.1))
 
-unmet-are : (net : Network) (k : ℕ) → All (IsSampleOf net) (unmet k)
-unmet-are net zero = All-nil (IsSampleOf net)
-unmet-are net (suc k) = All-cons (IsSampleOf net) (NotMet 0) (unmet k) tt (unmet-are net k)
-
 samples-are : (net : Network) (k : ℕ) (ts : List ℕ) (xs : List (List ℕ)) → All IsHorizon ts → All (λ x. IsBelow x (caps_of net)) xs → All (IsSampleOf net) (samples k ts xs)
-samples-are net k [] xs horizons states = unmet-are net k
-samples-are net k (t ∷ ts) [] horizons states = unmet-are net k
+samples-are net k [] xs horizons states = All-replicate (IsSampleOf net) k (NotMet 0) tt
+samples-are net k (t ∷ ts) [] horizons states = All-replicate (IsSampleOf net) k (NotMet 0) tt
 samples-are net k (t ∷ ts) (x ∷ xs) horizons states =
     All-cons (IsSampleOf net) (Met t x) (samples k ts xs) (All-head IsHorizon t ts horizons, All-head (λ y. IsBelow y (caps_of net)) x xs states)
     (samples-are net k ts xs (All-tail IsHorizon t ts horizons) (All-tail (λ y. IsBelow y (caps_of net)) x xs states))
@@ -92,26 +78,18 @@ arrival = record { name = 97 ∷ []; server = 1; rate = 1; kind = Arrival (0 ∷
 abbrev network_of : List Held → Network
 network_of queues = record { queues = map queue_of queues; events = arrival ∷ []; limit = 22; split = 1; rewards = [] }
 
-one-rate : (i : ℕ) → i < 1 → slice_index (1 ∷ []) i ≡ 1
-one-rate zero less = refl
-one-rate (suc i) less = absurd (omega arith)
-
 rate-is : AreRates (1 ∷ [])
 rate-is = record {
   some = omega arith;
   few = omega arith;
-  least = λ i less. (let one = one-rate i less in omega arith);
-  most = λ i less. (let one = one-rate i less in omega arith);
+  least = λ i less. All-replicate (λ r. 1 ≤ r) 1 1 (omega arith) i 0 less;
+  most = λ i less. All-replicate (λ r. r ≤ 1048576) 1 1 (omega arith) i 0 less;
   bounded = omega arith;
 }
 
-first-queue : (i : ℕ) → i < 1 → slice_index (0 ∷ []) i ≡ 0
-first-queue zero less = refl
-first-queue (suc i) less = absurd (omega arith)
-
 arrival-is : (caps : List ℕ) → 1 ≤ length caps → IsAccepted caps arrival.kind
 unfolding refusal_of
-arrival-is caps some = record { named = λ i less. (let first = first-queue i less in omega arith); accepted = refl }
+arrival-is caps some = record { named = λ i less. All-replicate (λ queue. queue < length caps) 1 0 (omega arith) i 0 less; accepted = refl }
 
 abbrev columns_of : List Held → List (List ℕ)
 columns_of queues = map (λ (h : Held). h.numbers) queues
@@ -156,26 +134,19 @@ module _ (n : ℕ) (figures : List Figure) (held : AreHeld n figures) (shown : H
 
   listed : AreListed net.queues
   listed =
-      let count = length-map held.queues queue_of in
-      let long = length-map held.queues (λ (h : Held). h.name) in
-      let shown_long : length (names Sum figures) ≡ length (map (λ (h : Held). h.name) held.queues) = ap length names-same in
-      let some = shown.some in
-      let few = shown.queues.few in
-      record { some = omega arith; few = omega arith; each = queues-are held.queues }
+      let long = ap length names-same ∙ length-map held.queues (λ (h : Held). h.name) in
+      record { some = rw length-map (omega arith); few = rw length-map (omega arith); each = queues-are held.queues }
 
   kept : IsNetwork net
-  kept =
-      let some = listed.some in
-      let long = length-map net.queues (λ (q : Queue). q.capacity) in
-      record {
-        queues = listed;
-        rates = rate-is;
-        kinds = All-cons (λ (e : NamedEvent). IsAccepted (caps_of net) e.kind) arrival [] (arrival-is (caps_of net) (omega arith)) (All-nil (λ (e : NamedEvent). IsAccepted (caps_of net) e.kind));
-        limit = omega arith;
-        some_split = omega arith;
-        most_split = omega arith;
-        few_rewards = omega arith;
-      }
+  kept = record {
+    queues = listed;
+    rates = rate-is;
+    kinds = All-cons (λ (e : NamedEvent). IsAccepted (caps_of net) e.kind) arrival [] (arrival-is (caps_of net) (rw length-map listed.some)) (All-nil (λ (e : NamedEvent). IsAccepted (caps_of net) e.kind));
+    limit = omega arith;
+    some_split = omega arith;
+    most_split = omega arith;
+    few_rewards = omega arith;
+  }
 
   described : IsDescribed net
   described = record {
@@ -196,7 +167,12 @@ module _ (n : ℕ) (figures : List Figure) (held : AreHeld n figures) (shown : H
   reached c same met few counted =
       let long : length counted.horizons ≡ length rows = counted.count ∙ sym rows-long in
       let outcomes : List Outcome = samples (c.samples - c.met) counted.horizons rows in
-      let told = contents-are c same met few counted in
+      let all = length-samples (c.samples - c.met) counted.horizons rows long in
+      let count = rows-long in
+      let whole : length outcomes ≡ c.samples = omega arith in
+      let both = samples-of (c.samples - c.met) counted.horizons rows long in
+      let own : length rows ≡ c.met = rows-long ∙ sym met in
+      let told : contents_of net outcomes ≡ c = rw (whole, both.0, both.1, own, counted.counts, rows-figures, ← same) refl in
       record {
         net = net;
         outcomes = outcomes;
@@ -205,21 +181,6 @@ module _ (n : ℕ) (figures : List Figure) (held : AreHeld n figures) (shown : H
         contents = told;
         text = ap text_of told;
       }
-    where
-      contents-are : (c : Contents) → c.figures ≡ figures → c.met ≡ n → c.met ≤ c.samples → (counted : AreCounted n c.horizons)
-          → contents_of net (samples (c.samples - c.met) counted.horizons rows) ≡ c
-      contents-are c same met few counted =
-          let long : length counted.horizons ≡ length rows = counted.count ∙ sym rows-long in
-          let all = length-samples (c.samples - c.met) counted.horizons rows long in
-          let count = rows-long in
-          let whole : length (samples (c.samples - c.met) counted.horizons rows) ≡ c.samples = omega arith in
-          let both = samples-of (c.samples - c.met) counted.horizons rows long in
-          let states = both.0 in
-          let horizons = both.1 in
-          let these = rows-figures in
-          let own : length rows ≡ c.met = rows-long ∙ sym met in
-          let counts = counted.counts in
-          rw (whole, states, horizons, own, counts, these, ← same) refl
 
 pub queue_reports_reached : QueueReportsAreReached
 queue_reports_reached c is queues none =

@@ -1,8 +1,7 @@
 -- A text that is read is that of the report, and the text of each report is read as this report.
-use Rattle.std.specs.Prelude.{◌≡◌, ℕ, List, Bool, true, false, cond, Result, Ok, Err, refl}
+use Rattle.std.specs.Prelude.{◌≡◌, ℕ, List, Result, Ok, Err, refl}
 use Rattle.std.specs.List.{slice_split}
-use Rattle.std.specs.Str.{bytes_eq}
-use Rattle.std.proofs.Common.{ap, sym, ◌∙◌}
+use Rattle.std.proofs.Common.{arith}
 use Rattle.std.proofs.lemmas.Slice.Eq.{bytes_eq-Decides}
 use Rattle.psi_report.specs.Text.{text_of}
 use Rattle.psi_report.specs.Contents.{Contents}
@@ -11,11 +10,7 @@ use Rattle.psi_report_reader.proofs.RowReadsLemmas.{lines-read}
 
 matching-text : (text : List ℕ) (reading : Result Contents ℕ) (c : Contents) → matching text reading ≡ Ok c → text_of c ≡ text
 matching-text text (Err n) c is = absurd cc
-matching-text text (Ok d) c is = go (bytes_eq (text_of d) text) refl is
-  where
-    go : (t : Bool) → bytes_eq (text_of d) text ≡ t → cond {A = Result Contents ℕ} t (Ok d) (Err 0) ≡ Ok c → text_of c ≡ text
-    go true same read_so = (let e : d ≡ c = cc in ap text_of (sym e) ∙ (bytes_eq-Decides (text_of d) text).0 same)
-    go false same read_so = absurd cc
+matching-text text (Ok d) c is = grind (arith, (bytes_eq-Decides (text_of d) text).0)
 
 pub read_is_text : ReadIsText
 unfolding read

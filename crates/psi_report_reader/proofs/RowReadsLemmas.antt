@@ -3,13 +3,12 @@ use Rattle.std.specs.Prelude.{◌≡◌, ℕ, ◌+◌, ◌-◌, ◌^◌, ◌<◌
 use Rattle.std.specs.Fmt.{decimal, signed_decimal}
 use Rattle.std.specs.Int.RustNames.{unsigned_abs}
 use Rattle.std.specs.List.{slice_split}
-use Rattle.std.proofs.Common.{ap, sym, ◌∙◌, append_assoc}
+use Rattle.std.proofs.Common.{ap, sym, ◌∙◌, append_assoc, arith}
 use Rattle.std.proofs.lemmas.List.{append-nil}
 use Rattle.std.proofs.lemmas.List.Elements.{All-head, All-tail}
 use Rattle.psi_net_model.specs.Name.{is_name}
 use Rattle.psi_report.specs.Text.{samples_row, horizon_row, number_rows, item_text, figure_row, count_row, contents_rows, text_of}
 use Rattle.psi_report.specs.declared.figure.Item.{Item}
-use Rattle.psi_report.specs.declared.figure.Item.TheVariants.{Sum, Least, Greatest, RewardSum, RewardLeast, RewardGreatest}
 use Rattle.psi_report.specs.declared.figure.HorizonCount.{HorizonCount}
 use Rattle.psi_report.specs.declared.figure.Figure.{Figure}
 use Rattle.psi_report.specs.Contents.{Contents}
@@ -58,12 +57,7 @@ horizon-fields c t n first second = rw (count-decimal t first, count-decimal n s
 figure-fields : (c : Contents) (item : Item) (name : List ℕ) (value : ℤ) → is_name name ≡ true → unsigned_abs value < 10 ^ 37
     → with_fields c (item_text item) name (signed_decimal value) ≡ Some (record c { figures = c.figures ++ record { item = item; name = name; value = value } ∷ [] })
 unfolding with_fields item_of
-figure-fields c Sum name value is fits = rw (name-again name is, integer-signed value fits) refl
-figure-fields c Least name value is fits = rw (name-again name is, integer-signed value fits) refl
-figure-fields c Greatest name value is fits = rw (name-again name is, integer-signed value fits) refl
-figure-fields c RewardSum name value is fits = rw (name-again name is, integer-signed value fits) refl
-figure-fields c RewardLeast name value is fits = rw (name-again name is, integer-signed value fits) refl
-figure-fields c RewardGreatest name value is fits = rw (name-again name is, integer-signed value fits) refl
+figure-fields c item name value is fits = grind (arith, name-again name is, integer-signed value fits)
 
 -- the rows of figures, and the last line
 figures-read : (n s m : ℕ) (hs : List HorizonCount) (before fs : List Figure) → All FitsFigure fs → read_rows n (told s m hs before) (map figure_row fs ++ last_line) ≡ Ok (told s m hs (before ++ fs))

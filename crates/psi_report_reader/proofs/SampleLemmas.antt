@@ -1,10 +1,11 @@
 -- What holds of the horizons, the names and the values of samples of a network.
-use Rattle.std.specs.Prelude.{◌≡◌, ℕ, suc, ◌+◌, ◌*◌, ◌^◌, ◌<◌, ◌≤◌, ◌≤ℤ◌, ℤ, pos, List, [], ◌∷◌, ◌++◌, map, length, All, int_le, unsigned_abs, count_ones, slice_index, Bool, true, refl}
+use Rattle.std.specs.Prelude.{◌≡◌, ℕ, ◌+◌, ◌*◌, ◌^◌, ◌<◌, ◌≤◌, ℤ, pos, List, [], ◌∷◌, ◌++◌, map, length, All, unsigned_abs, count_ones, slice_index, Bool, true, refl}
 use Rattle.std.specs.Int.Count.{ones}
 use Rattle.std.proofs.Common.{ap, sym, ◌∙◌, subst, arith}
 use Rattle.std.proofs.Math.Pow.{pow-lt, pow_pos}
-use Rattle.std.proofs.lemmas.Bool.{eq-eqb, le-leb, leb-true, and_parts}
+use Rattle.std.proofs.lemmas.Bool.{eq-eqb, le-leb, leb-true}
 use Rattle.std.proofs.lemmas.Int.{ints}
+use Rattle.std.proofs.lemmas.List.{length-map}
 use Rattle.std.proofs.lemmas.Nat.{ones_cat}
 use Rattle.std.proofs.lemmas.List.Elements.{All-nil, All-cons, All-head, All-tail, All-map, All-weaker}
 use Rattle.psi_state.specs.Ascending.{IsDistinct}
@@ -23,9 +24,12 @@ use Rattle.psi_report.specs.Report.{contents_of}
 use Rattle.psi_report.proofs.StandsLemmas.{length-queues_from}
 use Rattle.psi_report.proofs.FiguresLemmas.{names-queues, names-rewards}
 use Rattle.psi_report_reader.specs.Reading.{IsReport}
-use Rattle.psi_report_reader.specs.Samples.{AreOf}
+use Rattle.psi_report_reader.specs.Samples.{AreOf, SamplesAreRead}
+use Rattle.psi_report_reader.specs.Merging.{SamplesAreMerged}
 use Rattle.psi_report_reader.specs.Sound.{is_horizon, is_customers, is_reward_value}
 use Rattle.psi_report_reader.proofs.AllowLemmas.{ordered}
+use Rattle.psi_report_reader.proofs.MergeLawLemmas.{merged-fit}
+use Rattle.psi_report_reader.proofs.ReadLemmas.{text_is_read}
 use Rattle.psi_report_reader.proofs.PowerLemmas.{one-bit, no-bit}
 use Rattle.psi_report_reader.proofs.SmallLemmas.{IsMost, IsMostAt, told-fit}
 use Rattle.psi_report_reader.proofs.WorthLemmas.{held-few, worth-few, all-left, all-right}
@@ -53,24 +57,21 @@ horizon-is t is =
     let once : count_ones t ≡ 1 = rw is.power (ones-pow is.exponent) in
     rw (eq-eqb (count_ones t) 1 once, le-leb t 4194304 most) refl
 
-pub met-horizons : (net : Network) (outcomes : List Outcome) → All (IsSampleOf net) outcomes → All IsHorizon (met_horizons outcomes)
-unfolding met_horizons
-met-horizons net [] all = All-nil IsHorizon
-met-horizons net (Met horizon state ∷ outcomes) all =
-    All-cons IsHorizon horizon (met_horizons outcomes) (All-head (IsSampleOf net) (Met horizon state) outcomes all).0 (met-horizons net outcomes (All-tail (IsSampleOf net) (Met horizon state) outcomes all))
-met-horizons net (NotMet limit ∷ outcomes) all = met-horizons net outcomes (All-tail (IsSampleOf net) (NotMet limit) outcomes all)
+-- those that are met have such horizons, and states within the capacities
+pub met-are : (net : Network) (outcomes : List Outcome) → All (IsSampleOf net) outcomes
+    → All IsHorizon (met_horizons outcomes) × All (λ x. IsBelow x (caps_of net)) (met_states outcomes)
+unfolding met_horizons met_states
+met-are net [] all = (All-nil IsHorizon, All-nil (λ x. IsBelow x (caps_of net)))
+met-are net (Met horizon state ∷ outcomes) all =
+    let own = All-head (IsSampleOf net) (Met horizon state) outcomes all in
+    let rest = met-are net outcomes (All-tail (IsSampleOf net) (Met horizon state) outcomes all) in
+    (All-cons IsHorizon horizon (met_horizons outcomes) own.0 rest.0, All-cons (λ x. IsBelow x (caps_of net)) state (met_states outcomes) own.1 rest.1)
+met-are net (NotMet limit ∷ outcomes) all = met-are net outcomes (All-tail (IsSampleOf net) (NotMet limit) outcomes all)
 
 pub are-horizons : (net : Network) (outcomes : List Outcome) → All (IsSampleOf net) outcomes → All (λ t. is_horizon t ≡ true) (met_horizons outcomes)
-are-horizons net outcomes all = All-weaker IsHorizon (λ t. is_horizon t ≡ true) horizon-is (met_horizons outcomes) (met-horizons net outcomes all)
+are-horizons net outcomes all = All-weaker IsHorizon (λ t. is_horizon t ≡ true) horizon-is (met_horizons outcomes) (met-are net outcomes all).0
 
 -- ---- values
-
-pub met-below : (net : Network) (outcomes : List Outcome) → All (IsSampleOf net) outcomes → All (λ x. IsBelow x (caps_of net)) (met_states outcomes)
-unfolding met_states
-met-below net [] all = All-nil (λ x. IsBelow x (caps_of net))
-met-below net (Met horizon state ∷ outcomes) all =
-    All-cons (λ x. IsBelow x (caps_of net)) state (met_states outcomes) (All-head (IsSampleOf net) (Met horizon state) outcomes all).1 (met-below net outcomes (All-tail (IsSampleOf net) (Met horizon state) outcomes all))
-met-below net (NotMet limit ∷ outcomes) all = met-below net outcomes (All-tail (IsSampleOf net) (NotMet limit) outcomes all)
 
 -- each value of each quantity at these states passes a test
 abbrev pub ArePassing : (ℤ → Bool) → List (List ℕ) → List Quantity → Type 0
@@ -99,10 +100,6 @@ rewards-pass caps states are below (r ∷ rewards) all =
       rewards-pass caps states are below rewards (All-tail (λ (r : NamedReward). IsReward caps r.kind) r rewards all),
     )
 
-reward-count : (rewards : List NamedReward) → (let qs : List Quantity = map (λ r. record { name = r.name; value = worth_of r.kind }) rewards in length qs ≡ length rewards)
-reward-count [] = refl
-reward-count (r ∷ rewards) = ap suc (reward-count rewards)
-
 -- ---- all of it
 
 -- what a report has of quantities: they are so few, their names differ and their values pass
@@ -116,9 +113,9 @@ module _ (net : Network) (outcomes : List Outcome) (are : AreOf net outcomes) wh
   queues-shown =
       let listed = are.network.queues in
       record {
-        few = (let count = length-queues_from 0 net.queues in let few = listed.few in omega arith);
+        few = rw length-queues_from listed.few;
         differ = subst (λ (names : List (List ℕ)). IsDistinct names) (sym (names-queues 0 net.queues)) are.network.queue_names.differ;
-        passing = queues-pass (caps_of net) (met_states outcomes) (capacities_kept net.queues listed) (met-below net outcomes are.samples) 0 net.queues;
+        passing = queues-pass (caps_of net) (met_states outcomes) (capacities_kept net.queues listed) (met-are net outcomes are.samples).1 0 net.queues;
       }
 
   pub queues-some : 1 ≤ length (queue_quantities net)
@@ -126,22 +123,15 @@ module _ (net : Network) (outcomes : List Outcome) (are : AreOf net outcomes) wh
 
   pub rewards-shown : AreShown is_reward_value 64 (met_states outcomes) (reward_quantities net)
   rewards-shown = record {
-    few = (let count = reward-count net.rewards in let few = are.network.few_rewards in omega arith);
+    few = rw length-map are.network.few_rewards;
     differ = subst (λ (names : List (List ℕ)). IsDistinct names) (sym (names-rewards net.rewards)) are.network.reward_names.differ;
-    passing = rewards-pass (caps_of net) (met_states outcomes) (capacities_kept net.queues are.network.queues) (met-below net outcomes are.samples) net.rewards are.network.rewards;
+    passing = rewards-pass (caps_of net) (met_states outcomes) (capacities_kept net.queues are.network.queues) (met-are net outcomes are.samples).1 net.rewards are.network.rewards;
   }
 
 -- ---- what is told of them can be read
 
-pub ordered-back : (low high : ℤ) → int_le low high ≡ true → low ≤ℤ high
-ordered-back low high is = grind (arith, ints)
-
 customers-most : (z : ℤ) → is_customers z ≡ true → IsMost 2097120000000000 z
-customers-most z is =
-    let parts = and_parts (int_le (pos 0) z) (int_le z (pos 65535)) is in
-    let low : pos 0 ≤ℤ z = ordered-back (pos 0) z parts.0 in
-    let high : z ≤ℤ pos 65535 = ordered-back z (pos 65535) parts.1 in
-    omega (arith, ints)
+customers-most z is = grind (arith, ints)
 
 worth-most : (z : ℤ) → is_reward_value z ≡ true → IsMost 2097120000000000 z
 worth-most z is = leb-true (unsigned_abs z) 2097120000000000 is
@@ -159,11 +149,17 @@ samples-fit net outcomes are few =
     let queues = queues-shown net outcomes are in
     let rewards = rewards-shown net outcomes are in
     told-fit 2097120000000000 (2 ^ 64) (omega arith) (omega arith) net outcomes few (omega arith)
-    (All-weaker IsHorizon (λ t. t < 2 ^ 64) (λ t is. (let most = horizon-few t is in omega arith)) (met_horizons outcomes) (met-horizons net outcomes are.samples))
+    (All-weaker IsHorizon (λ t. t < 2 ^ 64) (λ t is. (let most = horizon-few t is in omega arith)) (met_horizons outcomes) (met-are net outcomes are.samples).0)
     (most-at is_customers customers-most (met_states outcomes) (queue_quantities net) queues.passing
     (subst (All (λ name. is_name name ≡ true)) (sym (names-queues 0 net.queues)) are.network.queue_names.each))
     (most-at is_reward_value worth-most (met_states outcomes) (reward_quantities net) rewards.passing
     (subst (All (λ name. is_name name ≡ true)) (sym (names-rewards net.rewards)) are.network.reward_names.each))
+
+pub samples_read : SamplesAreRead
+samples_read net outcomes are few = text_is_read (contents_of net outcomes) (samples-fit net outcomes are few)
+
+pub samples_merged : SamplesAreMerged
+samples_merged net outcomes others are few = merged-fit net outcomes others (samples-fit net (outcomes ++ others) are few)
 
 -- ---- samples in two parts
 

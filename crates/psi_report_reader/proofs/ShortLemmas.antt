@@ -1,5 +1,5 @@
 -- The report of samples of a network that a file may describe is short.
-use Rattle.std.specs.Prelude.{◌≡◌, ℕ, suc, ◌+◌, ◌*◌, ◌^◌, ◌<◌, ◌≤◌, ℤ, List, [], ◌∷◌, ◌++◌, map, length, All}
+use Rattle.std.specs.Prelude.{◌≡◌, ℕ, suc, ◌+◌, ◌*◌, ◌^◌, ◌<◌, ◌≤◌, ℤ, List, [], ◌∷◌, map, length, All}
 use Rattle.std.specs.List.{flat_map}
 use Rattle.std.proofs.Common.{ap, arith}
 use Rattle.std.proofs.Math.Nat.{pow-le-pow_right}
@@ -10,7 +10,7 @@ use Rattle.csv.specs.Writing.{default_writer, row_text}
 use Rattle.psi_report.specs.Samples.{IsHorizon, met_states, met_horizons}
 use Rattle.psi_report.specs.Distinct.{distinct}
 use Rattle.psi_report.specs.Quantities.{Quantity, queue_quantities, reward_quantities}
-use Rattle.psi_report.specs.Text.{rows_text, number_rows, figure_row, count_row, contents_rows, text_of}
+use Rattle.psi_report.specs.Text.{rows_text, number_rows, contents_rows, text_of}
 use Rattle.psi_report.specs.Report.{Trio, queue_trio, reward_trio, quantity_figures, figures_of, horizon_count, contents_of}
 use Rattle.psi_report.specs.declared.figure.HorizonCount.{HorizonCount}
 use Rattle.psi_report.specs.Contents.{Contents}
@@ -18,22 +18,15 @@ use Rattle.psi_report_reader.specs.Reading.{IsReport}
 use Rattle.psi_report_reader.specs.Samples.{ReportsAreShort}
 use Rattle.psi_report_reader.proofs.FieldLemmas.{IsShort, rows-short}
 use Rattle.psi_report_reader.proofs.HorizonCountsLemmas.{Rising, horizons_of, rising-horizons}
-use Rattle.psi_report_reader.proofs.PlainLemmas.{IsPlain, line, row-line}
-use Rattle.psi_report_reader.proofs.SampleLemmas.{met-horizons, queues-shown, rewards-shown, samples-fit}
+use Rattle.psi_report_reader.proofs.PlainLemmas.{IsPlain, row-line}
+use Rattle.psi_report_reader.proofs.SampleLemmas.{met-are, queues-shown, rewards-shown, samples-fit}
 use Rattle.psi_report_reader.proofs.SmallLemmas.{distinct-all}
 use Rattle.psi_report_reader.proofs.OrderLemmas.{by_order}
 
 -- ---- rows
 
 row-length : (a b v : List ℕ) → All IsPlain a → All IsPlain b → All IsPlain v → length a + length b + length v ≤ 97 → length (row_text default_writer (a ∷ b ∷ v ∷ [])) ≤ 100
-row-length a b v first second third few =
-    let whole = row-line a b v [] first second third in
-    let nothing = length-append (row_text default_writer (a ∷ b ∷ v ∷ [])) [] in
-    let lined : length (row_text default_writer (a ∷ b ∷ v ∷ []) ++ []) ≡ length (line a b v ++ 10 ∷ []) = ap length whole in
-    let end = length-append (line a b v) (10 ∷ []) in
-    let one = length-append a (44 ∷ (b ++ 44 ∷ v)) in
-    let two = length-append b (44 ∷ v) in
-    omega arith
+row-length a b v first second third few = simp length-append (let lined = simp length-append at (ap length (row-line a b v [] first second third)) in omega arith)
 
 rows-length : (rows : List (List (List ℕ))) → All IsShort rows → length (rows_text rows) ≤ 100 * length rows
 unfolding rows_text
@@ -47,12 +40,7 @@ rows-length (r ∷ rows) all =
 
 text-length : (c : Contents) → IsReport c → length (text_of c) ≤ 100 * (4 + (length c.horizons + length c.figures))
 unfolding text_of contents_rows number_rows
-text-length c is =
-    let long = rows-length (contents_rows c) (rows-short c is) in
-    let both = length-append (map count_row c.horizons) (map figure_row c.figures) in
-    let counts = length-map c.horizons count_row in
-    let figures = length-map c.figures figure_row in
-    omega arith
+text-length c is = (let long = simp (length-append, length-map) at (rows-length (contents_rows c) (rows-short c is)) in omega arith)
 
 -- ---- figures
 
@@ -62,11 +50,7 @@ values-few trio name (z ∷ zs) = omega arith
 
 figures-few : (trio : Trio) (states : List (List ℕ)) (qs : List Quantity) → length (flat_map (quantity_figures trio states) qs) ≤ 3 * length qs
 figures-few trio states [] = omega arith
-figures-few trio states (q ∷ qs) =
-    let here = values-few trio q.name (map q.value states) in
-    let rest = figures-few trio states qs in
-    let both = length-append (quantity_figures trio states q) (flat_map (quantity_figures trio states) qs) in
-    omega arith
+figures-few trio states (q ∷ qs) = simp length-append (omega (arith, values-few trio q.name (map q.value states), figures-few trio states qs))
 
 -- ---- horizons
 
@@ -83,10 +67,7 @@ powers-few : (j t : ℕ) (cs : List HorizonCount) → j ≤ 22 → 2 ^ j ≤ t �
 powers-few j t [] few least rise all = omega arith
 powers-few j t (c ∷ cs) few least rise all =
     let is : IsHorizon c.horizon = All-head AtHorizon c cs all in
-    let power : c.horizon ≡ 2 ^ is.exponent = is.power in
-    let below = rise.0 in
     let next : suc j ≤ is.exponent = higher j is.exponent (omega arith) in
-    let most : is.exponent ≤ 22 = is.few in
     let low : 2 ^ suc j ≤ 2 ^ is.exponent = pow-le-pow_right (omega arith) next in
     let rest = powers-few (suc j) c.horizon cs (omega arith) (omega arith) rise.1.1 (All-tail AtHorizon c cs all) in
     omega arith
@@ -95,21 +76,20 @@ horizons-few : (cs : List HorizonCount) → Rising 0 cs → All AtHorizon cs →
 horizons-few [] rise all = omega arith
 horizons-few (c ∷ cs) rise all =
     let is : IsHorizon c.horizon = All-head AtHorizon c cs all in
-    let power : c.horizon ≡ 2 ^ is.exponent = is.power in
     let some : 0 < 2 ^ is.exponent = pow_pos is.exponent in
     let rest = powers-few 0 c.horizon cs (omega arith) (omega arith) rise.1.1 (All-tail AtHorizon c cs all) in
     omega arith
 
 -- ---- all of it
 
-pub reports-short : ReportsAreShort
+pub reports_short : ReportsAreShort
 unfolding contents_of
-reports-short net outcomes are few =
+reports_short net outcomes are few =
     let states = met_states outcomes in
     let steps = met_horizons outcomes in
     let long = text-length (contents_of net outcomes) (samples-fit net outcomes are few) in
     let horizons = horizons-few (horizons_of steps) (rising-horizons steps)
-    (All-map AtHorizon (horizon_count steps) (distinct steps) (distinct-all IsHorizon steps (met-horizons net outcomes are.samples))) in
+    (All-map AtHorizon (horizon_count steps) (distinct steps) (distinct-all IsHorizon steps (met-are net outcomes are.samples).0)) in
     let both = length-append (flat_map (quantity_figures queue_trio states) (queue_quantities net)) (flat_map (quantity_figures reward_trio states) (reward_quantities net)) in
     let queues = figures-few queue_trio states (queue_quantities net) in
     let rewards = figures-few reward_trio states (reward_quantities net) in

@@ -12,7 +12,7 @@ use Rattle.psi_net_model.specs.Valid.{IsQueue, IsReward}
 use Rattle.psi_net_model.specs.declared.entries.Queue.{Queue}
 use Rattle.psi_net_model.proofs.RewardLemmas.{reward_accepted}
 use Rattle.psi_report.specs.declared.figure.Item.{Item}
-use Rattle.psi_report.specs.declared.figure.Item.TheVariants.{Sum, Least, Greatest, RewardSum, RewardLeast, RewardGreatest}
+use Rattle.psi_report.specs.declared.figure.Item.TheVariants.{Sum, Greatest, RewardSum}
 use Rattle.psi_report.specs.declared.figure.Figure.{Figure}
 use Rattle.psi_report.specs.Report.{figure}
 use Rattle.psi_report_reader.specs.Reached.{is_of_queue}
@@ -90,10 +90,7 @@ with-figure b i RewardSum name value fs follows is =
     let none : names Sum fs ≡ [] = is.order refl in
     let rest : map shown_by (sums_of fs) ≡ map reward_shown (names RewardSum fs) = rw none at is.same in
     record { same = rw none (ap (λ (rest : List Shown). reward_shown name ∷ rest) rest); order = λ isnt. none }
-with-figure b i Least name value fs follows is = record { same = is.same; order = λ isnt. is.order (kind-kept b i Least follows isnt) }
-with-figure b i Greatest name value fs follows is = record { same = is.same; order = λ isnt. is.order (kind-kept b i Greatest follows isnt) }
-with-figure b i RewardLeast name value fs follows is = record { same = is.same; order = λ isnt. is.order (kind-kept b i RewardLeast follows isnt) }
-with-figure b i RewardGreatest name value fs follows is = record { same = is.same; order = λ isnt. is.order (kind-kept b i RewardGreatest follows isnt) }
+with-figure b i j name value fs follows is = record { same = is.same; order = λ isnt. is.order (kind-kept b i j follows isnt) }
 
 in-order : (n : ℕ) (before : List Figure) (e : Figure) (fs : List Figure) → flaw_behind n before e fs ≡ None → InOrder e.item fs
 in-order n before e [] right = record { same = refl; order = λ is. refl }
@@ -169,19 +166,13 @@ reports_show c is none =
     let queues = names Sum c.figures in
     let rewards = names RewardSum c.figures in
     let net = net_of queues rewards in
-    let some = shown.some in
-    let few = shown.queues.few in
-    let few_rewards = shown.rewards.few in
-    let count = length-map queues queue_of in
-    let reward_count = length-map rewards reward_of in
-    let caps = length-map (map queue_of queues) (λ (q : Queue). q.capacity) in
     record {
       net = net;
       described = record {
-        queues = record { some = omega arith; few = omega arith; each = queues-are queues };
+        queues = record { some = rw length-map (omega arith); few = rw length-map (omega arith); each = queues-are queues };
         queue_names = subst AreNames (sym (map-twice (λ (q : Queue). q.name) queue_of queues ∙ map-id queues)) shown.queues.are;
-        few_rewards = omega arith;
-        rewards = rewards-are (caps_of net) (omega arith) rewards;
+        few_rewards = rw length-map (omega arith);
+        rewards = rewards-are (caps_of net) (rw (length-map, length-map) shown.some) rewards;
         reward_names = subst AreNames (sym (map-twice (λ (r : NamedReward). r.name) reward_of rewards ∙ map-id rewards)) shown.rewards.are;
       };
       same = shown.same ∙ sym (ap (λ (front : List Shown). front ++ map by_reward net.rewards) (map-twice by_queue queue_of queues)

@@ -1,5 +1,5 @@
 -- What the report of samples tells can be read back.
-use Rattle.std.specs.Prelude.{◌≡◌, ℕ, suc, ◌+◌, ◌*◌, ◌^◌, ◌<◌, ◌≤◌, ℤ, ◌+ℤ◌, List, [], ◌∷◌, map, length, All, ◌==◌, nat_lt, true}
+use Rattle.std.specs.Prelude.{◌≡◌, ℕ, ◌*◌, ◌^◌, ◌<◌, ◌≤◌, ℤ, List, [], ◌∷◌, map, length, All, ◌==◌, nat_lt, true}
 use Rattle.std.specs.Int.RustNames.{unsigned_abs}
 use Rattle.std.specs.List.{flat_map}
 use Rattle.std.proofs.Common.{arith}
@@ -49,12 +49,7 @@ module _ (b : ℕ) where
   sum-most : (zs : List ℤ) → All IsMost zs → unsigned_abs (sum_of zs) ≤ length zs * b
   unfolding sum_of
   sum-most [] all = omega (arith, ints)
-  sum-most (z ∷ zs) all =
-      let one : unsigned_abs z ≤ b = All-head IsMost z zs all in
-      let rest : unsigned_abs (sum_of zs) ≤ length zs * b = sum-most zs (All-tail IsMost z zs all) in
-      let both : unsigned_abs (z +ℤ sum_of zs) ≤ unsigned_abs z + unsigned_abs (sum_of zs) = omega (arith, ints) in
-      let more : suc (length zs) * b ≡ length zs * b + b = suc-mul (length zs) b in
-      rw more (omega arith)
+  sum-most (z ∷ zs) all = rw (suc-mul (length zs) b) (omega (arith, ints, All-head IsMost z zs all, sum-most zs (All-tail IsMost z zs all)))
 
   -- of which there are at most n
   module _ (n : ℕ) (fits : n * b < 10 ^ 37) (one_fits : b < 10 ^ 37) where
@@ -111,5 +106,5 @@ contents-fit net outcomes are =
     told-fit (2 ^ 63) (2 ^ 32) (omega arith) (omega arith) net outcomes (omega arith) (omega arith) are.horizons (measured-most (met_states outcomes) (queue_quantities net) are.queues)
     (measured-most (met_states outcomes) (reward_quantities net) are.rewards)
 
-pub report-is-read : ReportIsRead
-report-is-read net outcomes are = text_is_read (contents_of net outcomes) (contents-fit net outcomes are)
+pub report_is_read : ReportIsRead
+report_is_read net outcomes are = text_is_read (contents_of net outcomes) (contents-fit net outcomes are)

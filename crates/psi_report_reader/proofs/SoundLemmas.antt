@@ -13,14 +13,12 @@ use Rattle.psi_report.proofs.TotalsLemmas.{length-met_states}
 use Rattle.psi_report.specs.declared.figure.HorizonCount.{HorizonCount}
 use Rattle.psi_report_reader.specs.Counts.{with_count}
 use Rattle.psi_report_reader.specs.Sound.{is_horizon, is_above, horizons_flaw, ReportIsSound}
-use Rattle.psi_report_reader.proofs.CountLemmas.{with_count-same, with_count-lower, with_count-higher}
 use Rattle.psi_report_reader.proofs.HorizonCountsLemmas.{Rising, horizons_of, rising-horizons, horizons-more}
 use Rattle.psi_report_reader.proofs.JudgeLemmas.{flaw-none}
 use Rattle.psi_report_reader.proofs.SmallLemmas.{distinct-all}
 use Rattle.psi_report_reader.proofs.SampleLemmas.{are-horizons, queues-some, queues-shown, rewards-shown}
 use Rattle.psi_report_reader.proofs.FigureLawLemmas.{shown-sound}
 use Rattle.psi_report_reader.proofs.VaryingLemmas.{samples-steady}
-use Rattle.psi_report_reader.proofs.OrderLemmas.{by_order}
 
 -- ---- horizons
 
@@ -31,10 +29,7 @@ total (c ∷ cs) = c.count + total cs
 
 total-with : (k : HorizonCount) (cs : List HorizonCount) → total (with_count k cs) ≡ k.count + total cs
 total-with k [] = refl
-total-with k (c ∷ cs) = by_order k.horizon c.horizon
-    (λ same. rw (with_count-same k c cs same) (omega arith))
-    (λ less. rw (with_count-lower k c cs less) refl)
-    (λ more. rw (with_count-higher k c cs more, total-with k cs) (omega arith))
+total-with k (c ∷ cs) = grind (arith, total-with k cs)
 
 total-horizons : (hs : List ℕ) → total (horizons_of hs) ≡ length hs
 unfolding distinct
@@ -59,9 +54,9 @@ same-met [] = refl
 same-met (Met horizon state ∷ outcomes) = ap suc (same-met outcomes)
 same-met (NotMet limit ∷ outcomes) = same-met outcomes
 
-pub report-sound : ReportIsSound
+pub report_sound : ReportIsSound
 unfolding contents_of
-report-sound net outcomes are =
+report_sound net outcomes are =
     let hs = met_horizons outcomes in
     let shown = shown-sound (met_states outcomes) (queue_quantities net) (reward_quantities net) (queues-some net outcomes are) (queues-shown net outcomes are) (rewards-shown net outcomes are) in
     sym (flaw-none (contents_of net outcomes) (length-met_states outcomes)

@@ -36,16 +36,7 @@ Unnamed i name fs = list_all (λ e. not (same_sum e.item i && bytes_eq e.name na
 
 unnamed-out : (i : Item) (name : List ℕ) (fs : List Figure) → Unnamed i name fs → In name (names i fs) → ⊥
 unnamed-out i name [] is there = there
-unnamed-out i name (e ∷ fs) is there =
-    let parts = and_parts (not (same_sum e.item i && bytes_eq e.name name)) (list_all (λ g. not (same_sum g.item i && bytes_eq g.name name)) fs) is in
-    elim (cases_Bool (same_sum e.item i)) [
-      | inl own ↦ (let at : (name ≡ e.name) ⊎ In name (names i fs) = rw own at there in
-          elim at [
-            | inl same ↦ (let equal = (bytes_eq-Decides e.name name).1 (sym same) in let never : not (true && true) ≡ true = rw (own, equal) at parts.0 in absurd cc)
-            | inr later ↦ unnamed-out i name fs parts.1 later
-          ])
-      | inr other ↦ unnamed-out i name fs parts.1 (rw other at there)
-    ]
+unnamed-out i name (e ∷ fs) is there = grind (arith, (bytes_eq-Decides e.name name).1, unnamed-out i name fs)
 
 unnamed-in : (i : Item) (name : List ℕ) (fs : List Figure) → (In name (names i fs) → ⊥) → Unnamed i name fs
 unnamed-in i name [] out = refl

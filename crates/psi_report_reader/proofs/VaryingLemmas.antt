@@ -1,8 +1,9 @@
 -- The rewards of samples vary only where a queue does.
-use Rattle.std.specs.Prelude.{◌≡◌, ℕ, suc, ◌+◌, ◌<◌, ℤ, pos, ◌≤ℤ◌, List, [], ◌∷◌, ◌++◌, map, length, slice_index, slice_index_or, All, Bool, true, false, not, ◌&&◌, None, refl}
+use Rattle.std.specs.Prelude.{◌≡◌, ℕ, suc, ◌+◌, ◌<◌, ℤ, pos, ◌≤ℤ◌, List, [], ◌∷◌, ◌++◌, map, length, slice_index, slice_index_or, All, Bool, true, false, None, refl}
 use Rattle.std.specs.List.{flat_map}
 use Rattle.std.specs.Ordering.{int_eq}
 use Rattle.std.proofs.Common.{ap, sym, ◌∙◌, subst, arith}
+use Rattle.std.proofs.lemmas.Bool.{and_right}
 use Rattle.std.proofs.lemmas.Bool.Decides.{Decides-int_eq}
 use Rattle.std.proofs.lemmas.Grind.{same_number_lists}
 use Rattle.std.proofs.lemmas.Int.{ints, clamps}
@@ -19,7 +20,7 @@ use Rattle.psi_report.specs.declared.figure.Figure.{Figure}
 use Rattle.psi_report.specs.Report.{queue_trio, reward_trio, quantity_figures}
 use Rattle.psi_report_reader.specs.Samples.{AreOf}
 use Rattle.psi_report_reader.specs.Sound.{is_greatest, varies, varying_behind, varying_reward}
-use Rattle.psi_report_reader.proofs.SampleLemmas.{met-below}
+use Rattle.psi_report_reader.proofs.SampleLemmas.{met-are}
 use Rattle.psi_report_reader.proofs.WorthLemmas.{least-has, greatest-has}
 use Rattle.psi_report_reader.proofs.OrderLemmas.{by_order}
 
@@ -120,11 +121,7 @@ queue-sums-steady (q ∷ qs) rs k e = queue-sums-steady qs rs _ _
 
 -- a value doesn't differ from itself
 never-varies : (f : Figure) → varies f f ≡ false
-never-varies f = and-not (is_greatest f.item) (int_eq f.value f.value) (int-same f.value f.value refl)
-  where
-    and-not : (b same : Bool) → same ≡ true → (b && not same) ≡ false
-    and-not true same is = rw is refl
-    and-not false same is = refl
+never-varies f = rw (int-same f.value f.value refl) (and_right (is_greatest f.item) false refl)
 
 -- so nothing is asked of a first figure
 behind-first : (fs : List Figure) → ((k : ℕ) (e : Figure) → varying_behind k e fs ≡ None) → varying_reward fs ≡ None
@@ -145,4 +142,4 @@ pub samples-steady : (net : Network) (outcomes : List Outcome) → AreOf net out
     → varying_reward (flat_map (quantity_figures queue_trio (met_states outcomes)) (queue_quantities net) ++ flat_map (quantity_figures reward_trio (met_states outcomes)) (reward_quantities net)) ≡ None
 samples-steady net outcomes are =
     behind-first (flat_map (quantity_figures queue_trio (met_states outcomes)) (queue_quantities net) ++ flat_map (quantity_figures reward_trio (met_states outcomes)) (reward_quantities net))
-    (steady (caps_of net) net.queues (reward_quantities net) (met_states outcomes) (sym (length-map net.queues (λ q. q.capacity))) (met-below net outcomes are.samples))
+    (steady (caps_of net) net.queues (reward_quantities net) (met_states outcomes) (sym (length-map net.queues (λ q. q.capacity))) (met-are net outcomes are.samples).1)

@@ -1,8 +1,7 @@
 -- Walks over a list up to the first element that is wrong: two lists that are alike up to the first wrong one of the one are both wrong.
 use Rattle.std.specs.Prelude.{◌≡◌, ℕ, zero, suc, ◌+◌, ◌-◌, ◌<◌, ◌≤◌, List, [], ◌∷◌, length, Bool, false, cond, Option, Some, None}
 use Rattle.std.specs.List.{slice_get}
-use Rattle.std.proofs.Common.{sym, ◌∙◌, inl, inr, arith}
-use Rattle.std.proofs.lemmas.Bool.{cases_Bool}
+use Rattle.std.proofs.Common.{sym, ◌∙◌, arith}
 
 -- two lists are alike in their first elements
 abbrev pub Alike : {A : Type 0} → ℕ → List A → List A → Type 0
@@ -20,6 +19,11 @@ pub record Walk (S A : Type 0) : Type 0 where
   pub told : A → Bool
   pub seen : A → ℕ
 
+-- of two walks one stops at an element where it is told, and the other doesn't
+both-stop : (a b told : Bool) (k p : ℕ) (u v : Option ℕ) → cond {A = Option ℕ} a u (cond {A = Option ℕ} told (Some k) None) ≡ Some p
+    → cond {A = Option ℕ} b v (cond {A = Option ℕ} told (Some k) None) ≡ None → (told ≡ false → a ≡ b) → (u ≡ Some p → v ≡ None → ⊥) → ((a ≡ b → ⊥) → k ≡ p → ⊥) → ⊥
+both-stop a b told k p u v one two alone rest apart = grind arith
+
 module _ {S A : Type 0} (w : Walk S A) where
   -- the first place of an element that is wrong, from k on
   abbrev pub walked : ℕ → S → List A → Option ℕ
@@ -32,18 +36,15 @@ module _ {S A : Type 0} (w : Walk S A) where
   judged zero (x ∷ xs) = suc (w.seen x)
   judged (suc i) (x ∷ xs) = suc (judged i xs)
 
+  -- where no elements after it judge one, it is judged by those up to it
+  pub judged-own : ((x : A) → w.seen x ≡ 0) → (i : ℕ) (xs : List A) → judged i xs ≤ suc i
+  judged-own none i [] = omega arith
+  judged-own none zero (x ∷ xs) = rw (none x) (omega arith)
+  judged-own none (suc i) (x ∷ xs) = omega (arith, judged-own none i xs)
+
   pub walked-range : (k : ℕ) (s : S) (xs : List A) (p : ℕ) → walked k s xs ≡ Some p → (k ≤ p) × (p ≤ k + length xs)
-  walked-range k s [] p is = elim (cases_Bool (w.ends s)) [
-    | inl ends ↦ (let never : ◌≡◌ {A = Option ℕ} None (Some p) = rw ends at is in absurd cc)
-    | inr goes ↦ (let here : ◌≡◌ {A = Option ℕ} (Some k) (Some p) = rw goes at is in let at : k ≡ p = cc in (omega arith, omega arith))
-  ]
-  walked-range k s (x ∷ xs) p is = elim (cases_Bool (w.may s x xs)) [
-    | inl may ↦ (let rest = walked-range (k + 1) (w.next s x) xs p (rw may at is) in (let low = rest.0 in omega arith, let high = rest.1 in omega arith))
-    | inr stops ↦ elim (cases_Bool (w.told x)) [
-      | inl told ↦ (let here : ◌≡◌ {A = Option ℕ} (Some k) (Some p) = rw (stops, told) at is in let at : k ≡ p = cc in (omega arith, omega arith))
-      | inr none ↦ (let never : ◌≡◌ {A = Option ℕ} None (Some p) = rw (stops, none) at is in absurd cc)
-    ]
-  ]
+  walked-range k s [] p is = grind arith
+  walked-range k s (x ∷ xs) p is = grind (arith, walked-range (k + 1) (w.next s x) xs p)
 
   -- what an element is judged by; one that isn't told is judged by itself alone
   pub record IsLocal : Type 0 where
@@ -59,27 +60,10 @@ module _ {S A : Type 0} (w : Walk S A) where
       let same : x ≡ y = (let e = alike 0 (omega arith) in cc) in
       let own : walked k s (x ∷ ys) ≡ None = rw same right in
       let near = is.near s x xs ys (λ j less. alike (suc j) (omega arith)) in
-      elim (cases_Bool (w.may s x xs)) [
-        | inl may ↦ (let low = (walked-range (k + 1) (w.next s x) xs p (rw may at wrong)).0 in omega arith)
-        | inr stops ↦ (
-            let first : cond {A = Option ℕ} (w.told x) (Some k) None ≡ Some p = rw stops at wrong in
-            let second : cond {A = Option ℕ} (w.told x) (Some k) None ≡ None = rw (← near, stops) at own in
-            let e : ◌≡◌ {A = Option ℕ} (Some p) None = sym first ∙ second in
-            absurd cc)
-      ]
+      both-stop (w.may s x xs) (w.may s x ys) (w.told x) k p (walked (k + 1) (w.next s x) xs) (walked (k + 1) (w.next s x) ys) wrong own (λ none. near)
+      (λ one two. (let low = (walked-range (k + 1) (w.next s x) xs p one).0 in omega arith)) (λ apart e. apart near)
   walked-wrong is (x ∷ xs) (y ∷ ys) k (suc i) p m s wrong at right few alike =
       let same : x ≡ y = (let e = alike 0 (omega arith) in cc) in
       let own : walked k s (x ∷ ys) ≡ None = rw same right in
-      elim (cases_Bool (w.may s x xs)) [
-        | inl may ↦ elim (cases_Bool (w.may s x ys)) [
-          | inl both ↦ walked-wrong is xs ys (k + 1) i p (m - 1) (w.next s x) (rw may at wrong) (omega arith) (rw both at own) (omega arith) (λ j less. alike (suc j) (omega arith))
-          | inr other ↦ elim (cases_Bool (w.told x)) [
-            | inl told ↦ (let e : ◌≡◌ {A = Option ℕ} (Some k) None = rw (other, told) at own in absurd cc)
-            | inr none ↦ (let e = is.alone s x xs ys none in absurd cc)
-          ]
-        ]
-        | inr stops ↦ elim (cases_Bool (w.told x)) [
-          | inl told ↦ (let e : ◌≡◌ {A = Option ℕ} (Some k) (Some p) = rw (stops, told) at wrong in let here : k ≡ p = cc in omega arith)
-          | inr none ↦ (let e : ◌≡◌ {A = Option ℕ} None (Some p) = rw (stops, none) at wrong in absurd cc)
-        ]
-      ]
+      both-stop (w.may s x xs) (w.may s x ys) (w.told x) k p (walked (k + 1) (w.next s x) xs) (walked (k + 1) (w.next s x) ys) wrong own (is.alone s x xs ys)
+      (λ one two. walked-wrong is xs ys (k + 1) i p (m - 1) (w.next s x) one (omega arith) two (omega arith) (λ j less. alike (suc j) (omega arith))) (λ apart e. omega arith)

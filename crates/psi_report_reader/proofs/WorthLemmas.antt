@@ -1,5 +1,5 @@
 -- How much a reward makes of a state at most.
-use Rattle.std.specs.Prelude.{◌≡◌, ℕ, suc, ◌+◌, ◌*◌, ◌≤◌, ℤ, pos, ◌+ℤ◌, List, [], ◌∷◌, ◌++◌, length, map, nat_lt, slice_index, slice_index_or, All, unsigned_abs, int_lt, Bool, true, false, None, refl}
+use Rattle.std.specs.Prelude.{◌≡◌, ℕ, suc, ◌*◌, ◌≤◌, ℤ, pos, ◌+ℤ◌, List, [], ◌∷◌, ◌++◌, length, map, nat_lt, slice_index, slice_index_or, All, unsigned_abs, int_lt, Bool, true, false, None}
 use Rattle.std.specs.List.{flat_map}
 use Rattle.std.proofs.Common.{inl, inr, arith}
 use Rattle.std.proofs.lemmas.Bool.{cases_lt, cond_both, le-leb}
@@ -61,9 +61,7 @@ entry-few row v small = elim (cases_lt v (length row)) [
 ]
 
 sum-few : (y z : ℤ) (n : ℕ) → IsOne y → unsigned_abs z ≤ n * 65535000000000 → unsigned_abs (y +ℤ z) ≤ suc n * 65535000000000
-sum-few y z n one rest =
-    let both : unsigned_abs (y +ℤ z) ≤ unsigned_abs y + unsigned_abs z = omega (arith, ints) in
-    omega arith
+sum-few y z n one rest = omega (arith, ints)
 
 linear-few : (weights : List ℤ) (vs : List ℕ) → All IsSmall weights → AreFew vs → unsigned_abs (added (map weighted weights) vs) ≤ length vs * 65535000000000
 linear-few [] vs small few = omega (arith, ints)
@@ -101,16 +99,13 @@ greatest-few (v ∷ vs) few = (let one : unsigned_abs (greatest (map pos (v ∷ 
 
 -- no queue is listed twice, so no more than there are
 once-listed : (none : Bool) (repeat fits : Bool) → first_refusal none repeat fits ≡ None → repeat ≡ false
-once-listed true repeat fits is = absurd cc
-once-listed false true fits is = absurd cc
-once-listed false false fits is = refl
+once-listed none repeat fits is = grind arith
 
 few-queues : (caps : List ℕ) (kind : RewardKind) → AreCapacities caps → IsReward caps kind → length (queues_of kind) ≤ 32
 few-queues caps kind are is =
     let once = once-listed (is_none_listed (queues_of kind)) (repeats (queues_of kind)) (has_lengths caps kind) is.accepted in
     let count : length (queues_of kind) ≤ length caps = few_places (length caps) (length (queues_of kind)) (λ i. slice_index (queues_of kind) i) (λ i less. is.queues i 0 less)
     (λ i j first second same. apart-from_repeats (queues_of kind) i j once first second same) in
-    let most = are.few in
     omega arith
 
 worth-most : (caps : List ℕ) (kind : RewardKind) (x : List ℕ) → AreCapacities caps → IsReward caps kind → AreFew (held (queues_of kind) x) → length (held (queues_of kind) x) ≤ 32 → IsFew (worth_of kind x)

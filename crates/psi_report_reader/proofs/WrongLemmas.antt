@@ -18,7 +18,7 @@ use Rattle.psi_report_reader.specs.Reading.{IsReport}
 use Rattle.psi_report_reader.specs.Sound.{is_sum, horizons_flaw, first_flaw, line_at, figures_line, rows_line, flaw_of}
 use Rattle.psi_report_reader.specs.Lines.{IsNumbered, begins_with_sum, lines_judged, WrongLinesAreNone}
 use Rattle.psi_report_reader.proofs.SampleLemmas.{samples-fit}
-use Rattle.psi_report_reader.proofs.SoundLemmas.{report-sound}
+use Rattle.psi_report_reader.proofs.SoundLemmas.{report_sound}
 use Rattle.psi_report_reader.proofs.FieldLemmas.{FitsCount, FitsFigure, last_line, rows-alike, lines-few, number-same, count-same, figure-same, count-figure, count-last, figure-last}
 use Rattle.psi_report_reader.proofs.RightLemmas.{right-parts}
 use Rattle.psi_report_reader.proofs.WalkLemmas.{Alike, alike-fewer, judged}
@@ -127,12 +127,7 @@ unfolding lines_judged contents_rows number_rows
 judged-figure c n i =
     let counts : length (map count_row c.horizons) ≡ length c.horizons = length-map c.horizons count_row in
     let at : 5 + length c.horizons + i - 1 ≡ suc (suc (suc (suc (length (map count_row c.horizons) + i)))) = omega arith in
-    let lines = figure-lines n c.figures i in
-    rw (at, drop-append-add (map count_row c.horizons) (map figure_row c.figures) i)
-    (elim (cases_Bool (begins_with_sum (drop i (map figure_row c.figures)))) [
-      | inl is ↦ (let own : judged (figure_walk n) i c.figures ≡ suc i + 2 = rw is at lines in rw is (omega arith))
-      | inr is ↦ (let own : judged (figure_walk n) i c.figures ≡ suc i + 0 = rw is at lines in rw is (omega arith))
-    ])
+    rw (at, drop-append-add (map count_row c.horizons) (map figure_row c.figures) i) (grind (arith, figure-lines n c.figures i))
 
 -- ---- two reports
 
@@ -176,5 +171,5 @@ pub wrong_lines : WrongLinesAreNone
 wrong_lines c line numbered wrong net outcomes are few alike =
     let other = samples-fit net outcomes are few in
     let least = judged-least c line in
-    lines-wrong c (contents_of net outcomes) numbered other (report-sound net outcomes are) line
+    lines-wrong c (contents_of net outcomes) numbered other (report_sound net outcomes are) line
     (λ three. tell-alike (lines_judged c line) c (contents_of net outcomes) numbered.report other (omega arith) (rows-alike (lines_judged c line) c (contents_of net outcomes) numbered.report other alike)) wrong

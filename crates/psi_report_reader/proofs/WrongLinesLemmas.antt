@@ -10,7 +10,7 @@ use Rattle.psi_report.specs.declared.figure.Figure.{Figure}
 use Rattle.psi_report_reader.specs.Sound.{is_next, horizons_flaw, is_sum, is_alike, agrees_behind, may_begin, sum_stands, may_stand, may_end, flaw_behind, figures_flaw, varies, if_reward, varying_behind, varying_reward, first_of, first_flaw}
 use Rattle.psi_report_reader.specs.Merging.{difference}
 use Rattle.psi_report_reader.proofs.GroupLemmas.{begin-sum}
-use Rattle.psi_report_reader.proofs.WalkLemmas.{Alike, Walk, walked, judged, walked-range, walked-wrong}
+use Rattle.psi_report_reader.proofs.WalkLemmas.{Alike, Walk, walked, judged, judged-own, walked-range, walked-wrong}
 use Rattle.psi_report_reader.proofs.OrderLemmas.{by_order}
 
 -- ---- horizons
@@ -30,12 +30,7 @@ horizons-range left p cs is = (let most = (walked-range horizon_walk 0 (None, le
 pub horizons-wrong : (left i : ℕ) (cs ds : List HorizonCount) → horizons_flaw 0 None left cs ≡ Some i → horizons_flaw 0 None left ds ≡ None → Alike (suc i) cs ds → ⊥
 horizons-wrong left i cs ds wrong right alike =
     walked-wrong horizon_walk (record { near = λ s c xs ys same. refl; alone = λ s c xs ys none. refl }) cs ds 0 i i (suc i) (None, left)
-    (sym (horizons-walked 0 None left cs) ∙ wrong) (omega arith) (sym (horizons-walked 0 None left ds) ∙ right) (few cs i) alike
-  where
-    few : (cs : List HorizonCount) (i : ℕ) → judged horizon_walk i cs ≤ suc i
-    few [] i = omega arith
-    few (c ∷ cs) zero = omega arith
-    few (c ∷ cs) (suc i) = (let rest = few cs i in omega arith)
+    (sym (horizons-walked 0 None left cs) ∙ wrong) (omega arith) (sym (horizons-walked 0 None left ds) ∙ right) (judged-own horizon_walk (λ c. refl) i cs) alike
 
 -- ---- figures
 
@@ -192,9 +187,4 @@ difference-range p fs gs is = (let most = (walked-range sum_walk 0 fs gs p (sym 
 pub difference-wrong : (i : ℕ) (fs gs hs : List Figure) → difference 0 fs gs ≡ Some i → difference 0 fs hs ≡ None → Alike (suc i) gs hs → ⊥
 difference-wrong i fs gs hs wrong right alike =
     walked-wrong sum_walk (record { near = λ s g xs ys same. refl; alone = λ s g xs ys none. refl }) gs hs 0 i i (suc i) fs
-    (sym (difference-walked 0 fs gs) ∙ wrong) (omega arith) (sym (difference-walked 0 fs hs) ∙ right) (few gs i) alike
-  where
-    few : (gs : List Figure) (i : ℕ) → judged sum_walk i gs ≤ suc i
-    few [] i = omega arith
-    few (g ∷ gs) zero = omega arith
-    few (g ∷ gs) (suc i) = (let rest = few gs i in omega arith)
+    (sym (difference-walked 0 fs gs) ∙ wrong) (omega arith) (sym (difference-walked 0 fs hs) ∙ right) (judged-own sum_walk (λ g. refl) i gs) alike

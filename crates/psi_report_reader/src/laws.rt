@@ -18,12 +18,14 @@ pub fn text_is_read()
 
 /// The report of less than 2^32 samples of a network, whose values have 64 bits, is read as its contents; and so is
 /// that of less than 2^64 samples of a network that a file may describe.
+#[tactic(auto, using(crate::proofs::SmallLemmas::report_is_read, crate::proofs::SampleLemmas::samples_read))]
 pub fn report_is_read()
     ensures measured { ReportIsRead }
     ensures sampled { SamplesAreRead }
 {}
 
 /// The report of less than 2^64 samples of a network that a file may describe has at most 32,768 bytes.
+#[tactic(auto, using(crate::proofs::ShortLemmas::reports_short))]
 pub fn reports_are_short()
     ensures { ReportsAreShort }
 {}
@@ -31,6 +33,7 @@ pub fn reports_are_short()
 /// The reports of two lists of samples of one network, less than 2^32 together, whose values have 64 bits, are merged
 /// into the report of both lists, one after another; and so are those of less than 2^64 samples together of a
 /// network that a file may describe.
+#[tactic(auto, using(crate::proofs::MergeLawLemmas::reports_merged, crate::proofs::SampleLemmas::samples_merged))]
 pub fn reports_are_merged()
     ensures measured { ReportsAreMerged }
     ensures sampled { SamplesAreMerged }
@@ -38,6 +41,7 @@ pub fn reports_are_merged()
 
 /// The report of samples of a network that a file may describe has no line that no report of samples has there:
 /// [`flaw_of`](crate::flaw_of) answers none of it.
+#[tactic(auto, using(crate::proofs::SoundLemmas::report_sound))]
 pub fn report_is_sound()
     ensures { ReportIsSound }
 {}
