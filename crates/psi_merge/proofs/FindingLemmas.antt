@@ -44,13 +44,9 @@ report-found most at (Some bytes) name read result front is =
 
 -- a file that couldn't be read
 pub unread-may : (name : List ℕ) (ending : Ending) (whole : Result Contents Reply) → IsUnreadOf name ending → MayEnd ending whole
-unread-may name (Merged text) whole is = is
-unread-may name Usage whole is = is
-unread-may name (Refused line) whole is = absurd is
-unread-may name (OtherNetwork line) whole is = absurd is
-unread-may name (TooLarge line) whole is = absurd is
 unread-may name (Unread line) whole is = tt
 unread-may name OutOfMemory whole is = tt
+unread-may name ending whole is = absurd is
 
 unread-missed : (shelf : ShelfSeen) (name : List ℕ) (ending : Ending) → IsUnreadOf name ending → IsUnread shelf name → IsMissed shelf name ending
 unread-missed shelf name (Merged text) is rose = is
@@ -73,13 +69,11 @@ unread-found shelf name found ending is rose = record {
 may-go_on : (next : Contents → Option (Result Contents Reply)) (t : Option (Result Contents Reply)) (ending : Ending) → IfSome t (MayBe (Err ending)) → IfSome (go_on next t) (MayBe (Err ending))
 may-go_on next None ending may = tt
 may-go_on next (Some (Err reply)) ending may = may
-may-go_on next (Some (Ok c)) (Merged text) may = absurd may
-may-go_on next (Some (Ok c)) Usage may = absurd may
-may-go_on next (Some (Ok c)) (Refused line) may = absurd cc
-may-go_on next (Some (Ok c)) (OtherNetwork line) may = absurd cc
-may-go_on next (Some (Ok c)) (TooLarge line) may = absurd cc
 may-go_on next (Some (Ok c)) (Unread line) may = may-some (next c) (Unread line) (λ whole. tt)
 may-go_on next (Some (Ok c)) OutOfMemory may = may-some (next c) OutOfMemory (λ whole. tt)
+may-go_on next (Some (Ok c)) (Merged text) may = absurd may
+may-go_on next (Some (Ok c)) Usage may = absurd may
+may-go_on next (Some (Ok c)) ending may = absurd cc
 
 -- a report is gone on with
 ok-go_on : (next : Contents → Option (Result Contents Reply)) (t : Option (Result Contents Reply)) (c : Contents) (Is : Result Contents Reply → Type 0)
@@ -203,23 +197,17 @@ has-all view told first names whole i past has = rw (← take_all i names past) 
 -- one more read
 pub asked-more : (before between after : List Read) (names : List (List ℕ)) (name : List ℕ) → between ≡ before ++ map read_of names → after ≡ between ++ read_of name ∷ []
     → after ≡ before ++ map read_of (names ++ name ∷ [])
-asked-more before between after names name earlier last =
-    last ∙ ap (λ (reads : List Read). reads ++ read_of name ∷ []) earlier ∙ append_assoc before (map read_of names) (read_of name ∷ [])
-    ∙ ap (λ (reads : List Read). before ++ reads) (sym (map-append read_of names (name ∷ [])))
+asked-more before between after names name earlier last = simp (last, earlier, append_assoc, map-append)
 
 -- more reads after the first
 asked-behind : (before between after : List Read) (name : List ℕ) (names : List (List ℕ)) → between ≡ before ++ read_of name ∷ [] → after ≡ between ++ map read_of names
     → after ≡ before ++ map read_of (name ∷ names)
-asked-behind before between after name names first rest =
-    rest ∙ ap (λ (reads : List Read). reads ++ map read_of names) first ∙ append_assoc before (read_of name ∷ []) (map read_of names)
+asked-behind before between after name names first rest = simp (rest, first, append_assoc)
 
 -- one more of the names that are asked for one after another
 pub asked-next : {S : Type 0} (view : S → List ℕ) (names : List S) (i : ℕ) (x : S) → i < length names → x ≡ get_or names i x → (before between after : List Read)
     → between ≡ before ++ map read_of (map view (take i names)) → after ≡ between ++ read_of (view x) ∷ [] → after ≡ before ++ map read_of (map view (take (i + 1) names))
-asked-next view names i x small is before between after earlier last =
-    asked-more before between after (map view (take i names)) (view x) earlier last
-    ∙ ap (λ (y : _). before ++ map read_of (map view (take i names) ++ view y ∷ [])) is
-    ∙ ap (λ (done : List (List ℕ)). before ++ map read_of done) (sym (map_more view names i x small))
+asked-next view names i x small is before between after earlier last = simp (last, earlier, append_assoc, map_more view names i x small, ← is, map-append)
 
 pub asked-all : {S : Type 0} (view : S → List ℕ) (names : List S) (i : ℕ) → length names ≤ i → (before after : List Read) → after ≡ before ++ map read_of (map view (take i names))
     → after ≡ before ++ map read_of (map view names)
@@ -232,12 +220,9 @@ missed-over : (told other_told : List ℕ → Option (List ℕ)) (asked_before a
     → IsMissed (record { told = told; asked_before = asked_before; asked_after = asked_after; faults_before = before; faults_after = after }) name ending
 missed-over told other_told asked_before asked_between asked_after before between after counts name (Merged text) missed = missed
 missed-over told other_told asked_before asked_between asked_after before between after counts name Usage missed = missed
-missed-over told other_told asked_before asked_between asked_after before between after counts name (Refused line) missed = tt
-missed-over told other_told asked_before asked_between asked_after before between after counts name (OtherNetwork line) missed = tt
-missed-over told other_told asked_before asked_between asked_after before between after counts name (TooLarge line) missed = tt
 missed-over told other_told asked_before asked_between asked_after before between after counts name (Unread line) missed =
     (rose-over (before name) (between name) (after name) (after name) (counts name) missed.0 (omega arith), missed.1)
-missed-over told other_told asked_before asked_between asked_after before between after counts name OutOfMemory missed = tt
+missed-over told other_told asked_before asked_between asked_after before between after counts name ending missed = tt
 
 -- the first file, and those after it
 abbrev pub next-first : (told : List ℕ → Option (List ℕ)) (name : List ℕ) (names : List (List ℕ)) → IsNext (whole_of told) (name ∷ names) name
@@ -414,11 +399,9 @@ ended-merged shelf words text c are found is =
 may-reply : (ending : Ending) (whole : Result Contents Reply) → MayEnd ending whole → MayReply (ending_of ending) (whole_reply whole)
 may-reply (Merged text) whole may = absurd may
 may-reply Usage whole may = absurd may
-may-reply (Refused line) whole may = rw may refl
-may-reply (OtherNetwork line) whole may = rw may refl
-may-reply (TooLarge line) whole may = rw may refl
 may-reply (Unread line) whole may = tt
 may-reply OutOfMemory whole may = tt
+may-reply ending whole may = rw may refl
 
 -- a line on a file is a reply to words that are files
 line-own : (words : List (List ℕ)) (code : Status) (line : List ℕ) → are_files words ≡ true → IsReplied code → (code ≡ status.Usage → ⊥) → (code ≡ status.Done → ⊥)
@@ -445,11 +428,7 @@ missed-cause shelf words OutOfMemory are missed = are
 not-done : (shelf : ShelfSeen) (name : List ℕ) (ending : Ending) → IsMissed shelf name ending → (ending_reply ending).status ≡ status.Done → ⊥
 not-done shelf name (Merged text) missed is = absurd missed
 not-done shelf name Usage missed is = absurd missed
-not-done shelf name (Refused line) missed is = absurd cc
-not-done shelf name (OtherNetwork line) missed is = absurd cc
-not-done shelf name (TooLarge line) missed is = absurd cc
-not-done shelf name (Unread line) missed is = absurd cc
-not-done shelf name OutOfMemory missed is = absurd cc
+not-done shelf name ending missed is = absurd cc
 
 pub ended-missed : (shelf : ShelfSeen) (words : List (List ℕ)) (ending : Ending) → are_files words ≡ true → AreFound shelf (whole_of shelf.told) words (Err ending)
     → IsEnding shelf words (ending_of ending)
