@@ -2,7 +2,7 @@
 use Rattle.std.specs.Prelude.{◌≡◌, ℕ, ◌+◌, List, ◌++◌, map, length}
 use Rattle.psi_state.specs.declared.Outcome.{Outcome}
 use Rattle.psi_net_model.specs.Network.{Network}
-use Rattle.psi_report.specs.Report.{report_text, contents_of}
+use Rattle.psi_report.specs.Report.{report_text}
 use Rattle.psi_report.specs.Text.{text_of, rows_text}
 use Rattle.psi_reply.specs.Report.{samples_of}
 use Rattle.psi_table.specs.Table.{quantities, outcome_fields, stream_rows, table_text}
