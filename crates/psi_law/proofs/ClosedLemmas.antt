@@ -38,9 +38,7 @@ use Rattle.psi_law.proofs.NetworkLemmas.{rates-count}
 after-first : (caps : List ℕ) (k : ℕ) (f g : Functions) (t : ℕ) (xs : List (List ℕ)) → ((j : ℕ) → j < t → f (suc j) ≡ g (suc j))
     → closed_after caps k f t xs ≡ closed_after caps k g t xs
 after-first caps k f g zero xs same = refl
-after-first caps k f g (suc t) xs same =
-    after-first caps k f g t (arc_hull caps k (image (f (suc t)) xs)) (λ j small. same j (omega arith))
-    ∙ ap (λ (h : List ℕ → List ℕ). closed_after caps k g t (arc_hull caps k (image h xs))) (same t (omega arith))
+after-first caps k f g (suc t) xs same = rw (same t (omega arith)) (after-first caps k f g t (arc_hull caps k (image (g (suc t)) xs)) (λ j small. same j (omega arith)))
 
 ending-first : (caps : List ℕ) (k : ℕ) (f g : Functions) (t : ℕ) → ((j : ℕ) → j < t → f (suc j) ≡ g (suc j)) → closed_ending caps k f t ≡ closed_ending caps k g t
 unfolding closed_run
@@ -52,9 +50,7 @@ after-append : (caps : List ℕ) (k : ℕ) (f : Functions) (n d : ℕ) (xs : Lis
 after-append caps k f n zero xs = (let e : n + zero ≡ n = omega arith in ap (λ m. closed_after caps k f m xs) e)
 after-append caps k f n (suc d) xs =
     let e : n + suc d ≡ suc (n + d) = omega arith in
-    ap (λ m. closed_after caps k f m xs) e
-    ∙ (after-append caps k f n d (arc_hull caps k (image (f (suc (n + d))) xs))
-    ∙ ap (λ m. closed_after caps k f n (closed_after caps k (λ i. f (n + i)) d (arc_hull caps k (image (f m) xs)))) (sym e))
+    rw e (after-append caps k f n d (arc_hull caps k (image (f (suc (n + d))) xs)))
 
 -- the arc hull of one state is that state: another state with its arcs has the same number in each queue
 hull-one : (caps : List ℕ) (k : ℕ) (y : List ℕ) → IsOfTotal caps k y → arc_hull caps k (y ∷ []) ≡ y ∷ []

@@ -97,8 +97,7 @@ first-times out inward part under = elim (cases_Bool (nat_eq out 0)) [
   | inl none ↦
       (let zero_out = eqb-true out 0 none in
       let zero_part : part ≡ 0 = omega arith in
-      let left : first_weight out inward * part ≡ first_weight out inward * 0 = ap (λ n. first_weight out inward * n) zero_part in
-      let right : inward * part ≡ inward * 0 = ap (λ n. inward * n) zero_part in omega arith)
+      rw zero_part (omega arith))
   | inr some ↦ ap (λ (b : Bool). (if b then 1 else inward) * part) some
 ]
 

@@ -16,10 +16,9 @@ unfolding joined
 sum_pasts-joined bound zero k g = (let e : zero + k ≡ k = omega arith in ap (λ m. sum_pasts bound m g) e)
 sum_pasts-joined bound (suc n) k g =
     let e : suc n + k ≡ suc (n + k) = omega arith in
-    ap (λ m. sum_pasts bound m g) e
-    ∙ sum-same (sum_below bound) (sum_below-is bound) (λ word. sum_pasts bound (n + k) (λ past. g (after word past)))
+    rw e (sum-same (sum_below bound) (sum_below-is bound) (λ word. sum_pasts bound (n + k) (λ past. g (after word past)))
     (λ word. sum_pasts bound n (λ p. sum_pasts bound k (λ q. g (after word (joined n p q)))))
-    (λ word. sum_pasts-joined bound n k (λ past. g (after word past)))
+    (λ word. sum_pasts-joined bound n k (λ past. g (after word past))))
 
 -- where a joined past has a property only if its newer and its older words have two others, at most the product of their counts has it
 pub count_pasts-joined : (bound n k : ℕ) (both newer older : Words → Bool)
@@ -35,10 +34,8 @@ count_pasts-joined bound n k both newer older each =
     let order = new.order (λ p. sum_pasts bound k (λ q. one_if (both (joined n p q)))) (λ p. c * one p)
     (λ p. (let inner = old.order (λ q. one_if (both (joined n p q))) (λ q. one p * other q) (each p) in
     let out = sum-times (sum_pasts bound k) old (one p) other in
-    let turn : c * one p ≡ one p * c = omega arith in
     omega arith)) in
     let out = sum-times (sum_pasts bound n) new c one in
-    let turn : c * count_pasts bound n newer ≡ count_pasts bound n newer * c = omega arith in
     omega arith
 
 -- the words of a joined past

@@ -77,10 +77,9 @@ module _ (chain : Chain) (weight : List ℕ → ℕ) (n : ℕ) (end : Words → 
         → whole chain weight * (sum_met sample n up + l * unmet sample n) + weighted chain weight down * word_count ^ n
         ≤ whole chain weight * (sum_met sample n down + m * unmet sample n) + weighted chain weight up * word_count ^ n
     parts-mean up down l m under =
-        let all = sums-between (λ past. value_met up (sample past) + l * one_if (is_unmet (sample past))) (λ past. value_met down (sample past) + m * one_if (is_unmet (sample past))) up down
-        (λ past x own. met-parts (sample past) (end past x) up down l m (under (end past x) (steady.keeps past x own)) (meets past x own)) in
-        let left = ap (λ (k : ℕ). whole chain weight * k) (bound-sum sample n up l) in
-        let right = ap (λ (k : ℕ). whole chain weight * k) (bound-sum sample n down m) in omega arith
+        rw (bound-sum sample n up l, bound-sum sample n down m) at (sums-between (λ past. value_met up (sample past) + l * one_if (is_unmet (sample past)))
+        (λ past. value_met down (sample past) + m * one_if (is_unmet (sample past))) up down
+        (λ past x own. met-parts (sample past) (end past x) up down l m (under (end past x) (steady.keeps past x own)) (meets past x own)))
 
     pub mean-is : (value : List ℕ → ℕ) (low high : ℕ) → ((x : List ℕ) → In x chain.states → low ≤ value x) → ((x : List ℕ) → In x chain.states → value x ≤ high)
         → HasMean sample n chain weight value low high

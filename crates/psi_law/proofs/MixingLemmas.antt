@@ -79,9 +79,7 @@ module _ (chain : Chain) (is : IsChain chain) (n : ℕ) where
         let order = sum_by-order chain.states (λ y. distance (all * pasts_between chain n x y) (weight y * word_count ^ n))
         (λ y. all * apart_between x y + weighted chain weight (λ z. apart_between z y)) each-near in
         let both = over.more (λ y. all * apart_between x y) (λ y. weighted chain weight (λ z. apart_between z y)) in
-        let own_part = sum-times (λ (g : List ℕ → ℕ). sum_by g chain.states) over all (λ y. apart_between x y) in
-        let one = apart_between-sum x own in
-        let own_all : all * sum_by (λ y. apart_between x y) chain.states ≡ all * apart chain n = ap (λ k. all * k) one in
+        let own_part = rw (apart_between-sum x own) at (sum-times (λ (g : List ℕ → ℕ). sum_by g chain.states) over all (λ y. apart_between x y)) in
         let others = weighted-swap (λ (g : List ℕ → ℕ). sum_by g chain.states) over chain weight (λ z y. apart_between z y) in
         let each = weighted-same chain weight (λ z. sum_by (λ y. apart_between z y) chain.states) (λ z. apart chain n) (λ z there. apart_between-sum z there) in
         let constant = sum_by-out chain.states weight (apart chain n) in omega arith

@@ -39,18 +39,14 @@ use Rattle.psi_law.proofs.LawfulLemmas.{AreLawful, runs-lawful}
 -- a run looks at the functions of its own steps alone
 pub follow-first : (split : ℕ) (f g : Functions) (t : ℕ) (a : Area) → ((k : ℕ) → k < t → f (suc k) ≡ g (suc k)) → follow split f t a ≡ follow split g t a
 follow-first split f g zero a same = refl
-follow-first split f g (suc t) a same =
-    follow-first split f g t (step split (f (suc t)) a) (λ k small. same k (omega arith))
-    ∙ ap (λ (h : List ℕ → List ℕ). follow split g t (step split h a)) (same t (omega arith))
+follow-first split f g (suc t) a same = rw (same t (omega arith)) (follow-first split f g t (step split (g (suc t)) a) (λ k small. same k (omega arith)))
 
 -- the older steps of a run come first
 follow-append : (split : ℕ) (f : Functions) (n k : ℕ) (a : Area) → follow split f (n + k) a ≡ follow split f n (follow split (λ i. f (n + i)) k a)
 follow-append split f n zero a = (let e : n + zero ≡ n = omega arith in ap (λ m. follow split f m a) e)
 follow-append split f n (suc k) a =
     let e : n + suc k ≡ suc (n + k) = omega arith in
-    ap (λ m. follow split f m a) e
-    ∙ (follow-append split f n k (step split (f (suc (n + k))) a)
-    ∙ ap (λ m. follow split f n (follow split (λ i. f (n + i)) k (step split (f m) a))) (sym e))
+    rw e (follow-append split f n k (step split (f (suc (n + k))) a))
 
 -- a region of one state stays one
 follow-one : (split : ℕ) (f : Functions) (t : ℕ) (b : Bool) (s : List ℕ) → 1 ≤ split → (follow split f t (record { is_split = b; states = s ∷ [] })).states ≡ compose f t s ∷ []

@@ -1,6 +1,6 @@
 -- Where some past couples, weights that balance have the same parts: both are near the counts of the ends of long runs.
 use Rattle.std.specs.Prelude.{◌≡◌, ℕ, zero, suc, ◌+◌, ◌-◌, ◌*◌, ◌^◌, ◌<◌, ◌≤◌, List}
-use Rattle.std.proofs.Common.{ap, arith}
+use Rattle.std.proofs.Common.{arith}
 use Rattle.std.proofs.Math.Nat.{pow-zero, pow-succ', mul-le-mul_left}
 use Rattle.psi_law.specs.Counting.{distance}
 use Rattle.psi_law.specs.Wheel.{word_count}
@@ -15,17 +15,12 @@ use Rattle.psi_law.proofs.MixingLemmas.{chain-mixes}
 
 -- so many words, j times
 apart-power : (chain : Chain) → ApartFalls chain → (n j : ℕ) → apart chain (j * n) ≤ apart chain n ^ j
-apart-power chain falls n zero =
-    let z : zero * n ≡ 0 = omega arith in
-    let e : apart chain (zero * n) ≡ apart chain 0 = ap (apart chain) z in
-    let p = pow-zero (apart chain n) in
-    let one = at_most_one (are_apart chain 0 (λ k. 0)) in omega arith
+apart-power chain falls n zero = (let z : zero * n ≡ 0 = omega arith in rw (z, pow-zero (apart chain n)) (at_most_one (are_apart chain 0 (λ k. 0))))
 apart-power chain falls n (suc j) =
     let z : suc j * n ≡ n + j * n = omega arith in
-    let e : apart chain (suc j * n) ≡ apart chain (n + j * n) = ap (apart chain) z in
     let rest = mul-le-mul_left (apart chain n) (apart-power chain falls n j) in
     let fall = falls n (j * n) in
-    let p = pow-succ' (apart chain n) j in omega arith
+    rw (z, pow-succ' (apart chain n) j) (omega arith)
 
 -- weights x and y, of all and rest, are near the same count b of p ends, but for u
 parts-near : (x y all rest b p u : ℕ) → x * p ≤ all * b + 2 * (all * u) → rest * b ≤ y * p + 2 * (rest * u) → x * rest * p ≤ y * all * p + 4 * (all * rest) * u
@@ -57,8 +52,7 @@ module _ (chain : Chain) (is : IsChain chain) (s : List ℕ) (own : Own chain s)
       let both = parts-near (weight s) (other s) all rest b p (apart chain k) (omega arith) (omega arith) in
       let fall : 4 * (all * rest) * apart chain k ≤ 4 * (all * rest) * u ^ j = mul-le-mul_left (4 * (all * rest)) (apart-power chain (apart-falls chain is.finite) n j) in
       let left : d * p ≤ 4 * (all * rest) * u ^ j = less-times (weight s * rest) (other s * all) p (4 * (all * rest) * u ^ j) (omega arith) in
-      let times : d * p ≡ d * (word_count ^ n) ^ j = ap (λ i. d * i) (pow-times word_count n j) in
-      omega arith)) in
+      rw (← pow-times word_count n j) left)) in
       omega arith
 
 pub balance-one : (chain : Chain) → IsChain chain → BalanceIsOne chain

@@ -7,27 +7,16 @@ use Rattle.std.proofs.lemmas.Bool.{cases_lt}
 
 -- the powers of the next number grow by more than a part each (Bernoulli's inequality)
 bernoulli : (b k : ℕ) → b ^ k * (b + k) ≤ suc b ^ k * b
-bernoulli b zero =
-    let p : b ^ zero * (b + zero) ≡ 1 * (b + zero) = ap (λ m. m * (b + zero)) (pow-zero b) in
-    let q : suc b ^ zero * b ≡ 1 * b = ap (λ m. m * b) (pow-zero (suc b)) in omega arith
+bernoulli b zero = rw (pow-zero b, pow-zero (suc b)) (omega arith)
 bernoulli b (suc k) =
     let rest = mul-le-mul_left (suc b) (bernoulli b k) in
-    let p : b ^ suc k * (b + suc k) ≡ b * b ^ k * (b + suc k) = ap (λ m. m * (b + suc k)) (pow-succ' b k) in
-    let q : suc b ^ suc k * b ≡ suc b * suc b ^ k * b = ap (λ m. m * b) (pow-succ' (suc b) k) in
-    omega arith
+    rw (pow-succ' b k, pow-succ' (suc b) k) (omega arith)
 
 pub pow-times : (b n j : ℕ) → b ^ (j * n) ≡ (b ^ n) ^ j
-pow-times b n zero =
-    let z : zero * n ≡ 0 = omega arith in
-    let e : b ^ (zero * n) ≡ b ^ 0 = ap (λ m. b ^ m) z in
-    let p = pow-zero b in
-    let q = pow-zero (b ^ n) in omega arith
+pow-times b n zero = (let z : zero * n ≡ 0 = omega arith in rw (z, pow-zero b, pow-zero (b ^ n)) refl)
 pow-times b n (suc j) =
     let z : suc j * n ≡ n + j * n = omega arith in
-    let e : b ^ (suc j * n) ≡ b ^ (n + j * n) = ap (λ m. b ^ m) z in
-    let p = pow-add b n (j * n) in
-    let q = pow-succ' (b ^ n) j in
-    let r : b ^ n * b ^ (j * n) ≡ b ^ n * (b ^ n) ^ j = ap (λ m. b ^ n * m) (pow-times b n j) in omega arith
+    rw (z, pow-add b n (j * n), pow-succ' (b ^ n) j, pow-times b n j) refl
 
 -- what is left of a difference, as often
 pub less-times : (a b p c : ℕ) → a * p ≤ b * p + c → (a - b) * p ≤ c

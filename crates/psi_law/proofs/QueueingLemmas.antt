@@ -1,7 +1,7 @@
 -- A network for examples: one queue, which customers join and leave.
 use Rattle.std.specs.Prelude.{◌≡◌, ℕ, zero, suc, ◌-◌, ◌*◌, ◌<◌, ◌≤◌, List, [], ◌∷◌, map, slice_index, codes, refl}
 use Rattle.std.proofs.Common.{inl, inr, ap, sym, ◌∙◌, arith}
-use Rattle.std.proofs.lemmas.List.Elements.{All-nil, All-cons}
+use Rattle.std.proofs.lemmas.List.Elements.{All-nil, All-cons, All-replicate}
 use Rattle.psi_state.specs.Members.{In}
 use Rattle.psi_route.specs.declared.Full.TheVariants.{Lost}
 use Rattle.psi_kinds.specs.declared.kinds.Kind.{Kind}
@@ -62,10 +62,6 @@ rate-small zero small = (omega arith, omega arith)
 rate-small (suc zero) small = (omega arith, omega arith)
 rate-small (suc (suc i)) small = absurd (omega arith)
 
-queue-first : (i : ℕ) → i < 1 → slice_index (0 ∷ []) i ≡ 0
-queue-first zero small = refl
-queue-first (suc i) small = absurd (omega arith)
-
 pub queueing-kept : (capacity limit : ℕ) → 1 ≤ capacity → capacity ≤ 2 → limit ≤ 22 → IsNetwork (queueing capacity limit)
 unfolding refusal_of
 queueing-kept capacity limit some two most = record {
@@ -83,7 +79,7 @@ queueing-kept capacity limit some two most = record {
   };
   kinds =
       All-cons (λ e. IsAccepted (capacity ∷ []) e.kind) (event 1 (Arrival (0 ∷ []))) (event 2 (Service (record { queue = 0; k = 1 }) [] Lost) ∷ [])
-      (record { named = λ i small. (let first = queue-first i small in omega arith); accepted = refl })
+      (record { named = λ i small. All-replicate (λ queue. queue < 1) 1 0 (omega arith) i 0 small; accepted = refl })
       (All-cons (λ e. IsAccepted (capacity ∷ []) e.kind) (event 2 (Service (record { queue = 0; k = 1 }) [] Lost)) []
       (record { named = (record { queue = omega arith; least = omega arith; most = omega arith }, λ i small. absurd (omega arith)); accepted = refl })
       (All-nil (λ e. IsAccepted (capacity ∷ []) e.kind)));

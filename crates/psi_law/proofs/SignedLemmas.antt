@@ -37,8 +37,7 @@ less-parts p n = omega (arith, ints)
 more-parts : (p n u : ℕ) (l : ℤ) → up ((pos p -ℤ pos n) +ℤ (l *ℤ pos u)) + (n + negative l * u) ≡ down ((pos p -ℤ pos n) +ℤ (l *ℤ pos u)) + (p + positive l * u)
 more-parts p n u l =
     let e = positive-up l in
-    let a : positive l * u ≡ up l * u = ap (λ m. m * u) e.0 in
-    let b : negative l * u ≡ down l * u = ap (λ m. m * u) e.1 in omega (arith, ints)
+    rw (e.0, e.1) (omega (arith, ints))
 
 pub signed-mean : (chain : Chain) (weight : List ℕ → ℕ) (n : ℕ) (end : Words → List ℕ → List ℕ) → IsSteady chain weight n end → (sample : Words → Outcome)
     → ((past : Words) (x : List ℕ) → Own chain x → MeetsAt (end past x) (sample past)) → (value : List ℕ → ℤ) (low high : ℤ)

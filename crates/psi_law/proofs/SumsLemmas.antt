@@ -3,11 +3,11 @@ use Rattle.std.specs.Prelude.{◌≡◌, ℕ, zero, suc, ◌+◌, ◌*◌, ◌%�
 use Rattle.std.specs.List.{sum_by}
 use Rattle.std.proofs.Common.{inl, inr, ap, sym, ◌∙◌, subst, arith}
 use Rattle.std.proofs.Math.Nat.{mod-eq_of_lt, add-mod_left, pow-zero, pow-succ'}
-use Rattle.std.proofs.lemmas.Bool.{cases_lt, cases_Bool, eqb-true, eqb-false}
+use Rattle.std.proofs.lemmas.Bool.{cases_lt, cases_Bool, eqb-true, eqb-false, ne_eqb, false_from_ne_true}
 use Rattle.std.proofs.lemmas.List.Sums.{sum_by-cons}
 use Rattle.psi_state.specs.Members.{In}
 use Rattle.psi_state.specs.Ascending.{IsDistinct}
-use Rattle.psi_law.specs.Counting.{Words, sum_below, after, sum_pasts}
+use Rattle.psi_law.specs.Counting.{sum_below, after, sum_pasts}
 
 -- one where it is so, and none where it isn't
 abbrev pub one_if : Bool → ℕ
@@ -37,6 +37,18 @@ sum-times sum is (suc c) g =
     let m = is.more g (λ a. c * g a) in
     let rest = sum-times sum is c g in omega arith
 
+-- one way to sum inside another
+pub nested-is : {A B C : Type 0} (outer : (A → ℕ) → ℕ) (inner : (B → ℕ) → ℕ) (join : A → B → C) → IsSum outer → IsSum inner
+    → IsSum (λ (g : C → ℕ). outer (λ a. inner (λ b. g (join a b))))
+nested-is outer inner join over under = record {
+  none = sum-same outer over (λ a. inner (λ b. 0)) (λ a. 0) (λ a. under.none) ∙ over.none;
+  more = λ g h. sum-same outer over (λ a. inner (λ b. g (join a b) + h (join a b))) (λ a. inner (λ b. g (join a b)) + inner (λ b. h (join a b)))
+      (λ a. under.more (λ b. g (join a b)) (λ b. h (join a b)))
+      ∙ over.more (λ a. inner (λ b. g (join a b))) (λ a. inner (λ b. h (join a b)));
+  order = λ g h each. over.order (λ a. inner (λ b. g (join a b))) (λ a. inner (λ b. h (join a b)))
+      (λ a. under.order (λ b. g (join a b)) (λ b. h (join a b)) (λ b. each (join a b)));
+}
+
 -- the three ways
 pub sum_below-is : (n : ℕ) → IsSum (sum_below n)
 unfolding sum_below
@@ -49,53 +61,26 @@ sum_below-is (suc n) = (let rest = sum_below-is n in record {
 
 pub sum_pasts-is : (bound n : ℕ) → IsSum (sum_pasts bound n)
 sum_pasts-is bound zero = record { none = refl; more = λ g h. refl; order = λ g h each. each (λ k. 0) }
-sum_pasts-is bound (suc n) =
-    let rest = sum_pasts-is bound n in
-    let outer = sum_below-is bound in
-    let inner : (Words → ℕ) → ℕ → ℕ = λ g word. sum_pasts bound n (λ past. g (after word past)) in
-    record {
-      none = sum-same (sum_below bound) outer (λ word. sum_pasts bound n (λ past. 0)) (λ word. 0) (λ word. rest.none) ∙ outer.none;
-      more = λ g h. sum-same (sum_below bound) outer (λ word. sum_pasts bound n (λ past. g (after word past) + h (after word past))) (λ word. inner g word + inner h word)
-          (λ word. rest.more (λ past. g (after word past)) (λ past. h (after word past)))
-          ∙ outer.more (inner g) (inner h);
-      order = λ g h each. outer.order (inner g) (inner h)
-          (λ word. rest.order (λ past. g (after word past)) (λ past. h (after word past)) (λ past. each (after word past)));
-    }
+sum_pasts-is bound (suc n) = nested-is (sum_below bound) (sum_pasts bound n) after (sum_below-is bound) (sum_pasts-is bound n)
 
 pub sum_by-is : {A : Type 0} (xs : List A) → IsSum (λ (g : A → ℕ). sum_by g xs)
 sum_by-is [] = record { none = refl; more = λ g h. refl; order = λ g h each. omega arith }
-sum_by-is {A} (x ∷ xs) = (let rest = sum_by-is xs in record {
-  none = (let first : sum_by (λ (a : A). 0) (x ∷ xs) ≡ 0 + sum_by (λ (a : A). 0) xs = sum_by-cons (λ (a : A). 0) x xs in let e = rest.none in omega arith);
-  more = λ g h.
-      (let both = sum_by-cons (λ a. g a + h a) x xs in
-      let one = sum_by-cons g x xs in
-      let other = sum_by-cons h x xs in
-      let e = rest.more g h in omega arith);
-  order = λ g h each.
-      (let one = sum_by-cons g x xs in
-      let other = sum_by-cons h x xs in
-      let e = rest.order g h each in
-      let first = each x in omega arith);
+sum_by-is (x ∷ xs) = (let rest = sum_by-is xs in record {
+  none = simp sum_by-cons (omega (arith, rest.none));
+  more = λ g h. simp sum_by-cons (omega (arith, rest.more g h));
+  order = λ g h each. simp sum_by-cons (omega (arith, rest.order g h each, each x));
 })
 
 -- the order of two sums doesn't matter
 pub sum_by-swap : {A B : Type 0} (sum : (A → ℕ) → ℕ) → IsSum sum → (xs : List B) (g : B → A → ℕ)
     → sum_by (λ x. sum (λ a. g x a)) xs ≡ sum (λ a. sum_by (λ x. g x a) xs)
 sum_by-swap sum is [] g = sym is.none
-sum_by-swap {A} {B} sum is (x ∷ xs) g =
-    let first : sum_by (λ (y : B). sum (λ a. g y a)) (x ∷ xs) ≡ sum (λ a. g x a) + sum_by (λ (y : B). sum (λ a. g y a)) xs = sum_by-cons (λ y. sum (λ a. g y a)) x xs in
-    let each = sum-same sum is (λ a. sum_by (λ y. g y a) (x ∷ xs)) (λ a. g x a + sum_by (λ y. g y a) xs) (λ a. sum_by-cons (λ y. g y a) x xs) in
-    let more = is.more (λ a. g x a) (λ a. sum_by (λ y. g y a) xs) in
-    let rest = sum_by-swap sum is xs g in omega arith
+sum_by-swap sum is (x ∷ xs) g = simp (sum_by-cons, is.more, sum_by-swap sum is xs g)
 
 -- only the members of a list count, and only the numbers below the bound
 pub sum_by-order : {A : Type 0} (xs : List A) (g h : A → ℕ) → ((x : A) → In x xs → g x ≤ h x) → sum_by g xs ≤ sum_by h xs
 sum_by-order [] g h order = omega arith
-sum_by-order (x ∷ xs) g h order =
-    let one = sum_by-cons g x xs in
-    let other = sum_by-cons h x xs in
-    let first = order x (inl refl) in
-    let rest = sum_by-order xs g h (λ y member. order y (inr member)) in omega arith
+sum_by-order (x ∷ xs) g h order = simp sum_by-cons (omega (arith, order x (inl refl), sum_by-order xs g h (λ y member. order y (inr member))))
 
 pub sum_by-same : {A : Type 0} (xs : List A) (g h : A → ℕ) → ((x : A) → In x xs → g x ≡ h x) → sum_by g xs ≡ sum_by h xs
 sum_by-same xs g h same =
@@ -117,16 +102,7 @@ times-none b n not_so = (let e : n * one_if b ≡ n * 0 = ap (λ (c : Bool). n *
 
 pub sum_by-filter : {A : Type 0} (test : A → Bool) (g : A → ℕ) (xs : List A) → sum_by g (filter test xs) ≡ sum_by (λ x. g x * one_if (test x)) xs
 sum_by-filter test g [] = refl
-sum_by-filter test g (x ∷ xs) =
-    let rest = sum_by-filter test g xs in
-    let first = sum_by-cons (λ y. g y * one_if (test y)) x xs in
-    elim (cases_Bool (test x)) [
-      | inl so ↦ (let one = times-one (test x) (g x) so in
-          let kept : sum_by g (filter test (x ∷ xs)) ≡ sum_by g (x ∷ filter test xs) = rw so refl in
-          let e = sum_by-cons g x (filter test xs) in omega arith)
-      | inr not_so ↦ (let none = times-none (test x) (g x) not_so in
-          let left : sum_by g (filter test (x ∷ xs)) ≡ sum_by g (filter test xs) = rw not_so refl in omega arith)
-    ]
+sum_by-filter test g (x ∷ xs) = grind (arith, sum_by-cons (λ y. g y * one_if (test y)) x xs, sum_by-cons g x (filter test xs), sum_by-filter test g xs)
 
 sum_by-none : {A : Type 0} (xs : List A) (test : A → Bool) (g : A → ℕ) → ((x : A) → In x xs → test x ≡ false) → sum_by (λ x. g x * one_if (test x)) xs ≡ 0
 sum_by-none xs test g none =
@@ -141,16 +117,12 @@ sum_by-at {A} (x ∷ xs) test z g own only distinct member =
     elim (cases_Bool (test x)) [
       | inl so ↦ (let one = times-one (test x) (g x) so in
           let same : g x ≡ g z = ap g (only x so) in
-          let rest = sum_by-none xs test g (λ y there. elim (cases_Bool (test y)) [
-            | inl also ↦ absurd (distinct.0 (subst (λ (a : A). In a xs) (only y also ∙ sym (only x so)) there))
-            | inr not_so ↦ not_so
-          ]) in omega arith)
+          let rest = sum_by-none xs test g (λ y there. false_from_ne_true (test y) (λ also. absurd (distinct.0 (subst (λ (a : A). In a xs) (only y also ∙ sym (only x so)) there)))) in
+          omega arith)
       | inr not_so ↦ (let none = times-none (test x) (g x) not_so in
-          let there : In z xs = elim member [
-            | inl here ↦ (let t : test x ≡ true = ap test (sym here) ∙ own in absurd cc)
-            | inr later ↦ later
-          ] in
-          let rest = sum_by-at xs test z g own only distinct.1 there in omega arith)
+          let there : In z xs = elim member [ inl here ↦ (let t : test x ≡ true = ap test (sym here) ∙ own in absurd cc) | inr later ↦ later ] in
+          let rest = sum_by-at xs test z g own only distinct.1 there in
+          omega arith)
     ]
 
 -- the sum of a constant is the constant times the sum of ones
@@ -159,8 +131,7 @@ sum-constant sum is c = sum-same sum is (λ a. c) (λ a. c * 1) (λ a. omega ari
 
 pub sum_by-constant : {A : Type 0} (xs : List A) (c : ℕ) → sum_by (λ (x : A). c) xs ≡ length xs * c
 sum_by-constant [] c = omega arith
-sum_by-constant {A} (x ∷ xs) c =
-    (let first : sum_by (λ (y : A). c) (x ∷ xs) ≡ c + sum_by (λ (y : A). c) xs = sum_by-cons (λ y. c) x xs in let rest = sum_by-constant xs c in omega arith)
+sum_by-constant (x ∷ xs) c = simp sum_by-cons (omega (arith, sum_by-constant xs c))
 
 -- how many numbers below a bound there are, and how many pasts
 pub sum_below-constant : (n c : ℕ) → sum_below n (λ k. c) ≡ n * c
@@ -191,33 +162,23 @@ sum_below-first (suc n) g = (let rest = sum_below-first n g in omega arith)
 
 pub sum_below-add : (a b : ℕ) (g : ℕ → ℕ) → sum_below (a + b) g ≡ sum_below a g + sum_below b (λ k. g (a + k))
 unfolding sum_below
-sum_below-add a zero g = (let e : a + 0 ≡ a = omega arith in let s = ap (λ n. sum_below n g) e in omega arith)
-sum_below-add a (suc b) g =
-    let e : a + suc b ≡ suc (a + b) = omega arith in
-    let s : sum_below (a + suc b) g ≡ sum_below (a + b) g + g (a + b) = ap (λ n. sum_below n g) e in
-    let rest = sum_below-add a b g in omega arith
+sum_below-add a zero g = (let e : a + 0 ≡ a = omega arith in rw e (omega arith))
+sum_below-add a (suc b) g = (let e : a + suc b ≡ suc (a + b) = omega arith in rw e (omega (arith, sum_below-add a b g)))
 
 -- what depends on the rest of a division alone is summed as often as the divisor goes into the bound
 pub sum_below-rests : (q m : ℕ) (g : ℕ → ℕ) → sum_below (q * m) (λ k. g (k % m)) ≡ q * sum_below m g
 unfolding sum_below
-sum_below-rests zero m g =
-    let e : zero * m ≡ 0 = omega arith in
-    let s : sum_below (zero * m) (λ k. g (k % m)) ≡ 0 = ap (λ n. sum_below n (λ k. g (k % m))) e in omega arith
+sum_below-rests zero m g = (let e : zero * m ≡ 0 = omega arith in rw e (omega arith))
 sum_below-rests (suc q) m g =
     let e : suc q * m ≡ m + q * m = omega arith in
-    let s : sum_below (suc q * m) (λ k. g (k % m)) ≡ sum_below (m + q * m) (λ k. g (k % m)) = ap (λ n. sum_below n (λ k. g (k % m))) e in
-    let both = sum_below-add m (q * m) (λ k. g (k % m)) in
     let low = sum_below-same m (λ k. g (k % m)) g (λ k small. ap g (mod-eq_of_lt small)) in
     let high = sum_below-same (q * m) (λ k. g ((m + k) % m)) (λ k. g (k % m)) (λ k small. ap g (add-mod_left m k)) in
-    let rest = sum_below-rests q m g in omega arith
-
-pub apart-nat_eq : (n e : ℕ) → (n ≡ e → ⊥) → nat_eq n e ≡ false
-apart-nat_eq n e apart = elim (cases_Bool (nat_eq n e)) [ inl so ↦ absurd (apart (eqb-true n e so)) | inr not_so ↦ not_so ]
+    rw e (omega (arith, sum_below-add m (q * m) (λ k. g (k % m)), sum_below-rests q m g))
 
 -- a sum of which one term counts, or none
 pub sum_below-none : (n e : ℕ) (g : ℕ → ℕ) → n ≤ e → sum_below n (λ k. g k * one_if (nat_eq k e)) ≡ 0
 sum_below-none n e g past =
-    sum_below-same n (λ k. g k * one_if (nat_eq k e)) (λ k. 0) (λ k small. times-none (nat_eq k e) (g k) (apart-nat_eq k e (λ same. omega (arith, same, small, past))))
+    sum_below-same n (λ k. g k * one_if (nat_eq k e)) (λ k. 0) (λ k small. times-none (nat_eq k e) (g k) (ne_eqb k e (λ same. omega (arith, same, small, past))))
     ∙ (sum_below-is n).none
 
 pub sum_below-at : (n e : ℕ) (g : ℕ → ℕ) → e < n → sum_below n (λ k. g k * one_if (nat_eq k e)) ≡ g e
@@ -237,9 +198,7 @@ sum_below-at (suc n) e g small =
 -- a member's value is at most the sum
 pub sum_by-member : {A : Type 0} (xs : List A) (g : A → ℕ) (y : A) → In y xs → g y ≤ sum_by g xs
 sum_by-member [] g y member = absurd member
-sum_by-member (x ∷ xs) g y member =
-    let first = sum_by-cons g x xs in
-    elim member [
-      | inl here ↦ (let e : g y ≡ g x = ap g here in omega arith)
-      | inr there ↦ (let rest = sum_by-member xs g y there in omega arith)
-    ]
+sum_by-member (x ∷ xs) g y member = elim member [
+  | inl here ↦ (let e : g y ≡ g x = ap g here in simp sum_by-cons (omega arith))
+  | inr there ↦ simp sum_by-cons (omega (arith, sum_by-member xs g y there))
+]

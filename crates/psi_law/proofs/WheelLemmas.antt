@@ -1,26 +1,22 @@
 -- The wheel is exact: each event has its rate's share of the words.
 use Rattle.std.specs.Prelude.{◌≡◌, ℕ, suc, ◌+◌, ◌-◌, ◌*◌, ◌%◌, ◌^◌, ◌≤◌, List, [], ◌∷◌, length, slice_index, nat_eq, refl}
 use Rattle.std.proofs.Common.{inl, inr, ap, sym, ◌∙◌, arith}
-use Rattle.std.proofs.lemmas.Bool.{cases_lt, lt-ltb, le-ltb, eq-eqb}
+use Rattle.std.proofs.lemmas.Bool.{cases_lt, lt-ltb, le-ltb, eq-eqb, ne_eqb}
 use Rattle.std.proofs.lemmas.Nat.{pow-add}
 use Rattle.psi_rate.specs.Rates.{AreRates, total, least_power, event_at, event_of}
 use Rattle.psi_rate.proofs.PowersLemmas.{pow-order, least_power-is}
 use Rattle.psi_law.specs.Counting.{sum_below}
 use Rattle.psi_law.specs.Wheel.{word_count, words_for, IsExact}
-use Rattle.psi_law.proofs.SumsLemmas.{one_if, times-one, times-none, apart-nat_eq, sum_below-constant, sum_below-same, sum_below-first, sum_below-add, sum_below-rests, sum_below-none, sum_below-at}
+use Rattle.psi_law.proofs.SumsLemmas.{one_if, times-one, times-none, sum_below-constant, sum_below-same, sum_below-first, sum_below-add, sum_below-rests, sum_below-none, sum_below-at}
 
 -- the numbers that are dealt out, event by event
 sum-dealt : (rates : List ℕ) (idle : ℕ) (g : ℕ → ℕ)
     → sum_below (total rates + idle) (λ r. g (event_at rates r)) ≡ sum_below (length rates) (λ e. slice_index rates e * g e) + idle * g (length rates)
 unfolding sum_below
-sum-dealt [] idle g =
-    let e : 0 + idle ≡ idle = omega arith in
-    let s : sum_below (0 + idle) (λ r. g 0) ≡ sum_below idle (λ r. g 0) = ap (λ n. sum_below n (λ r. g 0)) e in
-    let c = sum_below-constant idle (g 0) in omega arith
+sum-dealt [] idle g = (let e : 0 + idle ≡ idle = omega arith in rw e (omega (arith, sum_below-constant idle (g 0))))
 sum-dealt (rate ∷ rates) idle g =
     let dealt : ℕ → ℕ = λ r. g (event_at (rate ∷ rates) r) in
     let e : rate + total rates + idle ≡ rate + (total rates + idle) = omega arith in
-    let s : sum_below (rate + total rates + idle) dealt ≡ sum_below (rate + (total rates + idle)) dealt = ap (λ n. sum_below n dealt) e in
     let both = sum_below-add rate (total rates + idle) dealt in
     let low = sum_below-same rate dealt (λ r. g 0)
     (λ r small. (let is : event_at (rate ∷ rates) r ≡ 0 = rw (lt-ltb r rate small) refl in ap g is)) in
@@ -32,7 +28,7 @@ sum-dealt (rate ∷ rates) idle g =
     ap g (is ∙ ap (λ n. suc (event_at rates n)) d))) in
     let rest = sum-dealt rates idle (λ n. g (suc n)) in
     let first = sum_below-first (length rates) (λ i. slice_index (rate ∷ rates) i * g i) in
-    omega arith
+    rw e (omega arith)
 
 -- how often the modulus goes into the number of words
 pub record IsShare (rates : List ℕ) (q : ℕ) : Type 0 where
@@ -68,11 +64,7 @@ sum-words rates q g is =
 
 -- as many words as one part of the modulus is of it
 share-part : (rates : List ℕ) (q count part : ℕ) → IsShare rates q → count ≡ q * part → count * least_power (total rates) ≡ part * word_count
-share-part rates q count part is same =
-    let m = least_power (total rates) in
-    let left : count * m ≡ q * part * m = ap (λ k. k * m) same in
-    let right : part * word_count ≡ part * (q * m) = ap (λ k. part * k) is.whole in
-    omega arith
+share-part rates q count part is same = rw (same, is.whole) (omega arith)
 
 pub wheel-exact : (rates : List ℕ) → AreRates rates → IsExact rates
 wheel-exact rates are =
@@ -83,7 +75,7 @@ wheel-exact rates are =
       each = λ e small.
           (let all = sum-words rates q.0 (λ x. one_if (nat_eq x e)) q.1 in
           let at = sum_below-at n e (λ x. slice_index rates x) small in
-          let none = times-none (nat_eq n e) idle (apart-nat_eq n e (λ same. omega (arith, same, small))) in
+          let none = times-none (nat_eq n e) idle (ne_eqb n e (λ same. omega (arith, same, small))) in
           share-part rates q.0 (words_for rates e) (slice_index rates e) q.1 (all ∙ ap (λ k. q.0 * k) (omega arith)));
       idle =
           (let all = sum-words rates q.0 (λ x. one_if (nat_eq x n)) q.1 in

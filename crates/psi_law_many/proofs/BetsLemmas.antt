@@ -45,7 +45,7 @@ fair-of all t q c s a w sum fair mean =
 
 rare-of : (c d j p w wp : ℕ) → 1 ≤ j → 1 ≤ p → wp ≡ p * w → d * (j * p) * c ≤ j * wp → c * d ≤ 1 * w
 rare-of c d j p w wp first last e few =
-    (let g : j * wp ≡ j * (p * w) = ap (λ m. j * m) e in
+    (let under = rw e at few in
     let both : j * p * (c * d) ≤ j * p * (1 * w) = omega arith in le_of_mul-le-mul_left both (one-le-mul first last))
 
 -- a score whose mean is at most c of q, and stakes
@@ -80,7 +80,7 @@ module _ (n : ℕ) (s : Score) (t q c : ℕ) (mean : q * sum_pasts word_count n 
         | inl so ↦
             (let fair = leb-true (stake * c) (t * q) so in
             let power = pow-le-pow_left (pays-fair stake fair) k in
-            let one : one_if (payable stake) * all ≡ 1 * all = ap (λ (b : Bool). one_if b * all) so in omega arith)
+            rw so (omega arith))
         | inr not_so ↦ (let none : one_if (payable stake) * all ≡ 0 * all = ap (λ (b : Bool). one_if b * all) not_so in omega arith)
       ])
 
@@ -104,10 +104,9 @@ module _ (n : ℕ) (s : Score) (t q c : ℕ) (mean : q * sum_pasts word_count n 
       let each = sum_by-order stakes (λ stake. product_by (paid t q r stake) scores) (λ stake. one_if (payable stake) * product (pays stake) pasts)
       (λ stake member.
       (let so = le-leb (stake * c) (t * q) (times-order stake c r (t * q) less (won.each stake member)) in
-      let one : one_if (payable stake) * product (pays stake) pasts ≡ 1 * product (pays stake) pasts = ap (λ (b : Bool). one_if b * product (pays stake) pasts) so in
       let more = product-order (paid t q r stake) (paid t q c stake) scores (λ v. paid-more t q r c stake v less) in
       let same = product-map (paid t q c stake) s.score pasts in
-      omega arith)) in
+      rw so (omega arith))) in
       subst (λ m. d * (length stakes * (t * q) ^ m) ≤ sum_by (λ stake. one_if (payable stake) * product (pays stake) pasts) stakes) (length-map pasts s.score)
       (le_trans won.much each)
 

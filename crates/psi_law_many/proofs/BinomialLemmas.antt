@@ -144,8 +144,7 @@ module _ (n : ℕ) (s : Score) (is : IsScore n s) (one : s.top ≡ 1) where
   pub binomial-tail : (k i : ℕ) → at_least n k s i * s.whole ^ k ≤ cases_from s.part (s.whole - s.part) k i * word_count ^ (n * k)
   unfolding ones
   binomial-tail k i =
-      let share = is.share in
-      let top : s.whole * s.top ≡ s.whole * 1 = ap (λ m. s.whole * m) one in
+      let share = rw one at is.share in
       let rest = s.whole - s.part in
       let whole : s.part + rest ≡ s.whole = omega arith in
       let more = cases-more ones nones s.part rest k i (fewer ones nones s.part rest s.whole (word_count ^ n) is.mean ones-nones whole) in

@@ -8,12 +8,11 @@ use Rattle.psi_law.specs.Counting.{Words, sum_pasts}
 use Rattle.psi_law.specs.Wheel.{word_count}
 use Rattle.psi_law.specs.Chains.{Chain, IsChain, end_of, whole, weighted}
 use Rattle.psi_law.specs.Samples.{Reaches}
-use Rattle.psi_law.proofs.SumsLemmas.{IsSum, sum-same, sum-times, sum-constant, sum_pasts-is, pasts-constant}
+use Rattle.psi_law.proofs.SumsLemmas.{IsSum, sum-same, sum-times, sum-constant, sum_pasts-is, pasts-constant, nested-is}
 use Rattle.psi_law.proofs.ChainLemmas.{Own, end_of-keeps}
 use Rattle.psi_law.proofs.BalanceLemmas.{weighted-is, weighted-same, weighted-order, weighted-constant, under-weighted, over-weighted, weighted-pasts}
 use Rattle.psi_law.proofs.LawLemmas.{MeetsAt}
 use Rattle.psi_law_many.specs.Values.{value_or, IsMeasured, Score, surplus, deficit, added}
-use Rattle.psi_law_many.proofs.ListsLemmas.{nested-is}
 use Rattle.psi_law_many.proofs.ScoreLemmas.{IsScore}
 
 -- a number of each state and each past of n words, by a way to sum over the states: it is at least the score s, and at most what the score t leaves of the top;
@@ -39,8 +38,7 @@ module _ {X : Type 0} {outer : (X → ℕ) → ℕ} {own : X → Type 0} {number
   first-score =
       let sum = sum_pasts word_count n in
       let order = are.order (λ x. sum s.score) (λ x. sum (number x)) (λ x is. (sum_pasts-is word_count n).order s.score (number x) (λ past. are.least x past is)) in
-      let constant = sum-constant outer are.is (sum s.score) in
-      let ones : sum s.score * outer (λ x. 1) ≡ sum s.score * s.whole = ap (λ m. sum s.score * m) are.ones in
+      let constant = rw are.ones at (sum-constant outer are.is (sum s.score)) in
       let mean = are.mean in
       let parts = are.parts in
       record {
@@ -61,8 +59,7 @@ module _ {X : Type 0} {outer : (X → ℕ) → ℕ} {own : X → Type 0} {number
       let both = are.is.more (λ x. sum (left x)) (λ x. sum (number x)) in
       let under = are.order (λ x. sum (left x) + sum (number x)) (λ x. s.top * word_count ^ n) (λ x is. (let e = each x is in omega arith)) in
       let over = are.order (λ x. s.top * word_count ^ n) (λ x. sum (left x) + sum (number x)) (λ x is. (let e = each x is in omega arith)) in
-      let constant = sum-constant outer are.is (s.top * word_count ^ n) in
-      let ones : s.top * word_count ^ n * outer (λ x. 1) ≡ s.top * word_count ^ n * s.whole = ap (λ m. s.top * word_count ^ n * m) are.ones in
+      let constant = rw are.ones at (sum-constant outer are.is (s.top * word_count ^ n)) in
       let mean = are.mean in
       let parts : (s.part + t.part) * word_count ^ n ≡ s.whole * s.top * word_count ^ n = ap (λ m. m * word_count ^ n) are.parts in
       record {
@@ -105,15 +102,13 @@ module _ {X Y : Type 0} {outer : (X → ℕ) → ℕ} {own : X → Type 0} {numb
       let each : (x : X) → outer2 (λ y. sum (λ past. number x past + number2 y past)) ≡ u.whole * sum (number x) + u.part * word_count ^ n =
       λ x. sum-same outer2 two.is (λ y. sum (λ past. number x past + number2 y past)) (λ y. sum (number x) + sum (number2 y)) (λ y. (sum_pasts-is word_count n).more (number x) (number2 y))
       ∙ (two.is.more (λ y. sum (number x)) (λ y. sum (number2 y))
-      ∙ (let constant = sum-constant outer2 two.is (sum (number x)) in
-      let ones : sum (number x) * outer2 (λ y. 1) ≡ sum (number x) * u.whole = ap (λ m. sum (number x) * m) two.ones in
+      ∙ (let constant = rw two.ones at (sum-constant outer2 two.is (sum (number x))) in
       let mean = two.mean in omega arith)) in
       let all = sum-same outer one.is (λ x. outer2 (λ y. sum (λ past. number x past + number2 y past))) (λ x. u.whole * sum (number x) + u.part * word_count ^ n) each in
       let more = one.is.more (λ x. u.whole * sum (number x)) (λ x. u.part * word_count ^ n) in
-      let times = sum-times outer one.is u.whole (λ x. sum (number x)) in
-      let first : u.whole * outer (λ x. sum (number x)) ≡ u.whole * (s.part * word_count ^ n) = ap (λ m. u.whole * m) one.mean in
-      let constant = sum-constant outer one.is (u.part * word_count ^ n) in
-      let ones : u.part * word_count ^ n * outer (λ x. 1) ≡ u.part * word_count ^ n * s.whole = ap (λ m. u.part * word_count ^ n * m) one.ones in omega arith
+      let times = rw one.mean at (sum-times outer one.is u.whole (λ x. sum (number x))) in
+      let constant = rw one.ones at (sum-constant outer one.is (u.part * word_count ^ n)) in
+      omega arith
 
   pub both-bounds : AreBounds (both_sums outer outer2) (both_own own own2) (both_numbers number number2) n (added s u) (added t v)
   both-bounds = record {

@@ -8,12 +8,12 @@ use Rattle.std.proofs.lemmas.Bool.{leb-true}
 use Rattle.std.proofs.lemmas.List.Sums.{sum_by-cons}
 use Rattle.psi_law.specs.Counting.{Words, sum_pasts}
 use Rattle.psi_law.specs.Wheel.{word_count}
-use Rattle.psi_law.proofs.SumsLemmas.{one_if, IsSum, sum-times, sum-constant, sum_pasts-is, pasts-ones}
+use Rattle.psi_law.proofs.SumsLemmas.{one_if, IsSum, sum-times, sum-constant, sum_pasts-is, pasts-ones, nested-is}
 use Rattle.psi_law_many.specs.Lists.{sum_lists, count_lists}
 use Rattle.psi_law_many.specs.Means.{square, outside}
 use Rattle.psi_law_many.proofs.SquareLemmas.{gap, gap-is, gap-square, two-products, outside-order, square-order}
 use Rattle.psi_law_many.proofs.DrawsLemmas.{draws, draws-variance}
-use Rattle.psi_law_many.proofs.ListsLemmas.{nested-is, sum_lists-is, lists-power, constant-if}
+use Rattle.psi_law_many.proofs.ListsLemmas.{sum_lists-is, lists-power, constant-if}
 
 -- b lists whose squares d come to at most x over draws of r states, of q draws in all
 squares-few : (b d q x r g k w : ℕ) → 1 ≤ r → r * (d * b) ≤ x → q * x ≡ k * g * (r * w) → b * (d * q) ≤ k * g * w
@@ -50,9 +50,9 @@ module _ {X : Type 0} (outer : (X → ℕ) → ℕ) (is : IsSum outer) (own : X 
       (λ x member. (sum_pasts-is word_count n).order (λ past. gap (number x past) v + 2 * v * number x past) (λ past. z * number x past + v * v)
       (λ past. gap-under-range (number x past) z v (gap (number x past) v) (small x past member) (gap-square (number x past) v))) in
       let left = draw-is.more (λ m. gap m v) (λ m. 2 * v * m) in
-      let left-mean : draw (λ m. 2 * v * m) ≡ 2 * v * (q * v) = sum-times draw draw-is (2 * v) (λ m. m) ∙ ap (λ m. 2 * v * m) mean in
+      let left-mean = rw mean at (sum-times draw draw-is (2 * v) (λ m. m)) in
       let right = draw-is.more (λ m. z * m) (λ m. v * v) in
-      let right-mean : draw (λ m. z * m) ≡ z * (q * v) = sum-times draw draw-is z (λ m. m) ∙ ap (λ m. z * m) mean in
+      let right-mean = rw mean at (sum-times draw draw-is z (λ m. m)) in
       let right-own = sum-constant draw draw-is (v * v) in
       gaps-of (draw (λ m. gap m v)) q v z (omega arith)
 
@@ -63,8 +63,7 @@ module _ {X : Type 0} (outer : (X → ℕ) → ℕ) (is : IsSum outer) (own : X 
         → outer (λ x. 1) ^ k * sum_lists word_count n k h ≤ draws draw k g
     lists-under zero h g under =
         let first = under [] 0 (omega arith) (omega arith) in
-        let e : outer (λ x. 1) ^ zero * h [] ≡ 1 * h [] = ap (λ m. m * h []) (pow-zero (outer (λ x. 1))) in
-        omega arith
+        rw (pow-zero (outer (λ x. 1))) (omega arith)
     lists-under (suc k) h g under =
         let s = outer (λ x. 1) in
         let sum = sum_pasts word_count n in
@@ -78,13 +77,10 @@ module _ {X : Type 0} (outer : (X → ℕ) → ℕ) (is : IsSum outer) (own : X 
         (λ pasts t below above.
         (let least-first = least x past member in
         let most-first = most x past member in
-        let low-all : c * sum_by low (past ∷ pasts) ≡ c * (low past + sum_by low pasts) = ap (λ m. c * m) (sum_by-cons low past pasts) in
-        let high-all : c * sum_by high (past ∷ pasts) ≡ c * (high past + sum_by high pasts) = ap (λ m. c * m) (sum_by-cons high past pasts) in
-        under (past ∷ pasts) (number x past + t) (omega arith) (omega arith)))) in
+        under (past ∷ pasts) (number x past + t) (rw (sum_by-cons low past pasts) (omega arith)) (rw (sum_by-cons high past pasts) (omega arith))))) in
         omega arith)) in
         let constant = sum-constant outer is (s ^ k * sum inner) in
-        let power : s ^ suc k * sum inner ≡ s * s ^ k * sum inner = ap (λ m. m * sum inner) (pow-succ' s k) in
-        omega arith
+        rw (pow-succ' s k) (omega arith)
 
     -- how far k times the mean v is outside the sums of a list
     abbrev pub off : ℕ → ℕ → List Words → ℕ

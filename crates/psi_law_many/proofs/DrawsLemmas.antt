@@ -2,9 +2,8 @@
 use Rattle.std.specs.Prelude.{◌≡◌, ℕ, zero, suc, ◌+◌, ◌*◌, ◌^◌, refl}
 use Rattle.std.proofs.Common.{ap, sym, ◌∙◌, arith}
 use Rattle.std.proofs.Math.Nat.{pow-zero, pow-suc}
-use Rattle.psi_law.proofs.SumsLemmas.{IsSum, sum-same, sum-times, sum-constant}
+use Rattle.psi_law.proofs.SumsLemmas.{IsSum, sum-same, sum-times, sum-constant, nested-is}
 use Rattle.psi_law_many.proofs.SquareLemmas.{gap, gap-add, gap-same}
-use Rattle.psi_law_many.proofs.ListsLemmas.{nested-is}
 
 -- one draw: a way to sum a function of its number
 module _ (draw : (ℕ → ℕ) → ℕ) where
@@ -39,11 +38,9 @@ module _ (draw : (ℕ → ℕ) → ℕ) where
           let p = q ^ k in
           let inner = sum-same draw is (λ s. draws k (λ t. s + t)) (λ s. p * s + k * v * p) (λ s. mean-after k s (draws-mean k)) in
           let more = is.more (λ s. p * s) (λ s. k * v * p) in
-          let first = sum-times draw is p (λ s. s) in
+          let first = rw mean at (sum-times draw is p (λ s. s)) in
           let rest = sum-constant draw is (k * v * p) in
-          let own : p * draw (λ s. s) ≡ p * (q * v) = ap (λ m. p * m) mean in
-          let power : suc k * v * q ^ suc k ≡ suc k * v * (p * q) = ap (λ m. suc k * v * m) (pow-suc q k) in
-          omega arith
+          rw (pow-suc q k) (omega arith)
 
       -- the cross terms of the squares cancel, for each number of the first draw
       gaps-after : (k s : ℕ) → draws k (λ t. gap (s + t) (v + k * v)) ≡ draw (λ s. 1) ^ k * gap s v + draws k (λ t. gap t (k * v))
@@ -55,15 +52,13 @@ module _ (draw : (ℕ → ℕ) → ℕ) where
           let left = way.more (λ t. gap (s + t) (v + b)) (λ t. 2 * b * s + 2 * v * t) in
           let left-more = way.more (λ t. 2 * b * s) (λ t. 2 * v * t) in
           let left-own = draws-constant k (2 * b * s) in
-          let left-mean = sum-times (draws k) way (2 * v) (λ t. t) in
+          let left-mean = rw (draws-mean k) at (sum-times (draws k) way (2 * v) (λ t. t)) in
           let right = way.more (λ t. gap s v + gap t b) (λ t. 2 * s * t + 2 * v * b) in
           let right-both = way.more (λ t. gap s v) (λ t. gap t b) in
           let right-gap = draws-constant k (gap s v) in
           let right-more = way.more (λ t. 2 * s * t) (λ t. 2 * v * b) in
           let right-own = draws-constant k (2 * v * b) in
-          let right-mean = sum-times (draws k) way (2 * s) (λ t. t) in
-          let mean-left : 2 * v * draws k (λ t. t) ≡ 2 * v * (b * p) = ap (λ m. 2 * v * m) (draws-mean k) in
-          let mean-right : 2 * s * draws k (λ t. t) ≡ 2 * s * (b * p) = ap (λ m. 2 * s * m) (draws-mean k) in
+          let right-mean = rw (draws-mean k) at (sum-times (draws k) way (2 * s) (λ t. t)) in
           omega arith
 
       gaps-next : (k : ℕ) → draws (suc k) (λ t. gap t (suc k * v)) ≡ draw (λ s. 1) ^ k * draw (λ s. gap s v) + draws k (λ t. gap t (k * v)) * draw (λ s. 1)
@@ -79,14 +74,10 @@ module _ (draw : (ℕ → ℕ) → ℕ) where
       pub draws-variance : (k : ℕ) → draw (λ s. 1) * draws k (λ t. gap t (k * v)) ≡ k * draw (λ s. gap s v) * draw (λ s. 1) ^ k
       draws-variance zero =
           let e : zero * v ≡ 0 = omega arith in
-          let none : draws zero (λ t. gap t (zero * v)) ≡ 0 = ap (λ m. gap 0 m) e ∙ gap-same 0 in
-          let times : draw (λ s. 1) * draws zero (λ t. gap t (zero * v)) ≡ draw (λ s. 1) * 0 = ap (λ m. draw (λ s. 1) * m) none in
-          omega arith
+          rw (e, gap-same 0) (omega arith)
       draws-variance (suc k) =
           let q = draw (λ s. 1) in
           let g = draw (λ s. gap s v) in
           let d = draws k (λ t. gap t (k * v)) in
           let rest : q * d * q ≡ k * g * q ^ k * q = ap (λ m. m * q) (draws-variance k) in
-          let next : q * draws (suc k) (λ t. gap t (suc k * v)) ≡ q * (q ^ k * g + d * q) = ap (λ m. q * m) (gaps-next k) in
-          let power : suc k * g * q ^ suc k ≡ suc k * g * (q ^ k * q) = ap (λ m. suc k * g * m) (pow-suc q k) in
-          omega arith
+          rw (gaps-next k, pow-suc q k) (omega arith)

@@ -17,8 +17,7 @@ use Rattle.psi_law_many.proofs.PowerLemmas.{convex, more-factors}
 
 product-of : (x y r u d p q : ℕ) → r ≡ u * d → p ≡ x * u → q ≡ y * d → x * y * r ≡ p * q
 product-of x y r u d p q rest up down =
-    (let e : x * y * r ≡ x * y * (u * d) = ap (λ m. x * y * m) rest in
-    let f : p * q ≡ x * u * (y * d) = ap (λ m. m * q) up ∙ ap (λ m. x * u * m) down in omega arith)
+    rw (rest, up, down) (omega arith)
 
 -- x and y are the sums over the pasts of the score and of what is left to the top z; a power of a is g above that of b
 mean-line : (all x y z w s p e b g : ℕ) → z * all ≤ (b + g) * x + b * y → x + y ≡ z * w → s * x ≤ p * w → s * z ≡ p + e

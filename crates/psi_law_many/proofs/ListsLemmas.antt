@@ -4,21 +4,9 @@ use Rattle.std.proofs.Common.{ap, sym, ◌∙◌, subst, arith}
 use Rattle.std.proofs.Math.Nat.{pow-zero, pow-succ', pow-suc, mul-le-mul_right}
 use Rattle.psi_law.specs.Counting.{Words, sum_pasts}
 use Rattle.psi_law.specs.Wheel.{word_count}
-use Rattle.psi_law.proofs.SumsLemmas.{one_if, IsSum, sum-same, sum-times, sum_pasts-is, pasts-constant}
+use Rattle.psi_law.proofs.SumsLemmas.{nested-is, one_if, IsSum, sum-same, sum-times, sum_pasts-is, pasts-constant}
 use Rattle.psi_law.proofs.PowersLemmas.{pow-times}
 use Rattle.psi_law_many.specs.Lists.{sum_lists, count_lists, AtMost}
-
--- one way to sum inside another
-pub nested-is : {A B C : Type 0} (outer : (A → ℕ) → ℕ) (inner : (B → ℕ) → ℕ) (join : A → B → C) → IsSum outer → IsSum inner
-    → IsSum (λ (g : C → ℕ). outer (λ a. inner (λ b. g (join a b))))
-nested-is outer inner join over under = record {
-  none = sum-same outer over (λ a. inner (λ b. 0)) (λ a. 0) (λ a. under.none) ∙ over.none;
-  more = λ g h. sum-same outer over (λ a. inner (λ b. g (join a b) + h (join a b))) (λ a. inner (λ b. g (join a b)) + inner (λ b. h (join a b)))
-      (λ a. under.more (λ b. g (join a b)) (λ b. h (join a b)))
-      ∙ over.more (λ a. inner (λ b. g (join a b))) (λ a. inner (λ b. h (join a b)));
-  order = λ g h each. over.order (λ a. inner (λ b. g (join a b))) (λ a. inner (λ b. h (join a b)))
-      (λ a. under.order (λ b. g (join a b)) (λ b. h (join a b)) (λ b. each (join a b)));
-}
 
 pub sum_lists-is : (bound n k : ℕ) → IsSum (sum_lists bound n k)
 sum_lists-is bound n zero = record { none = refl; more = λ g h. refl; order = λ g h each. each [] }

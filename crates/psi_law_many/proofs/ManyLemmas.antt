@@ -76,28 +76,26 @@ reaches-within chain sample n m is reaches within = record {
       ∙ reaches.each past (compose earlier (m - n) x) (compose-keeps (Own chain) earlier (record { each = λ i. keeps.each (n + i) }) (m - n) x own) t y met));
 }
 
-pub record AreDifferent (chain : Chain) (sample : Words → Outcome) (other : Chain) (opposed : Words → Outcome) (n : ℕ) : Type 0 where
-  pub near : DifferenceHas chain sample n HasNear other opposed
-  pub tails : DifferenceHas chain sample n HasTails other opposed
-  pub intervals : DifferenceHas chain sample n HasIntervals other opposed
-  pub bets : DifferenceHas chain sample n HasBets other opposed
-
-difference-has : (Claim : ℕ → Score → Score → Type 0) → HoldsOfScores Claim → (chain : Chain) (sample : Words → Outcome) (other : Chain) (opposed : Words → Outcome) (n : ℕ)
-    → IsChain chain → Reaches chain sample n → IsChain other → Reaches other opposed n → DifferenceHas chain sample n Claim other opposed
-difference-has Claim holds chain sample other opposed n is reaches also arrives = λ weight value low high weight2 value2 low2 high2 measured compared.
-    (let bounds = both-bounds (sample-bounds is reaches measured) (exchanged (sample-bounds also arrives compared)) in
-    holds n (added (surplus sample chain weight value low high) (deficit opposed other weight2 value2 low2 high2))
-    (added (deficit sample chain weight value low high) (surplus opposed other weight2 value2 low2 high2)) (first-score bounds) (first-score (exchanged bounds)))
-
 -- under pasts that are long enough for the samples of both
-pub are-different : {chain : Chain} {sample : Words → Outcome} {other : Chain} {opposed : Words → Outcome} {a b : ℕ}
-    → IsChain chain → Reaches chain sample a → IsChain other → Reaches other opposed b → (n : ℕ) → a ≤ n → b ≤ n → AreDifferent chain sample other opposed n
-are-different {chain} {sample} {other} {opposed} {a} {b} is first also last n long longer =
-    let reaches = reaches-within chain sample a n is first long in
-    let arrives = reaches-within other opposed b n also last longer in
-    record {
-      near = λ weight value low high weight2 value2 low2 high2 measured compared. has-near (both-bounds (sample-bounds is reaches measured) (exchanged (sample-bounds also arrives compared)));
-      tails = difference-has HasTails has-tails chain sample other opposed n is reaches also arrives;
-      intervals = difference-has HasIntervals has-intervals chain sample other opposed n is reaches also arrives;
-      bets = difference-has HasBets has-bets chain sample other opposed n is reaches also arrives;
-    }
+pub record AreDifferent (chain : Chain) (sample : Words → Outcome) (a : ℕ) (other : Chain) (opposed : Words → Outcome) (b : ℕ) : Type 0 where
+  pub near : (n : ℕ) → a ≤ n → b ≤ n → DifferenceHas chain sample n HasNear other opposed
+  pub tails : (n : ℕ) → a ≤ n → b ≤ n → DifferenceHas chain sample n HasTails other opposed
+  pub intervals : (n : ℕ) → a ≤ n → b ≤ n → DifferenceHas chain sample n HasIntervals other opposed
+  pub bets : (n : ℕ) → a ≤ n → b ≤ n → DifferenceHas chain sample n HasBets other opposed
+
+module _ {chain : Chain} {sample : Words → Outcome} {other : Chain} {opposed : Words → Outcome} {a b : ℕ} (is : IsChain chain) (first : Reaches chain sample a) (also : IsChain other)
+    (last : Reaches other opposed b) where
+  difference-has : (Claim : ℕ → Score → Score → Type 0) → HoldsOfScores Claim → (n : ℕ) → a ≤ n → b ≤ n → DifferenceHas chain sample n Claim other opposed
+  difference-has Claim holds n long longer = λ weight value low high weight2 value2 low2 high2 measured compared.
+      (let bounds = both-bounds (sample-bounds is (reaches-within chain sample a n is first long) measured) (exchanged (sample-bounds also (reaches-within other opposed b n also last longer) compared)) in
+      holds n (added (surplus sample chain weight value low high) (deficit opposed other weight2 value2 low2 high2))
+      (added (deficit sample chain weight value low high) (surplus opposed other weight2 value2 low2 high2)) (first-score bounds) (first-score (exchanged bounds)))
+
+  pub are-different : AreDifferent chain sample a other opposed b
+  are-different = record {
+    near = λ n long longer weight value low high weight2 value2 low2 high2 measured compared.
+        has-near (both-bounds (sample-bounds is (reaches-within chain sample a n is first long) measured) (exchanged (sample-bounds also (reaches-within other opposed b n also last longer) compared)));
+    tails = difference-has HasTails has-tails;
+    intervals = difference-has HasIntervals has-intervals;
+    bets = difference-has HasBets has-bets;
+  }

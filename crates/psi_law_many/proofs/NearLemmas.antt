@@ -50,14 +50,10 @@ module _ {X : Type 0} {outer : (X → ℕ) → ℕ} {own : X → Type 0} {number
   scaled-mean : draw outer are.is own are.order n scaled (λ m. m) ≡ draw outer are.is own are.order n scaled (λ m. 1) * s.part
   scaled-mean =
       let sum = sum_pasts word_count n in
-      let ones = draw-ones outer are.is own are.order n scaled in
-      let all = are.ones in
-      let mean = are.mean in
+      let ones = rw are.ones at (draw-ones outer are.is own are.order n scaled) in
       let inner = sum-same outer are.is (λ x. sum (scaled x)) (λ x. s.whole * sum (number x)) (λ x. sum-times sum (sum_pasts-is word_count n) s.whole (number x)) in
-      let out = sum-times outer are.is s.whole (λ x. sum (number x)) in
-      let left : s.whole * outer (λ x. sum (number x)) ≡ s.whole * (s.part * word_count ^ n) = ap (λ m. s.whole * m) mean in
-      let right : draw outer are.is own are.order n scaled (λ m. 1) * s.part ≡ word_count ^ n * s.whole * s.part = ap (λ m. m * s.part) (ones ∙ ap (λ m. word_count ^ n * m) all) in
-      omega arith
+      let out = rw are.mean at (sum-times outer are.is s.whole (λ x. sum (number x))) in
+      rw ones (omega arith)
 
   some-few : 1 ≤ s.whole → (k d : ℕ) → deviating s t k n d * (4 * square d) ≤ k * square (s.whole * s.top) * word_count ^ (n * k)
   some-few some k d =
@@ -102,8 +98,7 @@ module _ {X : Type 0} {outer : (X → ℕ) → ℕ} {own : X → Type 0} {number
 -- w pasts for each state
 near-of : (w s c b g q k v e : ℕ) → 1 ≤ w → q ≡ w * s → e ≡ w * g → b * (c * q) ≤ k * e * v → b * (s * c) ≤ k * g * v
 near-of w s c b g q k v e some all each few =
-    let one : b * (c * q) ≡ b * (c * (w * s)) = ap (λ m. b * (c * m)) all in
-    let two : k * e * v ≡ k * (w * g) * v = ap (λ m. k * m * v) each in
+    let under = rw (all, each) at few in
     let both : w * (b * (s * c)) ≤ w * (k * g * v) = omega arith in
     le_of_mul-le-mul_left both some
 
@@ -135,9 +130,7 @@ module _ (chain : Chain) (sample : Words → Outcome) (n : ℕ) (is : IsChain ch
   mean : ending_draw (λ m. m) ≡ ending_draw (λ m. 1) * weighted chain weight value
   mean =
       let out = sum-times (weighted chain weight) (weighted-is chain weight) (whole chain weight) value in
-      let left : word_count ^ n * weighted chain weight (λ x. whole chain weight * value x) ≡ word_count ^ n * (whole chain weight * weighted chain weight value) = ap (λ m. word_count ^ n * m) out in
-      let right : ending_draw (λ m. 1) * weighted chain weight value ≡ word_count ^ n * whole chain weight * weighted chain weight value = ap (λ m. m * weighted chain weight value) ones in
-      still (λ m. m) ∙ (left ∙ omega arith)
+      still (λ m. m) ∙ rw (out, ones) (omega arith)
 
   variance : ending_draw (λ m. gap m (weighted chain weight value)) ≡ word_count ^ n * spread chain weight value
   variance =

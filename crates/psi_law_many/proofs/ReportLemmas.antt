@@ -1,5 +1,5 @@
 -- The report of the samples of several pasts has the sums of their values.
-use Rattle.std.specs.Prelude.{◌≡◌, ℕ, zero, suc, ◌+◌, ◌-◌, ◌*◌, ◌<◌, ◌≤◌, ℤ, pos, ◌+ℤ◌, List, [], ◌∷◌, map, length, slice_index, slice_index_or, refl}
+use Rattle.std.specs.Prelude.{◌≡◌, ℕ, zero, suc, ◌+◌, ◌-◌, ◌*◌, ◌<◌, ℤ, pos, ◌+ℤ◌, List, [], ◌∷◌, map, length, slice_index, slice_index_or, refl}
 use Rattle.std.specs.List.{flat_map}
 use Rattle.std.proofs.Common.{inl, inr, ap, sym, ◌∙◌, subst, arith}
 use Rattle.std.proofs.lemmas.Int.{ints}
@@ -15,6 +15,7 @@ use Rattle.psi_net_model.specs.declared.entries.Queue.{Queue}
 use Rattle.psi_report.specs.Samples.{met_states}
 use Rattle.psi_report.specs.Quantities.{Quantity, queues_from, queue_quantities, reward_quantities, sum_of}
 use Rattle.psi_report.specs.declared.figure.Item.TheVariants.{Sum, RewardSum}
+use Rattle.psi_report.proofs.TotalsLemmas.{length-met_states}
 use Rattle.psi_report.specs.Report.{figure, queue_trio, reward_trio, quantity_figures, contents_of}
 use Rattle.psi_law.specs.Counting.{Words}
 use Rattle.psi_law.specs.Chains.{Chain, IsChain}
@@ -24,12 +25,6 @@ use Rattle.psi_law_many.specs.Values.{value_or, sum_or}
 use Rattle.psi_law_many.specs.Reports.{report_of, IsReported}
 
 -- ---- samples that did not coalesce
-
-met-few : (os : List Outcome) → length (met_states os) ≤ length os
-unfolding met_states
-met-few [] = omega arith
-met-few (Met t x ∷ os) = (let rest = met-few os in omega arith)
-met-few (NotMet l ∷ os) = (let rest = met-few os in omega arith)
 
 -- one sample before others adds another number, or its value, as often on both sides
 others-first : (o : Outcome) (os : List Outcome) (value : List ℕ → ℕ) (other : ℕ)
@@ -53,7 +48,7 @@ others-are : (sample : Words → Outcome) (pasts : List Words) (value : List ℕ
 others-are sample pasts value other =
     let k = length (map sample pasts) in
     let m = length (met_states (map sample pasts)) in
-    let few = met-few (map sample pasts) in
+    let few = length-met_states (map sample pasts) in
     let parts : other * k ≡ other * (m + (k - m)) = ap (λ n. other * n) (omega arith) in
     let all = others-all sample pasts value other in omega arith
 

@@ -1,7 +1,7 @@
 -- Lists of pasts with a sample that did not coalesce (the union bound).
-use Rattle.std.specs.Prelude.{◌≡◌, ℕ, zero, suc, ◌+◌, ◌*◌, ◌^◌, ◌≤◌, List, ◌∷◌}
+use Rattle.std.specs.Prelude.{ℕ, zero, suc, ◌+◌, ◌*◌, ◌^◌, ◌≤◌, List, ◌∷◌}
 use Rattle.std.specs.List.{list_any}
-use Rattle.std.proofs.Common.{ap, arith}
+use Rattle.std.proofs.Common.{arith}
 use Rattle.std.proofs.Math.Nat.{pow-suc, mul-le-mul_right}
 use Rattle.psi_state.specs.declared.Outcome.{Outcome}
 use Rattle.psi_law.specs.Counting.{Words, sum_pasts}
@@ -29,8 +29,7 @@ module _ (sample : Words → Outcome) (n k : ℕ) where
       let order = lists-is.order (λ pasts. rest (past ∷ pasts)) (λ pasts. own past + rest pasts)
       (λ pasts. either (is_unmet (sample past)) (list_any (λ p. is_unmet (sample p)) pasts)) in
       let more = lists-is.more (λ pasts. own past) rest in
-      let constant = sum-constant (sum_lists word_count n k) lists-is (own past) in
-      let ones : own past * sum_lists word_count n k (λ pasts. 1) ≡ own past * (word_count ^ n) ^ k = ap (λ m. own past * m) (lists-ones word_count n k) in
+      let constant = rw (lists-ones word_count n k) at (sum-constant (sum_lists word_count n k) lists-is (own past)) in
       omega arith
 
   some-step : some_unmet sample n (suc k) ≤ (word_count ^ n) ^ k * unmet sample n + some_unmet sample n k * word_count ^ n
@@ -50,11 +49,8 @@ some-adds sample n (suc k) =
     let w = word_count ^ n in
     let step = mul-le-mul_right w (some-step sample n k) in
     let rest = mul-le-mul_right w (some-adds sample n k) in
-    let power : suc k * unmet sample n * w ^ suc k ≡ suc k * unmet sample n * (w ^ k * w) = ap (λ m. suc k * unmet sample n * m) (pow-suc w k) in
-    omega arith
+    rw (pow-suc w k) (omega arith)
 
 pub unmet-adds : (chain : Chain) (sample : Words → Outcome) (n : ℕ) → UnmetAdds chain sample n
 unmet-adds chain sample n = λ k.
-    (let adds = some-adds sample n k in
-    let power : k * unmet sample n * (word_count ^ n) ^ k ≡ k * unmet sample n * word_count ^ (n * k) = ap (λ m. k * unmet sample n * m) (lists-power word_count n k) in
-    omega arith)
+    rw (lists-power word_count n k) at (some-adds sample n k)

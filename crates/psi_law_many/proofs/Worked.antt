@@ -332,11 +332,11 @@ ten-covered = ((many 2 18 (omega arith) (omega arith) (omega arith)).bets halves
 one-measured : IsMeasured (network_chain (queueing 1 17)) thirds customers 0 1
 one-measured = record { balanced = one-balanced 17; above = λ x member. omega arith; below = bounded-by (network_chain (queueing 1 17)) customers 1 refl }
 
-compared : AreDifferent (network_chain (queueing 2 18)) (network_sample (queueing 2 18)) (network_chain (queueing 1 17)) (network_sample (queueing 1 17)) (2 ^ 18)
+compared : AreDifferent (network_chain (queueing 2 18)) (network_sample (queueing 2 18)) (2 ^ 18) (network_chain (queueing 1 17)) (network_sample (queueing 1 17)) (2 ^ 17)
 compared =
     let first = (network-lawful (queueing 2 18) (queueing-kept 2 18 (omega arith) (omega arith) (omega arith))).laws in
     let last = (network-lawful (queueing 1 17) (queueing-kept 1 17 (omega arith) (omega arith) (omega arith))).laws in
-    are-different first.is_chain first.reaches last.is_chain last.reaches (2 ^ 18) (omega arith) (omega arith)
+    are-different first.is_chain first.reaches last.is_chain last.reaches
 
 -- ten streams in all of which the first network is full and the second is empty are at most 1 list in 1,356
 differences-of : (b w : ℕ) → b * (2 ^ 30 * 1 ^ 0) * (21 * 3) ^ 10 ≤ (26 * 2 ^ 3 + (21 * 3 - 26) * 1 ^ 3) ^ 10 * w → b * 1356 ≤ w
@@ -350,7 +350,7 @@ ten-differences : at_least (2 ^ 18) 10 lead 30 * 1356 ≤ word_count ^ (2 ^ 18 *
 unfolding lead
 ten-differences =
     differences-of (at_least (2 ^ 18) 10 lead 30) (word_count ^ (2 ^ 18 * 10))
-    ((compared.tails halves customers 0 2 thirds customers 0 1 (customers-measured 18) one-measured).0.exponential 10 2 1 30 0 (omega arith) (omega arith))
+    ((compared.tails (2 ^ 18) (omega arith) (omega arith) halves customers 0 2 thirds customers 0 1 (customers-measured 18) one-measured).0.exponential 10 2 1 30 0 (omega arith) (omega arith))
 
 -- of all lists of 1000 pasts, the differences are 200 or more away from 1000 times 5 of 21 for at most 1 in 17
 thousand-apart : (b w : ℕ) → b * (4 * (200 * 200)) ≤ 1000 * (3 * 3) * w → b * 17 ≤ w
@@ -364,4 +364,4 @@ thousand-differences : deviating lead trail 1000 (2 ^ 18) (21 * 200) * 17 ≤ wo
 unfolding lead trail
 thousand-differences =
     thousand-apart (deviating lead trail 1000 (2 ^ 18) (21 * 200)) (word_count ^ (2 ^ 18 * 1000))
-    ((compared.near halves customers 0 2 thirds customers 0 1 (customers-measured 18) one-measured).plain 1000 200 (omega arith))
+    ((compared.near (2 ^ 18) (omega arith) (omega arith) halves customers 0 2 thirds customers 0 1 (customers-measured 18) one-measured).plain 1000 200 (omega arith))

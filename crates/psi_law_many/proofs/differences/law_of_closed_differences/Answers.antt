@@ -1,4 +1,5 @@
 -- Answers in the proof of `law_of_closed_differences`.
+use Rattle.std.proofs.Common.{rules}
 use Rattle.psi_law_many.proofs.ManyLemmas.{are-different}
 use Rattle.psi_law_many.proofs.differences.law_of_closed_differences.Goals as goal
 
@@ -7,9 +8,4 @@ returns c =
     let first = c.law_of_closed_network.ensures in
     let last = c.law_of_closed_network-2.ensures in
     let laws = are-different first.chain first.reaches last.chain last.reaches in
-    record {
-      near = λ n long longer. (laws n long longer).near;
-      tails = λ n long longer. (laws n long longer).tails;
-      intervals = λ n long longer. (laws n long longer).intervals;
-      bets = λ n long longer. (laws n long longer).bets;
-    }
+    search rules
