@@ -13,9 +13,7 @@ use Rattle.psi_law.proofs.ChainLemmas.{Own, function_of-keeps, compose-first}
 -- a path looks at the functions of its own steps alone
 state_at-same : (f g : Functions) (k : ℕ) (x : List ℕ) → ((j : ℕ) → j < k → f (suc j) ≡ g (suc j)) → state_at f k x ≡ state_at g k x
 state_at-same f g zero x same = refl
-state_at-same f g (suc k) x same =
-    ap (λ (h : List ℕ → List ℕ). h (state_at f k x)) (same k (omega arith))
-    ∙ ap (λ (z : List ℕ). g (suc k) z) (state_at-same f g k x (λ j small. same j (omega arith)))
+state_at-same f g (suc k) x same = rw (same k (omega arith), state_at-same f g k x (λ j small. same j (omega arith))) refl
 
 -- its first step comes before the others
 state_at-first : (f : Functions) (k : ℕ) (x : List ℕ) → state_at f (suc k) x ≡ state_at (λ t. f (suc t)) k (f 1 x)

@@ -139,9 +139,7 @@ unmet-share chain sample first n looks small = λ steps k.
     ∙ (pasts-constant w j (own p) ∙ omega arith)) in
     let out = sum-times (sum_pasts w n) pasts (w ^ j) own in
     let power : unmet sample n * w ^ (first + steps) ≡ unmet sample n * (w ^ n * w ^ j) = ap (λ m. unmet sample n * m) (ap (λ m. w ^ m) (sym e) ∙ pow-add w n j) in
-    let is : unmet (sample_at chain sample first k) (first + steps) ≡ w ^ j * unmet sample n = all ∙ (parted ∙ (inner ∙ out)) in
-    let times : unmet (sample_at chain sample first k) (first + steps) * w ^ n ≡ w ^ j * unmet sample n * w ^ n = ap (λ m. m * w ^ n) is in
-    omega arith)
+    rw (all ∙ (parted ∙ (inner ∙ out))) (omega arith))
 
 -- all statements together
 pub record ArePaths (chain : Chain) (sample : Words → Outcome) (first n : ℕ) : Type 0 where
