@@ -2,33 +2,19 @@
 use Rattle.std.specs.Prelude.{◌≡◌, ℕ, zero, suc, ◌+◌, ◌-◌, ◌<◌, ◌≤◌, List, [], ◌∷◌, ◌++◌, length, take, true, false, refl}
 use Rattle.std.specs.List.{insert}
 use Rattle.std.proofs.Common.{get_or, set, ap, sym, ◌∙◌, arith}
-use Rattle.std.proofs.lemmas.Bool.{and_right, eq-eqb, ne_eqb, lt-ltb, le-ltb, le-leb, lt-leb, false_from_ne_true}
+use Rattle.std.proofs.lemmas.Bool.{and_right, ne_eqb, le-ltb, false_from_ne_true}
 use Rattle.std.proofs.lemmas.Bool.Decides.{nat_tests}
 use Rattle.std.proofs.lemmas.List.{take_more}
 use Rattle.psi_report.specs.declared.figure.HorizonCount.{HorizonCount}
 use Rattle.psi_report_reader.specs.Counts.{with_count, place_of, joined_counts}
 use Rattle.psi_report_reader.specs.Merging.{is_count, counts_fit}
-use Rattle.psi_report_reader.proofs.OrderLemmas.{by_order}
 
 -- ---- the place of a horizon
-
-place-here : (t : ℕ) (c : HorizonCount) (cs : List HorizonCount) → t ≤ c.horizon → place_of t (c ∷ cs) ≡ 0
-place-here t c cs low = rw (le-leb t c.horizon low) refl
-
-place-later : (t : ℕ) (c : HorizonCount) (cs : List HorizonCount) → c.horizon < t → place_of t (c ∷ cs) ≡ suc (place_of t cs)
-place-later t c cs high = rw (lt-leb t c.horizon high) refl
 
 place-above : (t p : ℕ) (c : HorizonCount) (cs : List HorizonCount) → place_of t (c ∷ cs) ≡ suc p → (c.horizon < t) × (place_of t cs ≡ p)
 place-above t p c cs at = grind (arith, nat_tests)
 
 -- ---- one more count
-
-pub with_count-same : (k c : HorizonCount) (cs : List HorizonCount) → k.horizon ≡ c.horizon
-    → with_count k (c ∷ cs) ≡ record { horizon = c.horizon; count = k.count + c.count } ∷ cs
-with_count-same k c cs same = rw (eq-eqb k.horizon c.horizon same) refl
-
-pub with_count-lower : (k c : HorizonCount) (cs : List HorizonCount) → k.horizon < c.horizon → with_count k (c ∷ cs) ≡ k ∷ c ∷ cs
-with_count-lower k c cs less = rw (ne_eqb k.horizon c.horizon (λ e. omega arith), lt-ltb k.horizon c.horizon less) refl
 
 pub with_count-higher : (k c : HorizonCount) (cs : List HorizonCount) → c.horizon < k.horizon → with_count k (c ∷ cs) ≡ c ∷ with_count k cs
 with_count-higher k c cs more = rw (ne_eqb k.horizon c.horizon (λ e. omega arith), le-ltb k.horizon c.horizon (omega arith)) refl
@@ -37,21 +23,14 @@ with_count-higher k c cs more = rw (ne_eqb k.horizon c.horizon (λ e. omega arit
 pub with_count-set : (k e : HorizonCount) (cs : List HorizonCount) (p : ℕ) → place_of k.horizon cs ≡ p → p < length cs → e ≡ get_or cs p e → e.horizon ≡ k.horizon
     → with_count k cs ≡ set cs p (record { horizon = e.horizon; count = k.count + e.count })
 with_count-set k e [] p at small is same = absurd (omega arith)
-with_count-set k e (c ∷ cs) zero at small is same =
-    let here : k.horizon ≡ c.horizon = sym same ∙ ap (λ (x : HorizonCount). x.horizon) is in
-    with_count-same k c cs here ∙ ap (λ (x : HorizonCount). record { horizon = x.horizon; count = k.count + x.count } ∷ cs) (sym is)
-with_count-set k e (c ∷ cs) (suc p) at small is same =
-    let above = place-above k.horizon p c cs at in
-    with_count-higher k c cs above.0 ∙ ap (λ xs. c ∷ xs) (with_count-set k e cs p above.1 (omega arith) is same)
+with_count-set k e (c ∷ cs) zero at small is same = grind (arith, nat_tests)
+with_count-set k e (c ∷ cs) (suc p) at small is same = grind (arith, nat_tests, with_count-set k e cs p)
 
 -- where it isn't, it goes to its place
 pub with_count-insert : (k : HorizonCount) (cs : List HorizonCount) (p : ℕ) → place_of k.horizon cs ≡ p → ((d : HorizonCount) → p < length cs → (get_or cs p d).horizon ≡ k.horizon → ⊥)
     → with_count k cs ≡ insert cs p k
 with_count-insert k [] p at other = (let none : p ≡ 0 = sym at in rw none refl)
-with_count-insert k (c ∷ cs) zero at other = by_order k.horizon c.horizon
-    (λ equal. absurd (other c (omega arith) (sym equal)))
-    (λ less. with_count-lower k c cs less)
-    (λ more. absurd (let later = place-later k.horizon c cs more in omega arith))
+with_count-insert k (c ∷ cs) zero at other = grind (arith, nat_tests, other c)
 with_count-insert k (c ∷ cs) (suc p) at other =
     let above = place-above k.horizon p c cs at in
     with_count-higher k c cs above.0 ∙ ap (λ xs. c ∷ xs) (with_count-insert k cs p above.1 (λ d small same. other d (omega arith) same))

@@ -1,8 +1,7 @@
 -- Reports are of other networks exactly where they show other queues or rewards, and no samples have a report with the lines up to such a one.
 use Rattle.std.specs.Prelude.{◌≡◌, ℕ, suc, ◌+◌, ◌*◌, ◌<◌, ◌≤◌, List, [], ◌∷◌, map, length, All, Bool, true, false, ◌==◌, cond, Option, Some, None, Err, refl}
-use Rattle.std.specs.Str.{bytes_eq}
 use Rattle.std.proofs.Common.{ap, sym, ◌∙◌, subst, arith}
-use Rattle.std.proofs.lemmas.Bool.{and_parts}
+use Rattle.std.proofs.lemmas.Bool.{cond_both}
 use Rattle.std.proofs.lemmas.List.Elements.{All-head, All-tail, filter_passes}
 use Rattle.std.proofs.lemmas.List.Sums.{length-filter, count_by-le-length}
 use Rattle.std.proofs.lemmas.Slice.Eq.{bytes_eq-Decides}
@@ -36,11 +35,7 @@ own-sum : (i : Item) → is_sum i ≡ true → same_sum i i ≡ true
 own-sum i is = grind arith
 
 alike-shown : (f g : Figure) → is_alike f g ≡ true → shown_by f ≡ shown_by g
-alike-shown f g alike =
-    let parts = and_parts (same_sum f.item g.item) (bytes_eq f.name g.name) alike in
-    let items = same-sums f.item g.item parts.0 in
-    let names : f.name ≡ g.name = (bytes_eq-Decides f.name g.name).0 parts.1 in
-    cc
+alike-shown f g alike = grind (arith, same-sums f.item g.item, (bytes_eq-Decides f.name g.name).0)
 
 shown-alike : (f g : Figure) → is_sum f.item ≡ true → shown_by f ≡ shown_by g → is_alike f g ≡ true
 shown-alike f g is same =
@@ -106,15 +101,11 @@ module _ (a b d : Contents) (numbered : IsNumbered b) (right : flaw_of b ≡ Non
       let count = length-filter (λ (f : Figure). is_sum f.item) b.figures in
       let sums = count_by-le-length (λ (f : Figure). is_sum f.item) b.figures in
       let small = lines-few b numbered in
-      let few : rows_before b.met k ≤ 3 * k = at-most (b.met == 0) in
+      let few : rows_before b.met k ≤ 3 * k = cond_both (b.met == 0) k (3 * k) (λ m. m ≤ 3 * k) (λ e. omega arith) (λ e. omega arith) in
       let place : line_of_sum b k ≡ line_at ((5 + length b.horizons) + rows_before b.met k) = refl in
       let same = tell (omega arith) in
       difference-wrong k (sums_of a.figures) (sums_of b.figures) (sums_of d.figures) wrong none
       (sums-alike b.met k b d right other same.met refl (λ j less. same.figures j (omega arith)))
-    where
-      at-most : (t : Bool) → cond {A = ℕ} t k (3 * k) ≤ 3 * k
-      at-most true = omega arith
-      at-most false = omega arith
 
 -- the reports of samples of one network show the same
 contents-alike : (net : Network) (outcomes others : List Outcome) → difference 0 (sums_of (contents_of net outcomes).figures) (sums_of (contents_of net others).figures) ≡ None

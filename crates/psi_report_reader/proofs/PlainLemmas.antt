@@ -4,7 +4,6 @@ use Rattle.std.specs.Fmt.{decimal, signed_decimal}
 use Rattle.std.specs.Int.RustNames.{unsigned_abs}
 use Rattle.std.specs.List.{list_any, list_all, slice_split}
 use Rattle.std.proofs.Common.{ap, ◌∙◌, append_assoc, arith}
-use Rattle.std.proofs.lemmas.Bool.{ne_eqb}
 use Rattle.std.proofs.lemmas.Bool.Decides.{nat_tests}
 use Rattle.std.proofs.lemmas.List.{append-nil}
 use Rattle.std.proofs.lemmas.List.Elements.{All-cons, All-head, All-tail, All-append, All-weaker}
@@ -23,15 +22,12 @@ pub record IsPlain (byte : ℕ) : Type 0 where
   pub feed : (byte == 10) ≡ false
 
 -- bytes of a name and digits are such
-name-byte-apart : (byte mark : ℕ) → is_name_byte byte ≡ true → is_name_byte mark ≡ false → (byte == mark) ≡ false
-name-byte-apart byte mark is isnt = ne_eqb byte mark (λ e. (let same : is_name_byte byte ≡ is_name_byte mark = ap is_name_byte e in absurd cc))
-
 name-byte-plain : (byte : ℕ) → is_name_byte byte ≡ true → IsPlain byte
 name-byte-plain byte is = record {
-  comma = name-byte-apart byte 44 is refl;
-  quote = name-byte-apart byte 34 is refl;
-  return = name-byte-apart byte 13 is refl;
-  feed = name-byte-apart byte 10 is refl;
+  comma = grind (arith, nat_tests);
+  quote = grind (arith, nat_tests);
+  return = grind (arith, nat_tests);
+  feed = grind (arith, nat_tests);
 }
 
 -- bytes as they stand in names; literals are seen to be such by computing

@@ -34,9 +34,8 @@ rows-length [] all = omega arith
 rows-length (r ∷ rows) all =
     let is : IsShort r = All-head IsShort r rows all in
     let here : length (row_text default_writer r) ≤ 100 = rw is.is (row-length is.item is.name is.value is.item_plain is.name_plain is.value_plain is.few) in
-    let rest = rows-length rows (All-tail IsShort r rows all) in
     let both = length-append (row_text default_writer r) (flat_map (row_text default_writer) rows) in
-    omega arith
+    omega (arith, rows-length rows (All-tail IsShort r rows all))
 
 text-length : (c : Contents) → IsReport c → length (text_of c) ≤ 100 * (4 + (length c.horizons + length c.figures))
 unfolding text_of contents_rows number_rows
@@ -87,12 +86,9 @@ unfolding contents_of
 reports_short net outcomes are few =
     let states = met_states outcomes in
     let steps = met_horizons outcomes in
-    let long = text-length (contents_of net outcomes) (samples-fit net outcomes are few) in
+    let long = simp length-append at (text-length (contents_of net outcomes) (samples-fit net outcomes are few)) in
     let horizons = horizons-few (horizons_of steps) (rising-horizons steps)
     (All-map AtHorizon (horizon_count steps) (distinct steps) (distinct-all IsHorizon steps (met-are net outcomes are.samples).0)) in
-    let both = length-append (flat_map (quantity_figures queue_trio states) (queue_quantities net)) (flat_map (quantity_figures reward_trio states) (reward_quantities net)) in
     let queues = figures-few queue_trio states (queue_quantities net) in
     let rewards = figures-few reward_trio states (reward_quantities net) in
-    let queue_count = (queues-shown net outcomes are).few in
-    let reward_count = (rewards-shown net outcomes are).few in
-    omega arith
+    omega (arith, (queues-shown net outcomes are).few, (rewards-shown net outcomes are).few)

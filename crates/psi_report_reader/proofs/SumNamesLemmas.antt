@@ -1,9 +1,10 @@
 -- The names of the queues or of the rewards whose sums figures have.
-use Rattle.std.specs.Prelude.{◌≡◌, ℕ, ◌<◌, List, [], ◌∷◌, ◌++◌, map, length, filter, not, true, ◌&&◌, ◌⊎◌, nat_lt, count_by, refl}
+use Rattle.std.specs.Prelude.{◌≡◌, ℕ, ◌<◌, List, [], ◌∷◌, ◌++◌, map, length, filter, not, true, ◌&&◌, count_by, refl}
 use Rattle.std.specs.List.{list_all}
 use Rattle.std.specs.Str.{bytes_eq}
 use Rattle.std.proofs.Common.{ap, sym, ◌∙◌, inl, inr, arith}
-use Rattle.std.proofs.lemmas.Bool.{and_parts, cases_Bool, false_from_ne_true, lt-ltb, ltb-true}
+use Rattle.std.proofs.lemmas.Bool.{lt-ltb}
+use Rattle.std.proofs.lemmas.Bool.Decides.{nat_tests}
 use Rattle.std.proofs.lemmas.List.{map-append, length-map}
 use Rattle.std.proofs.lemmas.List.Elements.{filter-append}
 use Rattle.std.proofs.lemmas.List.Sums.{length-filter}
@@ -40,19 +41,11 @@ unnamed-out i name (e ∷ fs) is there = grind (arith, (bytes_eq-Decides e.name 
 
 unnamed-in : (i : Item) (name : List ℕ) (fs : List Figure) → (In name (names i fs) → ⊥) → Unnamed i name fs
 unnamed-in i name [] out = refl
-unnamed-in i name (e ∷ fs) out = elim (cases_Bool (same_sum e.item i)) [
-  | inl own ↦ (let rest : (name ≡ e.name) ⊎ In name (names i fs) → ⊥ = rw own at out in
-      rw (own, false_from_ne_true (bytes_eq e.name name) (λ is. rest (inl (sym ((bytes_eq-Decides e.name name).0 is)))), unnamed-in i name fs (λ there. rest (inr there))) refl)
-  | inr other ↦ rw (other, unnamed-in i name fs (rw other at out)) refl
-]
+unnamed-in i name (e ∷ fs) out = grind (arith, (bytes_eq-Decides e.name name).0, unnamed-in i name fs)
 
 -- a sum is new where its name is, and where there may be one more
 pub new-out : (fs : List Figure) (f : Figure) → is_new fs f ≡ true → (In f.name (names f.item fs) → ⊥) × (length (names f.item fs) < most_of f.item)
-new-out fs f new =
-    let parts = and_parts (list_all (λ e. not (same_sum e.item f.item && bytes_eq e.name f.name)) fs) (nat_lt (count_by (λ e. same_sum e.item f.item) fs) (most_of f.item)) new in
-    let count = names-count f.item fs in
-    let few = ltb-true (count_by (λ e. same_sum e.item f.item) fs) (most_of f.item) parts.1 in
-    (unnamed-out f.item f.name fs parts.0, omega arith)
+new-out fs f new = (unnamed-out f.item f.name fs (grind arith), grind (arith, nat_tests, names-count f.item fs))
 
 pub new-in : (fs : List Figure) (f : Figure) → (In f.name (names f.item fs) → ⊥) → length (names f.item fs) < most_of f.item → is_new fs f ≡ true
 new-in fs f out few =

@@ -1,5 +1,5 @@
 -- The judgements of a report as walks over its horizons, its figures and its sums.
-use Rattle.std.specs.Prelude.{◌≡◌, ℕ, zero, suc, ◌+◌, ◌-◌, ◌≤◌, List, [], ◌∷◌, ◌++◌, length, Bool, true, false, not, ◌&&◌, ◌==◌, nat_lt, min, cond, Option, Some, None, refl}
+use Rattle.std.specs.Prelude.{◌≡◌, ℕ, zero, suc, ◌+◌, ◌-◌, ◌≤◌, List, [], ◌∷◌, ◌++◌, length, Bool, true, false, not, ◌&&◌, ◌==◌, nat_lt, cond, Option, Some, None, refl}
 use Rattle.std.proofs.Common.{ap, sym, ◌∙◌, inl, inr, ◌⊎◌, arith}
 use Rattle.std.proofs.lemmas.Bool.{cases_Bool}
 use Rattle.std.proofs.lemmas.List.{length-append}
@@ -11,7 +11,6 @@ use Rattle.psi_report_reader.specs.Sound.{is_next, horizons_flaw, is_sum, is_ali
 use Rattle.psi_report_reader.specs.Merging.{difference}
 use Rattle.psi_report_reader.proofs.GroupLemmas.{begin-sum}
 use Rattle.psi_report_reader.proofs.WalkLemmas.{Alike, Walk, walked, judged, judged-own, walked-range, walked-wrong}
-use Rattle.psi_report_reader.proofs.OrderLemmas.{by_order}
 
 -- ---- horizons
 
@@ -112,10 +111,7 @@ reward-told i k = grind arith
 
 varying-walked : (k : ℕ) (e : Figure) (fs : List Figure) → varying_behind k e fs ≡ walked varying_walk k (Some e) fs
 varying-walked k e [] = refl
-varying-walked k e (f ∷ fs) = elim (cases_Bool (varies e f)) [
-  | inl is ↦ rw is (reward-told f.item k)
-  | inr isnt ↦ rw isnt (varying-walked (k + 1) f fs)
-]
+varying-walked k e (f ∷ fs) = grind (arith, reward-told f.item k, varying-walked (k + 1) f fs)
 
 reward-walked : (fs : List Figure) → varying_reward fs ≡ walked varying_walk 0 None fs
 reward-walked [] = refl
@@ -126,10 +122,7 @@ reward-walked (f ∷ fs) = varying-walked 1 f fs
 first-is : (j k : Option ℕ) (p : ℕ) → first_of j k ≡ Some p → (j ≡ Some p) ⊎ (k ≡ Some p)
 first-is None k p is = inr is
 first-is (Some j) None p is = inl is
-first-is (Some j) (Some k) p is = by_order j k
-    (λ same. inl (ap Some (let at : min j k ≡ p = cc in omega arith)))
-    (λ less. inl (ap Some (let at : min j k ≡ p = cc in omega arith)))
-    (λ more. inr (ap Some (let at : min j k ≡ p = cc in omega arith)))
+first-is (Some j) (Some k) p is = grind arith
 
 none-first : (j k : Option ℕ) → first_of j k ≡ None → (j ≡ None) × (k ≡ None)
 none-first None k is = (refl, is)
