@@ -97,9 +97,9 @@ closed-sampled : (net : Network) (total seed stream : ℕ) → closed_sampled ne
 unfolding closed_sampled closed_endings functions_by_time
 closed-sampled net total seed stream = refl
 
-pub paths-counted : PathsAreCounted
-paths-counted = λ net seed stream. counted net (all_states (caps_of net)) (network_sample net) seed stream (sampled net seed stream) (open-sampled net seed stream)
+pub paths_counted : PathsAreCounted
+paths_counted = λ net seed stream. counted net (all_states (caps_of net)) (network_sample net) seed stream (sampled net seed stream) (open-sampled net seed stream)
 
-pub closed-paths-counted : ClosedPathsAreCounted
-closed-paths-counted = λ net total seed stream.
+pub closed_paths_counted : ClosedPathsAreCounted
+closed_paths_counted = λ net total seed stream.
     counted net (total_states (caps_of net) total) (network_total_sample net total) seed stream (closed_sampled net seed stream total) (closed-sampled net total seed stream)

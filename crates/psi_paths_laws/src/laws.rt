@@ -6,6 +6,7 @@ ghost use Rattle.psi_paths_laws.specs.Statements.{PathsAreJoined, PrintedPathsAr
 /// The table of the paths of streams is that of the first of them, and behind it the rows of the others: of any samples
 /// (`any`), and of those that `psi_paths` prints of streams, and of those behind them (`printed`). So many machines can draw one
 /// table.
+#[tactic(auto, using(crate::proofs::JoinedLemmas::joined, crate::proofs::JoinedLemmas::printed_joined))]
 pub fn paths_are_joined()
     ensures any { PathsAreJoined }
     ensures printed { PrintedPathsAreJoined }
@@ -26,6 +27,7 @@ pub fn short_paths_tell_samples()
 ///   each state of the path.
 /// - `closed`: so it is of the samples of a closed network, and of
 ///   [`law_of_closed_network_paths`](psi_law_paths::law_of_closed_network_paths).
+#[tactic(auto, using(crate::proofs::CountedLemmas::paths_counted, crate::proofs::CountedLemmas::closed_paths_counted))]
 pub fn paths_are_counted()
     ensures samples { PathsAreCounted }
     ensures closed { ClosedPathsAreCounted }
