@@ -142,6 +142,14 @@ def companion(program: str, name: str) -> str:
     return found
 
 
+def pytest_configure(config: pytest.Config) -> None:
+    """Where the repository is there, its tests run side by side."""
+    if not ALONE:
+        from tests import side_by_side
+
+        side_by_side.register(config)
+
+
 @pytest.fixture(scope="session")
 def program() -> str:
     """The path of the built program."""

@@ -56,6 +56,10 @@ CASES = {
 }
 
 
+# The chain is built once where its tests run in one process.
+OF_CHAIN = pytest.mark.xdist_group("chain")
+
+
 @pytest.fixture(scope="module")
 def chain(tmp_path_factory: pytest.TempPathFactory) -> str:
     """The plain chain, built by cargo."""
@@ -95,6 +99,7 @@ def test_the_iteration_has_the_mean_that_is_solved_directly(monkeypatch: pytest.
     assert math.isclose(solve.mean_of(net, "q2", None)[0], direct, rel_tol=1e-6)
 
 
+@OF_CHAIN
 def test_the_plain_chain_has_the_mean(case: networks.Case, chain: str, tmp_path: pathlib.Path) -> None:
     found = rivals.by_chain(chain, written(case, tmp_path)[1], 2_000_000)
     # Three half-widths: such an interval misses the mean once in some 370 times.
@@ -102,6 +107,7 @@ def test_the_plain_chain_has_the_mean(case: networks.Case, chain: str, tmp_path:
     assert found.half < 0.02 * exact(case)
 
 
+@OF_CHAIN
 def test_the_plain_chain_refuses_other_texts(chain: str, tmp_path: pathlib.Path) -> None:
     file = tmp_path / "chain.net"
     for text in ("", "capacities 1\nstart 0\nwatched 1\nevent first 1 - 1 0 leave\n", "nonsense\n"):
@@ -161,6 +167,7 @@ def test_the_least_start_and_the_least_time_of_several_runs_are_taken() -> None:
         assert found and found.measured == rivals.ENOUGH
 
 
+@OF_CHAIN
 def test_a_wrong_warm_up_is_measured(chain: str, tmp_path: pathlib.Path) -> None:
     mean, (none, long) = rivals.biases(chain, tmp_path, (0, 50_000), 2_000, 400)
     # M/M/1/K by its textbook formula.

@@ -375,6 +375,7 @@ def drawn_on(pdf: pathlib.Path) -> numpy.ndarray[Any, Any]:
     return numpy.frombuffer(dots, dtype=numpy.uint8).reshape(height, width)
 
 
+@pytest.mark.quiet
 def test_a_long_log_opens_soon(browser: "WebDriver", opened: Open, pages: Pages, program: str) -> None:
     """A page of 4,096 steps opens within a second, and takes half a second of one processor at most. On a
     busy machine only the processor's time is held against it."""
