@@ -20,7 +20,7 @@ import signal
 from collections.abc import Iterator
 from typing import NoReturn
 
-from psi_tools.cli.options import STREAM, TOTAL, Parser, add_psi, check_last_stream, number
+from psi_tools.cli.options import STREAM, TOTAL, Parser, check_last_stream, number
 from psi_tools.draw.blocks import MOST_BLOCKS, Folder
 from psi_tools.draw.engines import SHARE, SSH, Here, Hosts, Slurm, Way, run_task
 from psi_tools.draw.many import COMMAND, draw_all, joined, merge
@@ -60,7 +60,7 @@ def parser() -> Parser:
     text = "print the samples themselves, a row for each stream, by psi_states on this machine"
     parser.flag("--states", text)
     parser.add("--folder", "FOLDER", "where finished blocks are kept; NET.SEED.FIRST.COUNT.many by default")
-    add_psi(parser, default=built_program())
+    parser.add_psi(default=built_program())
     text = "the number of streams in a block; by default such that there are 20 blocks or more"
     parser.add("--block", "N", text, type=number(1, MOST_STREAMS))
     text = "the number of blocks that are drawn at the same time, or of tasks in Slurm"

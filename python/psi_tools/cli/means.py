@@ -3,23 +3,12 @@
 import argparse
 
 from psi_tools.arguments import LEAST_LEVEL, MOST_LEVEL
-from psi_tools.cli.options import (
-    PILOTS,
-    STEPS,
-    TOTAL,
-    Parser,
-    add_form,
-    add_guaranteed,
-    add_program,
-    add_streams,
-    check_guaranteed,
-    check_last_stream,
-)
+from psi_tools.cli.options import PILOTS, STEPS, TOTAL, Parser, check_files, check_last_stream
 from psi_tools.draw.reports import read_any
 from psi_tools.draw.streams import LEAST_BATCHES
 from psi_tools.errors import PsiError
 from psi_tools.io import tables
-from psi_tools.io.output import check_writable, write, write_answer
+from psi_tools.io.output import write, write_answer
 from psi_tools.io.tables import Record
 from psi_tools.io.terminal import print_note
 from psi_tools.model.networks import Network
@@ -58,7 +47,7 @@ def parse(arguments: list[str]) -> argparse.Namespace:
     if not LEAST_LEVEL <= args.level / 100 <= MOST_LEVEL:
         raise PsiError(f"--level is from {100 * LEAST_LEVEL:g} to {100 * MOST_LEVEL:g}")
     check_paths(args)
-    check_guaranteed(args)
+    check_files(args)
     return args
 
 
@@ -84,11 +73,11 @@ def parser() -> Parser:
     parser.add("--level", "PERCENT", text, type=float, default=95.0)
     text = "the network file of the reports, which gives the range of each row; a folder of psi-many has it"
     parser.add("--net", "NET", text)
-    add_form(parser)
-    add_guaranteed(parser)
+    parser.add_form()
+    parser.add_guaranteed()
     text = "draw paths of this number of steps of the network NET, which is given instead of reports"
     parser.add("--paths", "STEPS", text, type=STEPS)
-    add_streams(parser, PATHS)
+    parser.add_streams(PATHS)
     parser.set_defaults(seed=None, first=None, count=None)
     text = "with --paths, the number of customers in a closed network; an open one by default"
     parser.add("--total", "TOTAL", text, type=TOTAL)
@@ -97,7 +86,7 @@ def parser() -> Parser:
     )
     more = "a twentieth of --count by default; with 0 the stakes are those of the range"
     parser.add("--pilot", "N", f"{text}; {more}", type=PILOTS)
-    add_program(parser)
+    parser.add_program()
     return parser
 
 
@@ -175,7 +164,6 @@ def answer(args: argparse.Namespace) -> tuple[str, list[str]]:
 
 def work(arguments: list[str]) -> int:
     args = parse(arguments)
-    check_writable(args.out)
     if args.paths is None:
         text, notes = answer(args)
     else:

@@ -8,7 +8,7 @@ from collections.abc import Callable
 from typing import TYPE_CHECKING, Any, TypeVar
 
 from psi_tools.arguments import GREATEST, NUMBER
-from psi_tools.cli.options import STEPS, Parser, add_psi
+from psi_tools.cli.options import STEPS, Parser
 from psi_tools.draw.program import Program
 from psi_tools.draw.reports import as_printed, read_folder, read_report
 from psi_tools.draw.streams import LEAST_BATCHES
@@ -63,7 +63,7 @@ def parser() -> Parser:
     parser = Parser(COMMAND, ABOUT)
     parser.add("-o --out", "FILE", "the picture: SVG, PNG or PDF, by the ending of its name", default="")
     parser.add("-t --title", "TITLE", "a title in place of the picture's own", default="")
-    add_psi(parser, ", of which forward, past, path and network ask")
+    parser.add_psi(", of which forward, past, path and network ask")
     parser.flag("--legend", "of network: explain the arrows below the picture")
     parser.flag("--tables", "of network: print the tables of choices by an index")
     text = "of past and path: the queue that is drawn; if not given, of past all customers, and of path each queue"

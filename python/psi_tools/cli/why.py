@@ -2,7 +2,7 @@
 
 import argparse
 
-from psi_tools.cli.options import STREAM, Parser, add_form, add_psi, number
+from psi_tools.cli.options import STREAM, Parser, number
 from psi_tools.draw.diagnosis import Findings, findings_of
 from psi_tools.draw.program import Program
 from psi_tools.io import tables
@@ -36,8 +36,8 @@ def parser() -> Parser:
     parser.add("--count", "N", text, type=number(1, 65_536), default=STREAMS)
     text = f"the number of seconds after which no longer limit is tried; {SECONDS} by default"
     parser.add("--seconds", "N", text, type=number(1, 86_400), default=SECONDS)
-    add_psi(parser)
-    add_form(parser, ("text", "json"))
+    parser.add_psi()
+    parser.add_form("text", "json")
     return parser
 
 

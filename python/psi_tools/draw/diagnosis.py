@@ -7,9 +7,8 @@ import time
 from collections.abc import Iterator
 from typing import Any
 
-from psi_tools.draw.program import Program, end_of
+from psi_tools.draw.program import Program, accepted
 from psi_tools.draw.reports import read_report
-from psi_tools.errors import PsiError
 from psi_tools.io.exact import read_exact
 from psi_tools.io.reports import Report
 from psi_tools.model.moves import Moves, loads_of
@@ -94,12 +93,9 @@ def horizons_of(psi: Program, net: Network, args: argparse.Namespace, limit: int
             break
         call = "report", tried.data, args.seed, 0, args.count
         try:
-            done = psi.call(*call, seconds=left)
+            done = accepted(psi.call(*call, seconds=left), "psi", (0,))
         except subprocess.TimeoutExpired:
             break
-        if done.status:
-            message = done.line.removeprefix("psi: ")
-            raise PsiError(message or f"psi ended with {done.status}", end_of(done))
         found.append((power, read_report(done.out.encode(), "what psi printed")))
         if found[-1][1].met == args.count:
             break

@@ -141,10 +141,10 @@ MOST_BYTES = 2**20
 UNREAD = 6
 
 
-def read_file(path: Path) -> bytes:
-    """The bytes of a network file, one more at most than it may have."""
+def read_file(path: Path, most: int = MOST_BYTES) -> bytes:
+    """The bytes of a file, one more at most than it may have; `most` is that of a network file by default."""
     try:
         with open(path, "rb") as file:
-            return file.read(MOST_BYTES + 1)
+            return file.read(most + 1)
     except (OSError, ValueError) as fault:
         raise PsiError(f"{path} can't be read: {reason(fault)}", UNREAD) from None
