@@ -136,16 +136,13 @@ def test_a_bar_is_shown_for_long_work_alone(
     monkeypatch.setattr(tqdm, "tqdm", counted)
     from psi.calls import ProgressBar
 
-    bar = ProgressBar(10, "blocks")
-    bar.show(4)
-    bar.before = 5
-    bar.show(5)
-    assert made[0].n == 10 and made[0].delay == 2 and capsys.readouterr().err == ""
-    bar.end()
+    with ProgressBar(10, "blocks") as bar:
+        bar.show(4)
+        bar.show(10)
+        assert made[0].n == 10 and made[0].delay == 2 and capsys.readouterr().err == ""
     monkeypatch.setenv("TQDM_DISABLE", "1")
-    silent = ProgressBar(10)
-    silent.show(3)
-    silent.end()
+    with ProgressBar(10) as silent:
+        silent.show(3)
     assert len(made) == 1 and isinstance(silent, Bar)
 
 

@@ -25,13 +25,10 @@ RATES = "rates of events, in the unit of the file: how often one changes the sta
 def drawn(psi: Program, net: Network, args: argparse.Namespace, first: int, count: int) -> Paths:
     """The paths of some streams, drawn in blocks."""
     blocks = blocks_of(first, count, table_size(count, psi.jobs))
-    bar = Progress(COMMAND, len(blocks), "blocks")
-    try:
+    with Progress(COMMAND, len(blocks), "blocks") as bar:
         with reading_ahead():
             rows = paths_of(psi, net, args.seed, blocks, args.paths, args.total, bar.show)
         return paths_of_rows(net, args.paths, rows)
-    finally:
-        bar.end()
 
 
 def notes_of(paths: Paths) -> list[str]:

@@ -61,8 +61,8 @@ class Samples:
         """How many samples meet a condition."""
         condition = Condition(self.net, text)
         tally = self.tally(condition.columns)
-        met = sum(many for values, many in tally.counts.items() if condition.holds(values))
-        return Share(text, met, tally.counts.total(), tally.unknown)
+        counts = [(condition.holds(values), many) for values, many in tally.counts.items()]
+        return Share(text, counts, tally.unknown)
 
     def guaranteed_law(self, name: str, is_reward: bool = False, pilots: int | None = None) -> "GuaranteedLaw":
         """As law, with intervals that carry a theorem. Where the mean is found by bets, the pilot streams
@@ -93,11 +93,5 @@ class Samples:
         def drawn(block: Streams) -> "Tally":
             return tally_of(header, draw(block), block, columns, queues)
 
-        bar = self.progress(len(blocks), "blocks")
-        try:
-            calls = [functools.partial(drawn, block) for block in blocks]
-            with reading_ahead():
-                found = self.psi.all(calls, bar.show)
-        finally:
-            bar.end()
-        return added(found)
+        with self.progress(len(blocks), "blocks") as bar, reading_ahead():
+            return added(self.psi.all([functools.partial(drawn, block) for block in blocks], bar.show))

@@ -1,11 +1,12 @@
 """Designs that are drawn side by side in folders of blocks, and their differences."""
 
 import dataclasses
+import functools
 import pathlib
 from typing import Any
 
 from psi_tools.draw.blocks import Block, Folder, digest_of
-from psi_tools.draw.kept import Kept
+from psi_tools.draw.kept import opened
 from psi_tools.draw.program import Program
 from psi_tools.draw.reports import report_of
 from psi_tools.draw.streams import size_of
@@ -42,10 +43,9 @@ class Work:
     def __init__(self, psi: Program, path: pathlib.Path, designs: list[Design], numbers: dict[str, Any]) -> None:
         self.psi, self.nets = psi, [design.net for design in designs]
         self.folders: list[Folder] = []
-        self.kept = Kept(path, numbers["seed"], numbers["first"])
-        size = self.kept.open(size_of(numbers["count"]))
+        path, size = opened(path, numbers["seed"], numbers["first"], size_of(numbers["count"]))
         for data in [net.data for net in self.nets]:
-            folder = Folder(self.kept.path / digest_of(data)[:16])
+            folder = Folder(path / digest_of(data)[:16])
             folder.lock()
             folder.bind(data, numbers, None, size)
             if folder.size != size:
@@ -62,10 +62,8 @@ class Work:
             waiting += [(folder, block) for block in folder.all_blocks() if block.number not in finished[-1]]
         # The first blocks of all designs come first, so a call that is stopped has whole ones.
         waiting.sort(key=lambda each: each[1].number)
-        progress = Progress(command, len(waiting), "blocks")
-        calls = [lambda each=each: self.keep(*each) for each in waiting]
-        self.psi.all(calls, progress.show)
-        progress.end()
+        with Progress(command, len(waiting), "blocks") as progress:
+            self.psi.all([functools.partial(self.keep, *each) for each in waiting], progress.show)
         return [self.batches(folder, net) for folder, net in zip(self.folders, self.nets)]
 
     def keep(self, folder: Folder, block: Block) -> None:
