@@ -10,7 +10,6 @@ import math
 
 import numpy
 
-from psi_tools.check_log import Network as Plain
 from psi_tools.model.moves import closed_parts
 from psi_tools.model.networks import Network
 
@@ -22,7 +21,7 @@ State = tuple[int, ...]
 def closed_classes(net: Network) -> list[list[State]] | None:
     """The closed classes of the states of a network; none where there are too many states."""
     many = math.prod(capacity + 1 for capacity in net.capacities)
-    events = [*Plain({"version": 2, **net.heads, **net.table}).events]
+    events = net.followed().events
     if many > MOST_STATES or many * len(events) > MOST_STEPS:
         return None
     states = [*itertools.product(*(range(capacity + 1) for capacity in net.capacities))]

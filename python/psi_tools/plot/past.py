@@ -8,14 +8,14 @@ the horizon and the state of the sample, is compared before anything is returned
 from __future__ import annotations
 
 import dataclasses
-import tomllib
 from collections.abc import Iterable, Iterator
 from typing import Any
 
 from psi_tools import check_log
+from psi_tools.draw.paths import events_of
 from psi_tools.draw.program import Program
 from psi_tools.errors import InputError, require
-from psi_tools.model.networks import checked
+from psi_tools.model.networks import Network, checked
 from psi_tools.plot.read_log import ends_of
 
 State = tuple[int, ...]
@@ -64,10 +64,10 @@ class Past:
 class Follower:
     """Follows the runs of a network by the regions that psi follows, and all paths where there are few."""
 
-    def __init__(self, table: dict[str, Any]) -> None:
-        self.net = check_log.Network(table)
+    def __init__(self, net: Network) -> None:
+        self.net = net.followed()
         self.whole = check_log.Box([0] * len(self.net.caps), self.net.caps)
-        self.split: int = table.get("split", SPLIT)
+        self.split: int = net.heads.get("split", SPLIT)
         self.is_small = check_log.count(self.whole) <= MOST_PATHS
 
     def run(self, seed: int, stream: int, horizon: int) -> Run:
@@ -101,12 +101,6 @@ class Follower:
         return {event.after(state) for state in region}
 
 
-def names_of_events(table: dict[str, Any], net: check_log.Network) -> list[str]:
-    """The name of each event after the expansion over servers, and of idle."""
-    names = [event["name"] for event in table["event"] for _ in net.events_of(event)]
-    return [*names, "idle"]
-
-
 def past_of(program: str | None, path: str, seed: int, stream: int, new_words: bool = False) -> Past:
     """The runs of a sample of a file that psi accepts.
 
@@ -114,9 +108,8 @@ def past_of(program: str | None, path: str, seed: int, stream: int, new_words: b
     one. Raises InputError where the network is not accepted, or a run would be longer than 4,096 steps.
     """
     psi = Program(program)
-    data = checked(psi, path).data
-    table = tomllib.loads(data.decode())
-    follower = Follower(table)
+    net = checked(psi, path)
+    follower = Follower(net)
     runs: list[Run] = []
     require(stream + follower.net.limit < 2**64 or not new_words, "there are not as many streams for new words")
     for power in range(follower.net.limit + 1):
@@ -128,14 +121,11 @@ def past_of(program: str | None, path: str, seed: int, stream: int, new_words: b
         if runs[-1].has_coalesced:
             break
     if not new_words:
-        compare(psi.ask("sample", data, seed, stream, statuses=(0, 1)).out, runs[-1], path)
-    names = names_of_events(table, follower.net)
+        compare(psi.ask("sample", net.data, seed, stream, statuses=(0, 1)).out, runs[-1], path)
+    names = [*(name for name, _ in events_of(net)), "idle"]
     last = stream + len(runs) - 1 if new_words else stream
     numbers = [follower.net.event_of(seed, last, time) for time in range(runs[-1].horizon, 0, -1)]
-    names_of_queues = [queue["name"] for queue in table["queue"]]
-    return Past(
-        names_of_queues, follower.net.caps, seed, stream, runs, [names[number] for number in numbers], new_words
-    )
+    return Past(net.queues, net.capacities, seed, stream, runs, [names[number] for number in numbers], new_words)
 
 
 def compare(printed: str, run: Run, path: str) -> None:

@@ -7,7 +7,6 @@ compared with the one that psi prints and, where psi_paths is built, the sums al
 from __future__ import annotations
 
 import dataclasses
-import tomllib
 
 from psi_tools.draw.paths import events_of, header_of
 from psi_tools.draw.program import Program, companion_of
@@ -42,7 +41,7 @@ def path_of(program: str | None, path: str, seed: int, stream: int, steps: int) 
     require(past.runs[-1].has_coalesced, f"{path}: the sample isn't coupled within {past.runs[-1].horizon:,} steps")
     psi = Program(program)
     net = checked(psi, path)
-    follower = Follower(tomllib.loads(net.data.decode()))
+    follower = Follower(net)
     events = [follower.net.event_of(seed, stream, FIRST_PLACE + time) for time in range(1, steps + 1)]
     states = [past.runs[-1].low[-1]]
     for event in events:
