@@ -15,10 +15,11 @@ from psi_tools.draw.program import Program
 from psi_tools.errors import ArgumentError, PsiError
 from psi_tools.io.reports import together
 from psi_tools.model.networks import Source, data_of, network_of
-from psi_tools.stats.batches import REWARD, Batches, batches_of
+from psi_tools.stats.batches import REWARD, batches_of
 from psi_tools.stats.guaranteed import ASSUMED, Guarantee, Pilot, file_of
 from psi_tools.stats.guaranteed_rows import GuaranteedLaw, guaranteed_means
 from psi_tools.stats.law import RECORD, SHARED, Law
+from psi_tools.stats.means import record
 
 
 def check(net: Source, *, program: Program | None = None) -> str:
@@ -197,13 +198,8 @@ def means(
         return _certified(table, claims, data, seed, first, count)
     for line in batches.carried():
         warnings.warn(line, FewSamples, stacklevel=2)
-    return pandas.DataFrame(_rows(batches, level), index=index, columns=columns)
-
-
-def _rows(batches: Batches, level: float) -> list[tuple[Any, ...]]:
-    """The rows of the table of means."""
-    means = [(batches.mean(row, level), row) for row in batches.rows]
-    return [(mean.mean, mean.half, mean.low, mean.high, row.least, row.greatest) for mean, row in means]
+    found = [record("", row.name, batches.mean(row, level), row.least, row.greatest) for row in batches.rows]
+    return pandas.DataFrame(found, index=index, columns=columns)
 
 
 def _certified(

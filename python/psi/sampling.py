@@ -1,7 +1,6 @@
 """Horizons, rewards and certificates of single streams."""
 
 import os
-import re
 import tempfile
 from typing import TYPE_CHECKING
 
@@ -23,15 +22,10 @@ def _answer(program: Program | None, command: str, net: Source, *arguments: obje
     return answer
 
 
-def _fields(form: str, text: str) -> tuple[str, ...]:
-    """The fields of a text that psi prints."""
-    found = re.fullmatch(form, text)
-    assert found is not None, text
-    return found.groups()
-
-
-def _state(text: str) -> tuple[int, ...]:
-    return tuple(map(int, text.split(",")))
+def _coalescence(text: str) -> Coalescence:
+    """Where all states have coalesced, by what psi prints."""
+    _, horizon, _, state = text.split()
+    return Coalescence(int(horizon), tuple(map(int, state.split(","))))
 
 
 def couple(net: Source, seed: int, stream: int, *, program: Program | None = None) -> Coalescence:
@@ -73,9 +67,7 @@ def couple(net: Source, seed: int, stream: int, *, program: Program | None = Non
     True
     """
     seed, stream = stream_of(seed, stream)
-    text = _answer(program, "couple", net, seed, stream).out
-    horizon, state = _fields(r"coupled (\d+)\nstate (\S+)\n", text)
-    return Coalescence(int(horizon), _state(state))
+    return _coalescence(_answer(program, "couple", net, seed, stream).out)
 
 
 def reward(net: Source, seed: int, stream: int, name: str, *, program: Program | None = None) -> RewardValue:
@@ -120,8 +112,7 @@ def reward(net: Source, seed: int, stream: int, name: str, *, program: Program |
     True
     """
     seed, stream = stream_of(seed, stream)
-    text = _answer(program, "reward", net, seed, stream, name).out
-    horizon, value = _fields(r"reward-met (\d+)\nvalue (\S+)\n", text)
+    _, horizon, _, value = _answer(program, "reward", net, seed, stream, name).out.split()
     return RewardValue(int(horizon), int(value))
 
 
@@ -246,9 +237,7 @@ def replay(net: Source, log: str, *, program: Program | None = None) -> Coalesce
         path = os.path.join(folder, "log")
         with open(path, "w", encoding="utf-8", newline="") as file:
             file.write(log)
-        answer = resolved(program).ask("replay", data_of(net), path)
-    horizon, state = _fields(r"accepted (\d+)\nstate (\S+)\n", answer.out)
-    return Coalescence(int(horizon), _state(state))
+        return _coalescence(resolved(program).ask("replay", data_of(net), path).out)
 
 
 def draw_log(log: str, net: Source | None = None, title: str = "") -> "Figure":
