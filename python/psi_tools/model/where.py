@@ -5,8 +5,7 @@ import re
 from psi_tools.errors import PsiError, printable
 from psi_tools.io import toml
 from psi_tools.io.files import MOST_BYTES
-from psi_tools.model.faults import misspelt, remark_on_value, table_at
-from psi_tools.model.refusals import SENTENCES, Finding, Place, place_of
+from psi_tools.model.refusals import SENTENCES, Finding, Place, misspelt, place_of, remark_on_value, table_at
 
 REFUSED = re.compile(r"psi: network refused (\d+) (\w+) (top|queue|event|reward) (\d+) (\S+)")
 LONGEST = 160
