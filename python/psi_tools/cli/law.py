@@ -8,7 +8,7 @@ from psi_tools.draw.law import COUNT, Samples
 from psi_tools.draw.program import Program
 from psi_tools.errors import PsiError
 from psi_tools.io import tables
-from psi_tools.io.output import write, write_answer
+from psi_tools.io.output import write
 from psi_tools.io.tables import Record
 from psi_tools.io.terminal import Progress, print_note
 from psi_tools.model.networks import Network, checked
@@ -151,9 +151,9 @@ def write_files(law: Law, net: Network, args: argparse.Namespace) -> None:
         from psi_tools.plot.draw_law import draw_law
         from psi_tools.plot.style import saved
 
-        write(args.picture, saved(draw_law(law, ""), args.picture.rpartition(".")[2].lower()))
+        write([saved(draw_law(law, ""), args.picture.rpartition(".")[2].lower())], args.picture)
     if args.certificate:
-        write(args.certificate, certificates_of(net, args, law).encode())
+        write(certificates_of(net, args, law), args.certificate)
 
 
 def work(arguments: list[str]) -> int:
@@ -178,7 +178,7 @@ def work(arguments: list[str]) -> int:
         raise PsiError(f"none of {found.many:,} streams is coupled; psi-why reports what may help", 1)
     if isinstance(found, Law):
         write_files(found, net, args)
-    write_answer(answer_of(found, args), args.out)
+    write(answer_of(found, args), args.out)
     if notes_of(found) and args.format != "text":
         print_note(COMMAND, notes_of(found)[0])
     if isinstance(found, Law) and args.guaranteed and args.format == "csv":

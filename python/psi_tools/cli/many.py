@@ -28,7 +28,7 @@ from psi_tools.draw.program import Program, built_companion, built_program, comp
 from psi_tools.draw.streams import LEAST_BATCHES, MOST_STREAMS
 from psi_tools.errors import PsiError
 from psi_tools.io.files import read_file
-from psi_tools.io.output import check_writable, write_answer, write_pieces
+from psi_tools.io.output import check_writable, write
 from psi_tools.io.reports import read
 from psi_tools.io.samples import uncoupled_in
 from psi_tools.io.terminal import print_note
@@ -135,7 +135,7 @@ def write_report(args: argparse.Namespace, psi: str) -> None:
     program = program_of(args.merge) if args.merge else companion_of(psi, "psi_merge")
     folder, files = blocks_of(args, psi)
     text = merge(folder, files, program)
-    write_answer(text.decode(), args.out)
+    write(text.decode(), args.out)
     report = read(text)
     report_uncoupled(report.samples - report.met, args, "sums and extremes are of the others, and biased")
 
@@ -152,7 +152,7 @@ def write_table(args: argparse.Namespace, psi: str) -> None:
             lost += uncoupled_in(header, piece)
             yield piece
 
-    write_pieces(counted(), args.out)
+    write(counted(), args.out)
     report_uncoupled(lost, args, "their rows are empty, and the others alone are biased")
 
 

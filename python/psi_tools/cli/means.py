@@ -8,7 +8,7 @@ from psi_tools.draw.reports import read_any
 from psi_tools.draw.streams import LEAST_BATCHES
 from psi_tools.errors import PsiError
 from psi_tools.io import tables
-from psi_tools.io.output import write, write_answer
+from psi_tools.io.output import write
 from psi_tools.io.tables import Record
 from psi_tools.io.terminal import print_note
 from psi_tools.model.networks import Network
@@ -136,7 +136,7 @@ def guaranteed_answer(args: argparse.Namespace, batches: Batches, wanted: int) -
         )
     rows, records = guaranteed_means(batches, args.level / 100)
     if args.certificate:
-        write(args.certificate, tables.as_json(file_of(rows, {"reports": args.reports})).encode())
+        write(tables.as_json(file_of(rows, {"reports": args.reports})), args.certificate)
     notes, remarks = notes_of(batches, wanted), [misses(rows[0].d), ASSUMED]
     if args.format != "text":
         return in_form(heads_of(batches), records, args, [*notes, *remarks])
@@ -170,7 +170,7 @@ def work(arguments: list[str]) -> int:
         from psi_tools.cli.path_means import answer as answer_of_paths
 
         text, notes = answer_of_paths(args)
-    write_answer(text, args.out)
+    write(text, args.out)
     if notes:
         print_note(COMMAND, "; ".join(notes))
     return 0

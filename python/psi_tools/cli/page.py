@@ -81,4 +81,4 @@ def work(arguments: list[str]) -> None:
     log = log_of(psi, net, args)
     accept(psi, net, log, args.log or args.net)
     title = args.title or pathlib.Path(args.net).stem
-    write(args.out, page_of(runs_of(net, log, title)).encode())
+    write(page_of(runs_of(net, log, title)), args.out)

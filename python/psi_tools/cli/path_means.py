@@ -66,7 +66,7 @@ def guaranteed_answer(psi: Program, net: Network, args: argparse.Namespace, path
         streams = {"seed": args.seed, "first": args.first, "count": args.count, "steps": args.paths}
         of = {"network": digest_of(net.data), **streams, "total": args.total}
         more = {"pilot": pilot and {"first": begin, "count": pilots}}
-        write(args.certificate, tables.as_json(file_of(rows, {**of, **more})).encode())
+        write(tables.as_json(file_of(rows, {**of, **more})), args.certificate)
     ways: list[str] = next((row.ways() for row in rows if row.ways()), [])
     remarks = [*ways, misses(rows[0].d), ASSUMED]
     if args.format != "text":

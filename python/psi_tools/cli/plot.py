@@ -219,4 +219,4 @@ def draw(args: argparse.Namespace) -> bytes:
 
 def work(arguments: list[str]) -> None:
     args = parse(arguments)
-    write(args.out, draw(args))
+    write([draw(args)], args.out)

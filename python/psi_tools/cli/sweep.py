@@ -10,7 +10,7 @@ from psi_tools.draw.program import Program
 from psi_tools.draw.sweep import Comparison, Work, carried_in, notes_of, records_of
 from psi_tools.errors import PsiError
 from psi_tools.io import tables
-from psi_tools.io.output import write, write_answer
+from psi_tools.io.output import write
 from psi_tools.io.tables import Record
 from psi_tools.io.terminal import print_note
 from psi_tools.model.designs import Design, aligned, check_bounds, designs_of
@@ -179,8 +179,8 @@ def work(arguments: list[str]) -> int:
 
         plain = [record for record, _, _ in records]
         figure = draw_sweep(compared.columns, compared.labels, plain, compared.base, notes)
-        write(args.picture, saved(figure, args.picture.rpartition(".")[2].lower()))
-    write_answer(answer_of(args, compared, records, notes, below), args.out)
+        write([saved(figure, args.picture.rpartition(".")[2].lower())], args.picture)
+    write(answer_of(args, compared, records, notes, below), args.out)
     if args.format != "text" and (notes or below):
         print_note(COMMAND, "; ".join([*notes, *below]))
     return 0

@@ -5,7 +5,7 @@ from psi_tools.draw.program import Program, accepted
 from psi_tools.errors import printable
 from psi_tools.io import tables
 from psi_tools.io.files import read_file
-from psi_tools.io.output import write_answer
+from psi_tools.io.output import write
 from psi_tools.model.refusals import SENTENCES
 from psi_tools.model.where import found_in, text_of, text_of_line
 
@@ -36,13 +36,13 @@ def work(arguments: list[str]) -> int:
     answer = accepted(psi.call("check", data), "psi", (0, 3))
     if answer.status == 0:
         message = "null" if args.format == "json" else f"{printable(args.net)}: psi accepts it"
-        write_answer(f"{message}\n", args.out)
+        write(f"{message}\n", args.out)
         return 0
     found = found_in(data, answer.line)
     if args.format == "json":
         text = None if found["line"] is None else text_of_line(data, found["line"])
         sentence = SENTENCES[found["name"]]
-        write_answer(tables.as_json({**found, "text": text, "sentence": sentence}), args.out)
+        write(tables.as_json({**found, "text": text, "sentence": sentence}), args.out)
     else:
-        write_answer(text_of(args.net, data, found), args.out)
+        write(text_of(args.net, data, found), args.out)
     return 3

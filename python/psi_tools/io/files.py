@@ -21,8 +21,6 @@ Path = str | os.PathLike[str]
 MOST_LINKS = 40
 # A descriptor of a process, as the proc file system names it.
 DESCRIPTOR = re.compile(r"/proc/(\d+)(?:/task/\d+)?/fd")
-# Names of temporary files that are tried.
-TRIES = 100
 
 
 def descriptor_of(path: str) -> tuple[int, int] | None:
@@ -75,11 +73,8 @@ def mode_of(target: str) -> int:
 def open_new(folder: str, front: str, ending: str = "") -> tuple[int, str]:
     """A new temporary file in a folder, which no link leads elsewhere, and its path."""
     flags = os.O_WRONLY | os.O_CREAT | os.O_EXCL | os.O_NOFOLLOW | os.O_CLOEXEC
-    for _ in range(TRIES):
-        path = os.path.join(folder, f"{front}{os.urandom(6).hex()}{ending}")
-        with contextlib.suppress(FileExistsError):
-            return os.open(path, flags, 0o600), path
-    raise FileExistsError(errno.EEXIST, os.strerror(errno.EEXIST), path)
+    path = os.path.join(folder, f"{front}{os.urandom(12).hex()}{ending}")
+    return os.open(path, flags, 0o600), path
 
 
 def replace(target: str, pieces: Iterable[bytes], front: str, ending: str = "", is_synced: bool = True) -> None:

@@ -22,14 +22,10 @@ def check_writable(path: str | None, option: str = "-o") -> None:
         raise PsiError(f"{option} {path} can't be written: {reason(fault)}", UNWRITTEN) from None
 
 
-def write(path: str, data: bytes) -> None:
-    """Writes the bytes of an answer to a file, whole or not at all under its name, or to a stream
-    such as /dev/stdout."""
-    write_pieces([data], path)
-
-
-def write_pieces(pieces: Iterable[bytes], path: str | None = None) -> None:
-    """Writes an answer piece by piece to standard output, or to a file as write does."""
+def write(answer: str | Iterable[bytes], path: str | None = None) -> None:
+    """Writes an answer, or its pieces, to standard output, or to a file: whole or not at all under its name, or to a
+    stream such as /dev/stdout."""
+    pieces = [answer.encode()] if isinstance(answer, str) else answer
     try:
         if path is not None:
             write_file(path, pieces)
@@ -41,8 +37,3 @@ def write_pieces(pieces: Iterable[bytes], path: str | None = None) -> None:
     except (OSError, ValueError) as fault:
         where = "standard output" if path is None else path
         raise PsiError(f"{where} can't be written: {reason(fault)}", UNWRITTEN) from None
-
-
-def write_answer(text: str, path: str | None = None) -> None:
-    """Writes an answer to standard output, or to a file."""
-    write_pieces([text.encode()], path)

@@ -229,7 +229,7 @@ def aligned(designs: list[Design]) -> tuple[list[Design], str | None]:
     why = None
     if sum(slots.values()) > MOST_TOTAL:
         why = f"the rates of all designs together would add up to more than {MOST_TOTAL:,}"
-    if any(count_of(net) > MOST_EVENTS for net in padded):
+    if any(sum(map(net.servers_of, net.table["event"])) > MOST_EVENTS for net in padded):
         why = f"with idle events there would be more than {MOST_EVENTS:,} events"
     if why:
         return designs, why
@@ -272,8 +272,3 @@ def with_idle(net: Network, names: list[str], slots: dict[str, int]) -> Network:
     made.table = {**net.table, "event": events}
     made.heads = {**net.heads, "version": 2}
     return made
-
-
-def count_of(net: Network) -> int:
-    """How many events a network has, counted over servers."""
-    return sum(net.servers_of(event) for event in net.table["event"])

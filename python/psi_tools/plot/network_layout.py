@@ -60,12 +60,6 @@ def quoted(text: str) -> str:
     return '"' + text.replace("\\", "\\\\").replace('"', '\\"') + '"'
 
 
-def node_line(node: SceneNode) -> str:
-    """A node in dot's language: its size alone."""
-    width, height = size_of(node)
-    return f"{node.key} [width={width:.3f}, height={height:.3f}];"
-
-
 def arrow_line(number: int, arrow: SceneArrow) -> str:
     """An arrow in dot's language: what is lost stays below its source, and signals bend before routes do."""
     weight, least = (1, 0) if arrow.kind is Arrow.LOSS else (1, 1) if arrow.kind in LIGHT else (4, 1)
@@ -80,7 +74,8 @@ def dot_of(scene: Scene) -> str:
         'node [shape=box, fixedsize=true, label=""];',
         f'edge [fontname="DejaVu Sans", fontsize={FONT_SIZE}, arrowsize=0.6];',
     ]
-    lines += map(node_line, scene.nodes)
+    sizes = [(node.key, *size_of(node)) for node in scene.nodes]
+    lines += [f"{key} [width={width:.3f}, height={height:.3f}];" for key, width, height in sizes]
     lines += [arrow_line(number, arrow) for number, arrow in enumerate(scene.arrows)]
     return "\n".join([*lines, "}"])
 

@@ -3,7 +3,7 @@
 import collections
 import dataclasses
 
-from psi_tools.stats.batches import REWARD, Batches, interval_or_none
+from psi_tools.stats.batches import REWARD, Batches
 
 
 @dataclasses.dataclass
@@ -38,6 +38,7 @@ def report_of(batches: Batches, has_intervals: bool = False) -> Report:
     spreads: dict[str, list[Spread]] = {"": [], REWARD: []}
     for row in batches.rows:
         mean = sum(row.sums) / met if met else None
-        interval = interval_or_none(batches, row) if has_intervals else None
+        low, high = (batches.mean(row).low, batches.mean(row).high) if has_intervals else (None, None)
+        interval = None if low is None or high is None else (low, high)
         spreads[row.kind].append(Spread(row.name, mean, row.least, row.greatest, interval))
     return Report(sum(batches.samples), batches.uncoupled, dict(sorted(horizons.items())), *spreads.values())

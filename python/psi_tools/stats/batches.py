@@ -95,26 +95,12 @@ def batches_of(reports: Sequence[Report]) -> Batches:
             raise PsiError("the reports are of different networks: their queues or rewards differ")
     rows = []
     for place, (kind, name) in enumerate(first.sums()):
-        own = [figures_of(report, place) for report in reports]
-        leasts = [least for _, least, _ in own if least is not None]
-        greatests = [greatest for *_, greatest in own if greatest is not None]
-        ends = min(leasts, default=None), max(greatests, default=None)
-        rows.append(Row(kind.decode(), name.decode(), [total for total, *_ in own], *ends))
+        # The figures of a report are sums alone where no sample is met; else the extremes follow each sum.
+        own = [report.figures[3 * place :][:3] if report.met else report.figures[place:][:1] for report in reports]
+        sums = [total.value for total, *_ in own]
+        ends = [(least.value, greatest.value) for _, least, greatest in (each for each in own if len(each) > 1)]
+        least = min((low for low, _ in ends), default=None)
+        rows.append(Row(kind.decode(), name.decode(), sums, least, max((high for _, high in ends), default=None)))
     horizons = [dict(report.horizons) for report in reports]
     met = [report.met for report in reports]
     return Batches([report.samples for report in reports], met, horizons, rows)
-
-
-def figures_of(report: Report, place: int) -> tuple[int, int | None, int | None]:
-    """The sum, the least and the greatest value of the row of this place."""
-    if not report.met:
-        return report.figures[place].value, None, None
-    total, least, greatest = (figure.value for figure in report.figures[3 * place : 3 * place + 3])
-    return total, least, greatest
-
-
-def interval_or_none(batches: Batches, row: Row) -> tuple[float, float] | None:
-    """The interval of a row, none where there are too few batches for one."""
-    mean = batches.mean(row)
-    low, high = mean.low, mean.high
-    return None if low is None or high is None else (low, high)

@@ -122,7 +122,8 @@ class Paths:
             return spread.mean - sign * math.log((1 - level) / 2) * far
         if below <= 0:
             return spread.mean + sign * self.reach(spread, far, 0.0, level)
-        one = visit_of(spread.error, below)
+        # What a visit to other values adds to the mean, where visits are alike and come by chance.
+        one = spread.error * spread.error / below
         unseen = min(far, one * (2 + (row.few * one / below) ** 4))
         return spread.mean + sign * self.reach(spread, unseen, 1 / below, level)
 
@@ -150,12 +151,6 @@ class Paths:
                     "more streams, or longer paths, make its interval narrower"
                 )
         return lines
-
-
-def visit_of(error: float, below: float) -> float:
-    """What a visit to other values adds to a mean over all paths that is so far from the value at which
-    there is none, where its error is that of visits which are alike and come by chance."""
-    return error * error / below if below > 0 else 0.0
 
 
 def paths_of_rows(net: Network, steps: int, rows: list[str | None]) -> Paths:
