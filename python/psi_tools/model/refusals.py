@@ -1,4 +1,4 @@
-"""Where in a network file stands what psi refuses, with the guide's sentences and what was meant by a name or a value."""
+"""Where in a network file stands what psi refuses, with the guide's sentences and what was meant by a name or value."""
 
 import re
 from collections.abc import Callable, Iterable, Iterator
