@@ -11,9 +11,8 @@ from psi.calls import ProgressBar, resolved, streams_of, warn_uncoupled
 from psi.results import NotCoupled
 from psi_tools.arguments import whole_argument
 from psi_tools.draw import paths as of_paths
-from psi_tools.draw.closed import MOST_TOTAL
+from psi_tools.draw.states import MOST_TOTAL, Draw, any_drawing, drawing
 from psi_tools.draw.program import Program
-from psi_tools.draw.states import Draw, any_drawing, drawing
 from psi_tools.draw.streams import Streams, blocks_of, table_size
 from psi_tools.io.columns import Array, Columns
 from psi_tools.model.networks import Network, Source, header_of, network_of

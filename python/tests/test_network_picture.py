@@ -17,8 +17,7 @@ from matplotlib.figure import Figure
 from psi_tools.model.networks import Network, Table
 from psi_tools.plot import style
 from psi_tools.plot.draw_network import MOST_SERVERS, draw_network
-from psi_tools.plot.network_folding import folded
-from psi_tools.plot.network_layout import laid_out, size_of
+from psi_tools.plot.network_layout import folded, laid_out, size_of
 from psi_tools.plot.network_scene import Arrow, NetworkPicture, Node, scene_of
 from tests.figures import cut_off, overlapping, texts_of
 

@@ -11,7 +11,7 @@ from typing import Any
 
 from psi_tools.cli.command import run
 from psi_tools.cli.entry import NAMES
-from psi_tools.io.output import write
+from psi_tools.io.files import write
 
 SHELLS = "bash", "zsh", "fish"
 # Parts of the names of options and arguments that stand for a file or a folder.

@@ -8,7 +8,7 @@ from psi_tools.draw.law import COUNT, Samples
 from psi_tools.draw.program import Program
 from psi_tools.errors import PsiError
 from psi_tools.io import tables
-from psi_tools.io.output import write
+from psi_tools.io.files import write
 from psi_tools.io.tables import Record
 from psi_tools.io.terminal import Progress, print_note
 from psi_tools.model.networks import Network, checked

@@ -27,8 +27,7 @@ from psi_tools.draw.many import COMMAND, draw_all, joined, merge
 from psi_tools.draw.program import Program, built_companion, built_program, companion_of, program_of
 from psi_tools.draw.streams import LEAST_BATCHES, MOST_STREAMS
 from psi_tools.errors import PsiError
-from psi_tools.io.files import read_file
-from psi_tools.io.output import check_writable, write
+from psi_tools.io.files import check_writable, read_file, write
 from psi_tools.io.reports import read
 from psi_tools.io.samples import uncoupled_in
 from psi_tools.io.terminal import print_note

@@ -9,10 +9,10 @@ import math
 from collections.abc import Sequence
 
 from psi_tools.cli.options import TOTAL, Parser, number
-from psi_tools.draw.closed import samples_of
+from psi_tools.draw.states import samples_of
 from psi_tools.draw.program import Program
 from psi_tools.errors import PsiError
-from psi_tools.io.output import write
+from psi_tools.io.files import write
 from psi_tools.io.tables import ended
 from psi_tools.model.networks import checked
 from psi_tools.stats.mean_values import means_of, rates_of

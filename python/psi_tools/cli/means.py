@@ -8,7 +8,7 @@ from psi_tools.draw.reports import read_any
 from psi_tools.draw.streams import LEAST_BATCHES
 from psi_tools.errors import PsiError
 from psi_tools.io import tables
-from psi_tools.io.output import write
+from psi_tools.io.files import write
 from psi_tools.io.tables import Record
 from psi_tools.io.terminal import print_note
 from psi_tools.model.networks import Network

@@ -11,7 +11,7 @@ from typing import Any, TypeVar
 from psi_tools.cli.options import Parser, number
 from psi_tools.draw.program import Program
 from psi_tools.errors import PsiError
-from psi_tools.io.output import check_writable, write
+from psi_tools.io.files import check_writable, write
 from psi_tools.io.terminal import print_note
 from psi_tools.model import catalog as models
 

@@ -7,7 +7,7 @@ from typing import Any, NoReturn
 from psi_tools import __version__
 from psi_tools.arguments import GREATEST, NUMBER
 from psi_tools.errors import PsiError
-from psi_tools.io.output import check_writable
+from psi_tools.io.files import check_writable
 
 
 class Parser(argparse.ArgumentParser):

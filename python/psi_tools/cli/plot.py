@@ -13,7 +13,7 @@ from psi_tools.draw.program import Program
 from psi_tools.draw.reports import as_printed, read_folder, read_report
 from psi_tools.draw.streams import LEAST_BATCHES
 from psi_tools.errors import InputError, PsiError, reason, require
-from psi_tools.io.output import check_writable, write
+from psi_tools.io.files import check_writable, write
 from psi_tools.model.networks import checked
 from psi_tools.plot.report import Report, report_of
 from psi_tools.stats.batches import batches_of

@@ -10,7 +10,7 @@ from psi_tools.draw.program import Program
 from psi_tools.draw.sweep import Comparison, Work, carried_in, notes_of, records_of
 from psi_tools.errors import PsiError
 from psi_tools.io import tables
-from psi_tools.io.output import write
+from psi_tools.io.files import write
 from psi_tools.io.tables import Record
 from psi_tools.io.terminal import print_note
 from psi_tools.model.designs import Design, aligned, check_bounds, designs_of

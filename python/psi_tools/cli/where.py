@@ -4,8 +4,7 @@ from psi_tools.cli.options import Parser, check_files
 from psi_tools.draw.program import Program, accepted
 from psi_tools.errors import printable
 from psi_tools.io import tables
-from psi_tools.io.files import read_file
-from psi_tools.io.output import write
+from psi_tools.io.files import read_file, write
 from psi_tools.model.refusals import SENTENCES
 from psi_tools.model.where import found_in, text_of, text_of_line
 

@@ -6,7 +6,7 @@ from psi_tools.cli.options import STREAM, Parser, number
 from psi_tools.draw.diagnosis import Findings, findings_of
 from psi_tools.draw.program import Program
 from psi_tools.io import tables
-from psi_tools.io.output import check_writable, write
+from psi_tools.io.files import check_writable, write
 
 COMMAND, STREAMS, SECONDS = "psi-why", 20, 10
 ABOUT = """Reports what may keep samples of a network from coupling, and how far back they have to

@@ -13,7 +13,7 @@ from collections.abc import Callable, Iterable
 from typing import Protocol
 
 from psi_tools.draw.blocks import Block, Folder, digest_of, write_whole
-from psi_tools.draw.closed import report_of_text
+from psi_tools.draw.states import report_of_text
 from psi_tools.draw.program import found_on_path
 from psi_tools.errors import PsiError, printable, reason
 from psi_tools.io.terminal import Pulse, clock, is_terminal, print_error

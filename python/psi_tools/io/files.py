@@ -11,6 +11,7 @@ import errno
 import os
 import re
 import stat
+import sys
 from collections.abc import Iterable
 
 from psi_tools.errors import PsiError, reason
@@ -143,3 +144,36 @@ def read_file(path: Path, most: int = MOST_BYTES) -> bytes:
             return file.read(most + 1)
     except (OSError, ValueError) as fault:
         raise PsiError(f"{path} can't be read: {reason(fault)}", UNREAD) from None
+
+
+UNWRITTEN = 7
+
+
+def check_writable(path: str | None, option: str = "-o") -> None:
+    """Refuses a file that can't be written, before any work.
+
+    It is left as it is, and where there is none none is made: another call may write it meanwhile.
+    """
+    if path is None:
+        return
+    try:
+        try_to_write(path)
+    except (OSError, ValueError) as fault:
+        raise PsiError(f"{option} {path} can't be written: {reason(fault)}", UNWRITTEN) from None
+
+
+def write(answer: str | Iterable[bytes], path: str | None = None) -> None:
+    """Writes an answer, or its pieces, to standard output, or to a file: whole or not at all under its name, or to a
+    stream such as /dev/stdout."""
+    pieces = [answer.encode()] if isinstance(answer, str) else answer
+    try:
+        if path is not None:
+            write_file(path, pieces)
+            return
+        if sys.stdout is None:
+            raise OSError(0, "it is closed")
+        sys.stdout.buffer.writelines(pieces)
+        sys.stdout.buffer.flush()
+    except (OSError, ValueError) as fault:
+        where = "standard output" if path is None else path
+        raise PsiError(f"{where} can't be written: {reason(fault)}", UNWRITTEN) from None

@@ -11,8 +11,7 @@ import matplotlib.patches
 import matplotlib.path
 
 from psi_tools.plot import style
-from psi_tools.plot.network_folding import folded
-from psi_tools.plot.network_layout import Curve, Point, laid_out, size_of
+from psi_tools.plot.network_layout import Curve, Point, folded, laid_out, size_of
 from psi_tools.plot.network_scene import Arrow, NetworkPicture, Node, QueueBox, Scene, SceneArrow, SceneNode, scene_of
 
 # The most places of a waiting line, and the most servers, that are drawn one by one.
