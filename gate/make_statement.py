@@ -81,10 +81,6 @@ class Part:
         self.left: dict[str, str] = {}
         self.cut: dict[str, list[str]] = {}
 
-    def last_words(self) -> list[str]:
-        """The words of its last section, or its own where it has none."""
-        return self.sections[-1].words if self.sections else self.words
-
 
 def outline() -> tuple[list[str], list[Part]]:
     """The parts of the page, as gate/statement.txt tells them."""
@@ -113,7 +109,8 @@ def outline() -> tuple[list[str], list[Part]]:
         elif key == "paths":
             parts[-1].sections[-1].paths = rest.split()
         else:
-            words = parts[-1].last_words() if parts else head
+            # Those of the last section, or of the part where it has none.
+            words = (parts[-1].sections or parts)[-1].words if parts else head
             words += [line] if line or words and words[-1] else []
     return head, parts
 
@@ -254,15 +251,10 @@ def ending(sources: Sources, counts: list[tuple[str, list[Item]]]) -> list[str]:
     return lines + ["parts counts in both, and once in all."]
 
 
-def kit_names() -> dict[str, str]:
-    """What the names of the kit mean, by their names."""
-    text = (TOP / "gate" / "kit_names.txt").read_text(encoding="utf-8")
-    return dict(line.split("\t") for line in text.splitlines())
-
-
 def made() -> str:
     """The page, as it is written."""
-    return "\n".join(page(Sources(kit_names()))).strip("\n") + "\n"
+    names = (TOP / "gate" / "kit_names.txt").read_text(encoding="utf-8").splitlines()
+    return "\n".join(page(Sources(dict(line.split("\t") for line in names)))).strip("\n") + "\n"
 
 
 def faults() -> list[str]:

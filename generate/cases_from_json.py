@@ -41,10 +41,6 @@ def words_of(entry: dict[str, Any], commands: Collection[str]) -> list[str] | No
     return ["check", words[1]] if entry["status"] == REFUSED else None
 
 
-def bytes_of(file: dict[str, str]) -> bytes:
-    return file["text"].encode() if "text" in file else base64.b64decode(file["base64"])
-
-
 def options_of(of: str) -> tuple[str, list[str]]:
     """The path of what cases are made of, and the commands of which they are kept."""
     parser = argparse.ArgumentParser(description=f"Writes the cases of {of}.")
@@ -60,7 +56,11 @@ def cases(path: str, commands: Collection[str]) -> Iterator[bytes]:
         for entry in map(json.loads, lines):
             words = words_of(entry, commands)
             if words is not None:
-                files = {name: bytes_of(file) for name, file in entry["files"].items() if name in words}
+                files = {
+                    name: file["text"].encode() if "text" in file else base64.b64decode(file["base64"])
+                    for name, file in entry["files"].items()
+                    if name in words
+                }
                 yield case(entry["name"], words, files, entry["status"], entry["out"].encode(), entry["err"].encode())
 
 

@@ -1,11 +1,4 @@
-"""psi-many NET SEED FIRST COUNT [OPTION..]
-
-Prints the report of any number of streams, as `psi report` would if it accepted that many: of NET, the
-seed SEED, and the streams FIRST to FIRST + COUNT - 1. The streams are cut in blocks, which
-`psi report` draws side by side: on this machine or others by GNU parallel, or as a Slurm job array.
-Finished blocks are kept in a folder, so that the same call goes on where it was stopped. With
---states it prints the samples themselves, which `psi_states` draws on this machine. docs/MANY.md has
-all of it.
+"""psi-many: the report of any number of streams, or their samples; docs/MANY.md has all of it.
 
 The exit status is 0 where the report or the table is printed, 1 where blocks failed again and again, 2 where the
 words, the folder or the hosts aren't right, 7 where something can't be written, that of `psi check`

@@ -58,16 +58,11 @@ def size_of(node: SceneNode) -> Point:
     return longest * LETTER_WIDTH + MARGIN, len(node.lines) * LINE_HEIGHT + MARGIN
 
 
-def quoted(text: str) -> str:
-    """A text as a quoted string of dot's language."""
-    return '"' + text.replace("\\", "\\\\").replace('"', '\\"') + '"'
-
-
 def arrow_line(number: int, arrow: SceneArrow) -> str:
     """An arrow in dot's language: what is lost stays below its source, and signals bend before routes do."""
     weight, least = (1, 0) if arrow.kind is Arrow.LOSS else (1, 1) if arrow.kind in LIGHT else (4, 1)
-    words = [f"id={number}", f"label={quoted(arrow.label)}", f"weight={weight}", f"minlen={least}"]
-    return f"{arrow.tail} -> {arrow.head} [{', '.join(words)}];"
+    label = json.dumps(arrow.label, ensure_ascii=False)
+    return f"{arrow.tail} -> {arrow.head} [id={number}, label={label}, weight={weight}, minlen={least}];"
 
 
 def dot_of(scene: Scene) -> str:

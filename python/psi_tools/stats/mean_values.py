@@ -1,10 +1,4 @@
-"""mean_values.py NET TOTAL [COUNT [PSI]]
-
-Prints how many customers each queue of a closed network holds on average, when there are TOTAL in
-all, by mean value analysis (Reiser and Lavenberg 1980): a line `NAME MEAN` for each queue. With
-COUNT the mean over that many samples follows it, with half its interval of some 95 %: those of
-the streams from 0 on and the seed 0, as `PSI closed` prints them; PSI is crates/psi/out/psi where
-it is not given.
+"""The mean number of customers in each queue of a closed network, by mean value analysis (Reiser and Lavenberg 1980).
 
 The network is one of single servers, all of whose events are services with one queue to go to, and
 a customer who finds that full stays. Its law is of product form (Gordon and Newell 1967) where
