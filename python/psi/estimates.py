@@ -131,10 +131,8 @@ def means(
     ----------
     net : Network or path
         A network, or the path of its file.
-    seed : int
-        The seed, 0 to 2^64 - 1.
-    first : int
-        The first stream, 0 to 2^64 - 1.
+    seed, first : int
+        The seed and the first stream, 0 to 2^64 - 1.
     count : int
         The number of streams, at least 1. For intervals there are 20 or more.
     level : float
@@ -239,10 +237,8 @@ def law(
     name : str, or several of them
         The name of a queue or of a reward. With several, as a list, the joint distribution is
         estimated. `queue.NAME` and `reward.NAME` are understood, too.
-    seed : int
-        The seed, 0 to 2^64 - 1.
-    first : int
-        The first stream, 0 to 2^64 - 1.
+    seed, first : int
+        The seed and the first stream, 0 to 2^64 - 1.
     count : int
         The number of streams, at least 1.
     reward : bool
@@ -332,10 +328,8 @@ def probability(
         The condition: comparisons (== != < <= > >=) of sums, differences and products of queues,
         rewards and whole numbers, joined by `and`, `or` and `not`. A queue is meant where a reward
         has its name; names that have a hyphen, and 'reward.NAME', stand in quotes.
-    seed : int
-        The seed, 0 to 2^64 - 1.
-    first : int
-        The first stream, 0 to 2^64 - 1.
+    seed, first : int
+        The seed and the first stream, 0 to 2^64 - 1.
     count : int
         The number of streams, at least 1.
     level : float

@@ -35,10 +35,8 @@ def couple(net: Source, seed: int, stream: int, *, program: Program | None = Non
     ----------
     net : Network or path
         A network, or the path of its file.
-    seed : int
-        The seed, 0 to 2^64 - 1.
-    stream : int
-        The stream, 0 to 2^64 - 1.
+    seed, stream : int
+        The seed and the stream, 0 to 2^64 - 1.
     program : Program, optional
         The program that is run; the one that is built, or on the PATH, by default.
 
@@ -77,10 +75,8 @@ def reward(net: Source, seed: int, stream: int, name: str, *, program: Program |
     ----------
     net : Network or path
         A network, or the path of its file.
-    seed : int
-        The seed, 0 to 2^64 - 1.
-    stream : int
-        The stream, 0 to 2^64 - 1.
+    seed, stream : int
+        The seed and the stream, 0 to 2^64 - 1.
     name : str
         The name of the reward.
     program : Program, optional
@@ -123,10 +119,8 @@ def exact(net: Source, seed: int, stream: int, exponent: int, *, program: Progra
     ----------
     net : Network or path
         A network of at most 65,536 states, or the path of its file.
-    seed : int
-        The seed, 0 to 2^64 - 1.
-    stream : int
-        The stream, 0 to 2^64 - 1.
+    seed, stream : int
+        The seed and the stream, 0 to 2^64 - 1.
     exponent : int
         The longest past has 2^exponent steps; 0 to 12.
     program : Program, optional
@@ -167,10 +161,8 @@ def log(net: Source, seed: int, stream: int, *, program: Program | None = None) 
     ----------
     net : Network or path
         A network, or the path of its file.
-    seed : int
-        The seed, 0 to 2^64 - 1.
-    stream : int
-        The stream, 0 to 2^64 - 1.
+    seed, stream : int
+        The seed and the stream, 0 to 2^64 - 1.
     program : Program, optional
         The program that is run; the one that is built, or on the PATH, by default.
 

@@ -97,10 +97,8 @@ def closed(
         A network whose customers neither come nor leave, or the path of its file.
     total : int
         The number of customers in all, 0 to 256.
-    seed : int
-        The seed, 0 to 2^64 - 1.
-    first : int
-        The first stream, 0 to 2^64 - 1.
+    seed, first : int
+        The seed and the first stream, 0 to 2^64 - 1.
     count : int
         The number of streams, at least 1.
     keep : bool

@@ -30,7 +30,8 @@ def test_each_argument_is_documented(name: str) -> None:
     call = getattr(module, name)
     sections = api_page.SECTION.split(inspect.getdoc(call) or "")
     text = dict(zip(sections[1::2], sections[2::2]))
-    known = [entry.partition(" : ")[0] for entry, _ in api_page.entries_of(text["Parameters"])]
+    heads = [entry.partition(" : ")[0] for entry, _ in api_page.entries_of(text["Parameters"])]
+    known = [name for head in heads for name in head.split(", ")]
     assert known == list(inspect.signature(call).parameters)
     assert {"Returns", "Examples"} <= {*text}
     assert text["Examples"].count(">>>") > 1

@@ -112,7 +112,7 @@ def coupling(args: argparse.Namespace, path: str, *net: str) -> "Coupling":
     return log
 
 
-def reports(args: argparse.Namespace, *paths: str) -> list[tuple[str, Report]]:
+def report(args: argparse.Namespace, *paths: str) -> list[tuple[str, Report]]:
     """The reports, each with the name of its file."""
     require(len(paths) <= MOST_REPORTS, f"report takes at most {MOST_REPORTS} files")
     return [(path, report_at(path)) for path in paths]
@@ -195,16 +195,9 @@ def path(args: argparse.Namespace, path: str, *streams: str) -> "tuple[Stationar
     return found, [*range(len(queues))] if args.queue is None else [queues.index(args.queue)]
 
 
-# What reads the files of a command, and what draws it: matplotlib is wanted only for that.
-DRAWN: dict[str, Callable[..., Any]] = {
-    "coupling": coupling,
-    "report": reports,
-    "exact": exact,
-    "forward": forward,
-    "past": past,
-    "path": path,
-    "network": network,
-}
+# What reads the files of each kind of picture, and what draws it: matplotlib is wanted only for that.
+KINDS: tuple[Callable[..., Any], ...] = coupling, report, exact, forward, past, path, network
+DRAWN = {kind.__name__: kind for kind in KINDS}
 
 
 def draw(args: argparse.Namespace) -> bytes:
