@@ -12,8 +12,7 @@ from psi_tools.io.files import write
 from psi_tools.io.tables import Record
 from psi_tools.io.terminal import print_note
 from psi_tools.model.networks import Network
-from psi_tools.stats.batches import Batches
-from psi_tools.stats.means import KINDS, mean_of, notes_of, records_of, remarks, table_of
+from psi_tools.stats.batches import KINDS, Batches, mean_of, notes_of, records_of, remarks, table_of
 from psi_tools.stats.text import with_interval
 
 COMMAND = "psi-means"

@@ -15,7 +15,7 @@ from psi_tools.io.tables import Record
 from psi_tools.io.terminal import Progress
 from psi_tools.model.networks import Network, checked
 from psi_tools.stats.intervals import reading_ahead
-from psi_tools.stats.means import table_of
+from psi_tools.stats.batches import table_of
 from psi_tools.stats.paths import Paths, paths_of_rows, records_of
 from psi_tools.stats.text import not_coupled
 

@@ -23,8 +23,7 @@ if TYPE_CHECKING:
     from psi_tools.io.exact import Shrinking
     from psi_tools.plot.forward import Forward
     from psi_tools.plot.network_scene import NetworkPicture
-    from psi_tools.plot.past import Past
-    from psi_tools.plot.path import StationaryPath
+    from psi_tools.plot.past import Past, StationaryPath
     from psi_tools.plot.read_log import Coupling
 
 Value = TypeVar("Value")
@@ -185,7 +184,7 @@ def past(args: argparse.Namespace, path: str, *streams: str) -> "tuple[Past, int
 
 def path(args: argparse.Namespace, path: str, *streams: str) -> "tuple[StationaryPath, list[int]]":
     """A path, and the queues that are drawn."""
-    from psi_tools.plot.path import path_of
+    from psi_tools.plot.past import path_of
 
     seed, stream = streams_of("path", streams)
     found = path_of(args.psi, path, seed, stream, USUAL_STEPS if args.steps is None else args.steps)

@@ -7,7 +7,7 @@ import pathlib
 
 from psi_tools.cli.options import Parser, check_files, check_last_stream, number
 from psi_tools.draw.program import Program
-from psi_tools.draw.sweep import Comparison, Work, carried_in, notes_of, records_of
+from psi_tools.draw.sweep import Comparison, carried_in, draw_designs, notes_of, records_of
 from psi_tools.errors import PsiError
 from psi_tools.io import tables
 from psi_tools.io.files import write
@@ -169,8 +169,7 @@ def work(arguments: list[str]) -> int:
     psi, compared = prepared(args)
     numbers = {"seed": args.seed, "first": args.first, "count": args.count}
     name = "{}.{seed}.{first}.{count}.sweep".format(pathlib.Path(args.net).name, **numbers)
-    kept = Work(psi, pathlib.Path(args.folder or name), compared.designs, numbers)
-    batches = kept.draw(COMMAND)
+    batches = draw_designs(psi, pathlib.Path(args.folder or name), compared.designs, numbers, COMMAND)
     records = records_of(compared, batches, args.of)
     notes, below = notes_of(compared, batches), carried_in(compared, batches, args.of)
     if args.picture:

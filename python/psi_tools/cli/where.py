@@ -5,8 +5,7 @@ from psi_tools.draw.program import Program, accepted
 from psi_tools.errors import printable
 from psi_tools.io import tables
 from psi_tools.io.files import read_file, write
-from psi_tools.model.refusals import SENTENCES
-from psi_tools.model.where import found_in, text_of, text_of_line
+from psi_tools.model.refusals import SENTENCES, found_in, text_of, text_of_line
 
 COMMAND = "psi-where"
 ABOUT = """Prints what psi check refuses in a network file: the file, the line, the line's text, the

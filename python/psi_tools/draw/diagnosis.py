@@ -11,7 +11,7 @@ from psi_tools.draw.program import Program, accepted
 from psi_tools.draw.reports import read_report
 from psi_tools.io.exact import read_exact
 from psi_tools.io.reports import Report
-from psi_tools.model.moves import Moves, loads_of
+from psi_tools.model.moves import Moves, describe_classes, loads_of
 from psi_tools.model.networks import Network, Table, checked
 
 # A limit that was tried, with the report of its streams; and what was found, by what it is.
@@ -184,8 +184,6 @@ def findings_of(psi: Program, args: argparse.Namespace) -> Findings:
     is_met = bool(found) and found[-1][1].met == args.count
     # What couples has one closed class alone.
     if not never and not any(report.met for _, report in found):
-        from psi_tools.model.classes import describe_classes
-
         never = describe_classes(net)
     return {
         "never": never,

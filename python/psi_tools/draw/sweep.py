@@ -101,47 +101,47 @@ class Comparison:
     short: list[str] = dataclasses.field(default_factory=list)
 
 
-class Work:
-    """The blocks of all designs: each design has a folder of its own, named by its network, in one
-    folder whose blocks all have one size."""
+def draw_designs(
+    psi: Program, path: pathlib.Path, designs: list[Design], numbers: dict[str, Any], command: str
+) -> list[Batches]:
+    """Draws what isn't finished, and gives the batches of each design. Each design has a folder of its own, named by
+    its network, in one folder whose blocks all have one size."""
+    path, size = opened(path, numbers["seed"], numbers["first"], size_of(numbers["count"]))
+    folders = [bound_folder(path, design.net.data, numbers, size) for design in designs]
+    waiting: list[tuple[Folder, Block]] = []
+    for folder in folders:
+        folder.tidy()
+        finished = folder.finished()
+        waiting += [(folder, block) for block in folder.all_blocks() if block.number not in finished]
+    # The first blocks of all designs come first, so a call that is stopped has whole ones.
+    waiting.sort(key=lambda each: each[1].number)
+    with Progress(command, len(waiting), "blocks") as progress:
+        psi.all([functools.partial(keep, psi, *each) for each in waiting], progress.show)
+    return [batches_in(folder, design.net) for folder, design in zip(folders, designs)]
 
-    def __init__(self, psi: Program, path: pathlib.Path, designs: list[Design], numbers: dict[str, Any]) -> None:
-        self.psi, self.nets = psi, [design.net for design in designs]
-        self.folders: list[Folder] = []
-        path, size = opened(path, numbers["seed"], numbers["first"], size_of(numbers["count"]))
-        for data in [net.data for net in self.nets]:
-            folder = Folder(path / digest_of(data)[:16])
-            folder.lock()
-            folder.bind(data, numbers, None, size)
-            if folder.size != size:
-                raise PsiError(f"{folder.path} has blocks of {folder.size} streams, not of {size}")
-            self.folders.append(folder)
 
-    def draw(self, command: str) -> list[Batches]:
-        """Draws what isn't finished, and gives the batches of each design."""
-        waiting: list[tuple[Folder, Block]] = []
-        finished: list[dict[int, pathlib.Path]] = []
-        for folder in self.folders:
-            folder.tidy()
-            finished.append(folder.finished())
-            waiting += [(folder, block) for block in folder.all_blocks() if block.number not in finished[-1]]
-        # The first blocks of all designs come first, so a call that is stopped has whole ones.
-        waiting.sort(key=lambda each: each[1].number)
-        with Progress(command, len(waiting), "blocks") as progress:
-            self.psi.all([functools.partial(self.keep, *each) for each in waiting], progress.show)
-        return [self.batches(folder, net) for folder, net in zip(self.folders, self.nets)]
+def bound_folder(path: pathlib.Path, data: bytes, numbers: dict[str, Any], size: int) -> Folder:
+    """The folder of a design, which is bound to its network and to the size of all blocks."""
+    folder = Folder(path / digest_of(data)[:16])
+    folder.lock()
+    folder.bind(data, numbers, None, size)
+    if folder.size != size:
+        raise PsiError(f"{folder.path} has blocks of {folder.size} streams, not of {size}")
+    return folder
 
-    def keep(self, folder: Folder, block: Block) -> None:
-        """Draws a block and keeps it."""
-        text = report_of(self.psi, folder.net.read_bytes(), folder.seed, (block.first, block.count))
-        if not folder.accept(block.number, text):
-            raise PsiError(f"psi printed no whole report of the streams from {block.first} on", 1)
 
-    def batches(self, folder: Folder, net: Network) -> Batches:
-        """The batches of a design."""
-        reports: dict[int, Report] = {}
-        files = folder.finished(reports)
-        return batches_of([reports[number] for number in sorted(files)]).of_network(net)
+def keep(psi: Program, folder: Folder, block: Block) -> None:
+    """Draws a block and keeps it."""
+    text = report_of(psi, folder.net.read_bytes(), folder.seed, (block.first, block.count))
+    if not folder.accept(block.number, text):
+        raise PsiError(f"psi printed no whole report of the streams from {block.first} on", 1)
+
+
+def batches_in(folder: Folder, net: Network) -> Batches:
+    """The batches of a design."""
+    reports: dict[int, Report] = {}
+    files = folder.finished(reports)
+    return batches_of([reports[number] for number in sorted(files)]).of_network(net)
 
 
 def rows_of(batches: list[Batches], names: list[str] | None) -> list[tuple[str, str]]:

@@ -8,7 +8,7 @@ import dataclasses
 from collections.abc import Iterator, Sequence
 
 from psi_tools.io.tables import Record
-from psi_tools.stats.batches import Batches
+from psi_tools.stats.batches import Batches, record
 from psi_tools.stats.guaranteed import (
     ASSUMED,
     Guarantee,
@@ -23,7 +23,6 @@ from psi_tools.stats.guaranteed import (
 )
 from psi_tools.stats.intervals import LEVEL, Mean, Span, quantile
 from psi_tools.stats.law import RECORD, SHARES, Law, Quantile
-from psi_tools.stats.means import record
 from psi_tools.stats.paths import ITEMS, QUEUE, REWARD, PathRow, Paths
 from psi_tools.stats.text import figures
 

@@ -34,7 +34,7 @@ from psi_tools.stats.intervals import (
     spread_of,
     student_and_unseen,
 )
-from psi_tools.stats.means import record
+from psi_tools.stats.batches import record
 from psi_tools.stats.spans import Spans
 
 # Visits may be much larger than those that came where there are fewer than this number, of a table far more.
