@@ -192,7 +192,7 @@ def means(
     if guaranteed:
         claims, records = guaranteed_means(batches, level)
         table = pandas.DataFrame(records, index=index, columns=columns)
-        return _certified(table, claims, data, seed, first, count)
+        return _certified(table, claims, {"network": digest_of(data), "seed": seed, "first": first, "count": count})
     for line in batches.carried():
         warnings.warn(line, FewSamples, stacklevel=2)
     found = [record("", row.name, batches.mean(row, level), row.least, row.greatest) for row in batches.rows]
@@ -200,18 +200,10 @@ def means(
 
 
 def _certified(
-    table: pandas.DataFrame,
-    rows: Sequence[Guarantee],
-    data: bytes,
-    seed: int,
-    first: int,
-    count: int,
-    pilot: Pilot | None = None,
+    table: pandas.DataFrame, rows: Sequence[Guarantee], drawn: dict[str, Any], pilot: Pilot | None = None
 ) -> pandas.DataFrame:
     """A DataFrame with the certificates of its intervals, as tools/check_interval.py reads them."""
-    drawn: dict[str, Any] = {"network": digest_of(data), "seed": seed, "first": first, "count": count}
-    if pilot:
-        drawn["pilot"] = {"first": pilot.first, "count": pilot.count}
+    drawn |= {"pilot": {"first": pilot.first, "count": pilot.count}} if pilot else {}
     table.attrs.update(certificates=file_of(rows, drawn), assumed=ASSUMED)
     return table
 
@@ -304,7 +296,8 @@ def law(
     table = pandas.DataFrame(found.records(), columns=RECORD).set_index("value")
     if not isinstance(found, GuaranteedLaw):
         return table
-    return _certified(table, [found.row], net.data, seed, first, count, found.pilot)
+    drawn = {"network": digest_of(net.data), "seed": seed, "first": first, "count": count}
+    return _certified(table, [found.row], drawn, found.pilot)
 
 
 def probability(

@@ -10,20 +10,22 @@ from typing import Any
 
 from psi_tools.errors import PsiError
 from psi_tools.model.networks import MOST_EVENTS, MOST_RATE, MOST_TOTAL, Network
+from psi_tools.model.refusals import RANGES
 
 # What differs: the name of a table and one of its keys, with the values.
 Key = tuple[str, str]
 Keys = dict[Key, list[Decimal]]
 
 # What may differ: in which table it stands, and the least and the greatest value.
-KEYS = {
-    "rate": ("event", 1, MOST_RATE),
-    "capacity": ("queue", 1, 65_535),
-    "servers": ("queue", 1, 64),
-    "size": ("event", 1, 65_535),
-    "amount": ("event", 1, 65_535),
-    "level": ("reward", 0, 65_535),
+TABLES = {
+    "rate": "event",
+    "capacity": "queue",
+    "servers": "queue",
+    "size": "event",
+    "amount": "event",
+    "level": "reward",
 }
+KEYS = {key: (table, *RANGES[key]) for key, table in TABLES.items()}
 # What may differ in a part of a guarded event, with the least and the greatest value: the name is
 # the event's and the queue's, with a point between.
 PARTS = {key: ("part", 0, 65_535) for key in ("least", "most", "floor", "ceiling")}

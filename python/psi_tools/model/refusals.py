@@ -66,6 +66,7 @@ REWARDS = ("linear", "table", "greatest", "least", "above")
 # The ranges of whole numbers, of those that don't go by something else in the file.
 RANGES = {
     "capacity": (1, 65_535),
+    "servers": (1, 64),
     "rate": (1, 1_048_576),
     "size": (1, 65_535),
     "amount": (1, 65_535),

@@ -3,7 +3,7 @@
 from __future__ import annotations
 
 import math
-from typing import Any
+from typing import Any, NamedTuple
 
 import matplotlib.font_manager
 import matplotlib.lines
@@ -17,34 +17,26 @@ from psi_tools.plot.network_scene import Arrow, NetworkPicture, Node, QueueBox, 
 # The most places of a waiting line, and the most servers, that are drawn one by one.
 MOST_PLACES, MOST_SERVERS = 6, 3
 INK, DARK_GREY, LIGHT, PAPER = "#222222", "#444444", "#888888", "#FFFFFF"
-COLOURS = {
-    Arrow.MOVE: INK,
-    Arrow.OVERFLOW: style.BLUE,
-    Arrow.LOSS: style.VERMILION,
-    Arrow.NEGATIVE: style.PURPLE,
-    Arrow.GUARDED: style.GREEN,
-    Arrow.READ: LIGHT,
+
+
+class Line(NamedTuple):
+    """How arrows of a kind are drawn, what they mean, and the colour of texts at them where their own is too pale."""
+
+    colour: str
+    dashes: object
+    meaning: str
+    text: str | None = None
+    width: float = 0.9
+
+
+LINES = {
+    Arrow.MOVE: Line(INK, "-", "where customers go, or go first", width=1.5),
+    Arrow.OVERFLOW: Line(style.BLUE, (0, (4, 2)), "overflow, by its number, where all earlier choices are full"),
+    Arrow.LOSS: Line(style.VERMILION, "-", "lost: customers who find no free place"),
+    Arrow.NEGATIVE: Line(style.PURPLE, (0, (2, 1.5)), "a signal removes customers", "#8A3B66"),
+    Arrow.GUARDED: Line(style.GREEN, (0, (1, 1)), "a guarded event changes the number", "#00664A"),
+    Arrow.READ: Line(LIGHT, (0, (1, 2)), "a guarded event reads the number"),
 }
-DASHES = {
-    Arrow.MOVE: "-",
-    Arrow.OVERFLOW: (0, (4, 2)),
-    Arrow.LOSS: "-",
-    Arrow.NEGATIVE: (0, (2, 1.5)),
-    Arrow.GUARDED: (0, (1, 1)),
-    Arrow.READ: (0, (1, 2)),
-}
-# How wide arrows are whose lines are not thin.
-WIDTHS = {Arrow.MOVE: 1.5}
-MEANINGS = {
-    Arrow.MOVE: "where customers go, or go first",
-    Arrow.OVERFLOW: "overflow, by its number, where all earlier choices are full",
-    Arrow.LOSS: "lost: customers who find no free place",
-    Arrow.NEGATIVE: "a signal removes customers",
-    Arrow.GUARDED: "a guarded event changes the number",
-    Arrow.READ: "a guarded event reads the number",
-}
-# The colours of texts at arrows where the arrow's own is too pale for letters.
-TEXTS = {Arrow.NEGATIVE: "#8A3B66", Arrow.GUARDED: "#00664A"}
 EDGE, TITLE_HEIGHT, LEGEND_LINE = 0.18, 0.42, 0.18
 # The size and the most letters of a line of the legend, and where its text begins after a piece of an arrow.
 NOTE_SIZE, MOST_LETTERS, AFTER_SAMPLE = 8, 120, 0.38
@@ -91,14 +83,14 @@ def draw_network(picture: NetworkPicture, title: str = "") -> Any:
 
 def draw_arrow(axes: Any, arrow: SceneArrow, curve: Curve, gid: str) -> None:
     """An arrow along its spline, with its label, and with a bar at its source where it blocks."""
-    colour, points = COLOURS[arrow.kind], [*curve.points]
+    line, points = LINES[arrow.kind], [*curve.points]
     codes = [matplotlib.path.Path.MOVETO] + [matplotlib.path.Path.CURVE4] * (len(points) - 1)
-    drawn = {"ec": colour, "lw": WIDTHS.get(arrow.kind, 0.9), "ls": DASHES[arrow.kind], "gid": gid}
+    drawn = {"ec": line.colour, "lw": line.width, "ls": line.dashes, "gid": gid}
     shaft = matplotlib.path.Path(points, codes)
     axes.add_patch(matplotlib.patches.PathPatch(shaft, fill=False, zorder=1, **drawn))
     if arrow.kind is not Arrow.READ:
         corners = [curve.tip, *bar_across(points[-1], curve.tip, 0, 0.035)]
-        head = matplotlib.patches.Polygon(corners, fc=colour, ec=colour, lw=0.5, zorder=2, gid=f"{gid}-head")
+        head = matplotlib.patches.Polygon(corners, fc=line.colour, ec=line.colour, lw=0.5, zorder=2, gid=f"{gid}-head")
         axes.add_patch(head)
     # A short double bar: the source is blocked where the target is full.
     for far in (0.05, 0.09) if arrow.blocks else ():
@@ -107,7 +99,7 @@ def draw_arrow(axes: Any, arrow: SceneArrow, curve: Curve, gid: str) -> None:
     if curve.label:
         box = {"fc": PAPER, "ec": "none", "pad": 0}
         above = (curve.label[0], curve.label[1] + 0.02)
-        put_text(axes, above, arrow.label, 8, TEXTS.get(arrow.kind, colour), bbox=box)
+        put_text(axes, above, arrow.label, 8, line.text or line.colour, bbox=box)
 
 
 def bar_across(begin: Point, end: Point, far: float, half: float) -> list[Point]:
@@ -221,7 +213,7 @@ def notes_of(picture: NetworkPicture, scene: Scene) -> list[Note]:
     notes: list[Note] = []
     if picture.with_legend:
         kinds = {arrow.kind for arrow in scene.arrows}
-        notes += [(kind, text) for kind, text in MEANINGS.items() if kind in kinds]
+        notes += [(kind, line.meaning) for kind, line in LINES.items() if kind in kinds]
         if any(arrow.blocks for arrow in scene.arrows):
             notes.append((None, "‖ at the start of an arrow: its server is blocked while the target is full"))
         notes.append((None, "the number after a name is its rate, of one server where there are several"))
@@ -252,6 +244,6 @@ def draw_note(axes: Any, place: Point, note: Note) -> None:
     kind, text = note
     if kind is not None:
         ends = [place, (place[0] + 0.3, place[1])]
-        put_line(axes, ends, COLOURS[kind], WIDTHS.get(kind, 0.9), ls=DASHES[kind])
+        put_line(axes, ends, LINES[kind].colour, LINES[kind].width, ls=LINES[kind].dashes)
     begin = place[0] + AFTER_SAMPLE * (kind is not None), place[1]
     style.put(axes, begin, style.printable(text, MOST_LETTERS), NOTE_SIZE, INK, va="center")
