@@ -29,7 +29,7 @@ from psi_tools.io.terminal import Progress
 from psi_tools.model.designs import Design
 from psi_tools.model.networks import Network
 from psi_tools.stats.batches import REWARD, Batches, batches_of
-from psi_tools.stats.intervals import LEVEL, NO_MEAN, Mean, difference_of_batches
+from psi_tools.stats.intervals import LEVEL, NO_MEAN, Mean, Sums, difference_of_batches
 from psi_tools.stats.spans import Row
 
 # The file that marks a folder as psi-sweep's own, and the folder of a design.
@@ -158,8 +158,7 @@ def difference(own: Batches, mine: Row | None, first: Batches, row: Row | None) 
     span, other = own.span(mine), first.span(row)
     if span is None or other is None:
         return NO_MEAN
-    lost = own.lost, first.lost
-    return difference_of_batches(mine.sums, row.sums, own.met, first.met, LEVEL, (span, other), lost)
+    return difference_of_batches(Sums(mine.sums, own.met, span, own.lost), Sums(row.sums, first.met, other, first.lost))
 
 
 def records_of(

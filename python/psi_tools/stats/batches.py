@@ -13,6 +13,7 @@ from psi_tools.stats.intervals import (
     NO_MEAN,
     Mean,
     Span,
+    Sums,
     carried_by_few,
     carriers,
     mean_of_batches,
@@ -66,11 +67,12 @@ class Batches:
         span = self.span(row)
         if span is None:
             return NO_MEAN
+        sums = Sums(row.sums, self.met, span, self.lost)
         if span.two and (not self.uncoupled or self.spans):
-            return mean_of_two(row.sums, self.met, span, self.lost, level)
+            return mean_of_two(sums, level)
         if not self.spans and self.uncoupled:
-            span = dataclasses.replace(span, least=None, greatest=None)
-        return mean_of_batches(row.sums, self.met, level, span, self.lost)
+            sums = dataclasses.replace(sums, span=dataclasses.replace(span, least=None, greatest=None))
+        return mean_of_batches(sums, level)
 
     def find(self, kind: str, name: str) -> Row | None:
         """The row of a queue or a reward, none where there isn't one."""

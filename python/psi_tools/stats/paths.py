@@ -28,6 +28,7 @@ from psi_tools.stats.intervals import (
     Mean,
     Span,
     Spread,
+    Sums,
     between,
     mean_of_two,
     probability,
@@ -94,7 +95,7 @@ class Paths:
         """The mean of a row, whose interval counts each stream that isn't coupled as the least value
         at all times for the lower end, and as the greatest for the upper one."""
         if row.times == 1 and row.span.two:
-            return mean_of_two(row.sums, [1] * len(row.sums), row.span, [0] * len(row.sums) + [self.lost], level)
+            return mean_of_two(Sums(row.sums, [1] * len(row.sums), row.span, [self.lost]), level)
         mean = sum(row.sums) / (row.times * len(row.sums))
         low, high = (self.end(row, is_high, level) for is_high in (False, True))
         if low is None or high is None:
