@@ -176,9 +176,8 @@ def difference(draw: numpy.random.Generator, name: str, plus: float, minus: floa
 def difference_of(one: Batches, other: Batches) -> Mean:
     """The difference of the last rows of two designs, as psi-sweep tells it."""
     rows = [(own, own.rows[-1]) for own in (one, other)]
-    return difference_of_batches(
-        *(Sums(row.sums, own.met, own.spans[row.kind, row.name], own.lost) for own, row in rows), 0.95
-    )
+    first, second = (Sums(row.sums, own.met, own.spans[row.kind, row.name], own.lost) for own, row in rows)
+    return difference_of_batches(first, second, 0.95)
 
 
 def uncoupled(draw: numpy.random.Generator) -> list[Tally]:

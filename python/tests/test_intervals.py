@@ -77,7 +77,8 @@ def test_no_sample_and_one_batch() -> None:
 
 def test_a_difference_has_no_part_of_what_is_common() -> None:
     common = [round(each) for each in numpy.random.default_rng(1).normal(0, 10**9, 20)]
-    found = difference_of_batches(*(Sums(each, [1] * 20, FREE) for each in ([value + 1 for value in common], common)))
+    one, other = (Sums(sums, [1] * 20, FREE) for sums in ([each + 1 for each in common], common))
+    found = difference_of_batches(one, other)
     assert found.mean == pytest.approx(1)
     assert found.half is not None and found.half < 1e-9
 
