@@ -110,7 +110,7 @@ class Sweep:
             after = dict(zip(self.states, images))
             self.compare_states(place, event, after)
             self.compare_boxes(place, event, after)
-            self.count("marks", is_marked(event, after), f"{place}: another mark")
+            self.count("marks", all_kinds.is_marked(event, after), f"{place}: another mark")
         self.counts["events"] += len(self.lines) == before
 
     def count(self, what: str, agrees: bool, line: str) -> None:
@@ -131,14 +131,6 @@ class Sweep:
                 agrees = hull(map(event.after, states)) == hull(after[x] for x in states)
                 ends = f"from {text_of(low)} to {text_of(high)}"
                 self.count("boxes", agrees, f"{place}: another envelope {ends}")
-
-
-def is_marked(event: Event, after: dict[State, State]) -> bool:
-    """Whether an event's mark is that of its images: a pair that breaks the order, if any does."""
-    pair = event.upset()
-    pairs = [pair] if pair else itertools.product(after, repeat=2)
-    keeps = (is_below(after[x], after[y]) for x, y in pairs if is_below(x, y))
-    return all(keeps) == (pair is None)
 
 
 def put(folder: pathlib.Path, name: str, text: str) -> str:

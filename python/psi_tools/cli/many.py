@@ -85,19 +85,14 @@ def parse(arguments: list[str]) -> argparse.Namespace:
     return args
 
 
-def network_of(psi: Program, args: argparse.Namespace) -> bytes:
-    """The bytes of a network that psi accepts, and with --closed psi closed, by its first stream."""
-    net = read_file(args.net)
-    psi.ask("check", net)
-    if args.closed is not None:
-        psi.ask("closed", net, args.seed, args.first, args.closed, statuses=(0, 1))
-    return net
-
-
 def blocks_of(args: argparse.Namespace, psi: str) -> tuple[Folder, list[pathlib.Path]]:
     """The folder of the arguments, and the files of all its blocks, once they are drawn."""
     program_of("sbatch" if args.slurm else "parallel")
-    net = network_of(Program(psi), args)
+    # psi has to take the network, and with --closed its first stream.
+    net, program = read_file(args.net), Program(psi)
+    program.ask("check", net)
+    if args.closed is not None:
+        program.ask("closed", net, args.seed, args.first, args.closed, statuses=(0, 1))
     engine: type[Hosts] | type[Slurm] | type[Here] = Hosts if args.hosts else Slurm if args.slurm else Here
     way: Way = engine(args, built_companion(psi, "psi_states") if args.states else psi, net)
     numbers = {"seed": args.seed, "first": args.first, "count": args.count}

@@ -110,20 +110,18 @@ def write_file(path: str, pieces: Iterable[bytes]) -> None:
 
 
 def try_to_write(path: str) -> None:
-    """Fails as a write to the file would: opens it, or makes one without a name in its folder. It
-    is left as it is, and where there is none none is made: another call may write it meanwhile."""
+    """Fails as a write to the file would: opens it, or makes one without a name in its folder."""
     if not path or path.endswith("/"):
         raise OSError(0, os.strerror(errno.EISDIR if path else errno.ENOENT))
     if descriptor_of(path) is None:
         with contextlib.suppress(FileNotFoundError):
             os.stat(path)
-    if is_stream(path):
-        if not os.access(path, os.W_OK):
-            # To open a pipe and to close it again would end its reader.
-            raise OSError(0, os.strerror(errno.EACCES))
-        return
     target = os.path.realpath(path)
-    if os.path.isfile(target) or os.path.isdir(target):
+    if is_stream(path):
+        # To open a pipe and to close it again would end its reader.
+        if not os.access(path, os.W_OK):
+            raise OSError(0, os.strerror(errno.EACCES))
+    elif os.path.isfile(target) or os.path.isdir(target):
         open(target, "ab").close()
     else:
         # Only a new file wants this module, which takes a while to be read.

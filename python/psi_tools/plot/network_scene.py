@@ -90,10 +90,6 @@ class Scene:
     nodes: list[SceneNode]
     arrows: list[SceneArrow]
 
-    def count(self, kind: Node) -> int:
-        """How many nodes are of this kind."""
-        return sum(node.kind is kind for node in self.nodes)
-
 
 def scene_of(net: Network) -> Scene:
     """The scene of a network that psi accepts."""
