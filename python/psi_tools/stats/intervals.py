@@ -14,6 +14,7 @@ sets of samples lack it, and Student's t alone would be far too narrow. So a row
 its values may be at all, and how far the value that did not come may lie from those that did.
 """
 
+import bisect
 import contextlib
 import dataclasses
 import functools
@@ -449,20 +450,13 @@ def share_of(count: int, many: int, unknown: int = 0, level: float = LEVEL) -> M
 def ranks(share: float, many: int, level: float = LEVEL) -> tuple[int, int]:
     """The ranks, counted from 1, of the two ordered samples between which a quantile is: 0 and
     many + 1 stand for the ends of the range. The number of samples below it is binomial."""
+
+    def below(rank: int) -> float:
+        return float(special().bdtr(rank, many, share))
+
     tail = (1 - level) / 2
-    return least_rank(share, many, tail), least_rank(share, many, 1 - tail) + 1
-
-
-def least_rank(share: float, many: int, tail: float) -> int:
-    """The least number that a binomial one passes with a probability of at most 1 - tail."""
-    low, high = -1, many
-    while high - low > 1:
-        middle = (low + high) // 2
-        if special().bdtr(middle, many, share) >= tail:
-            high = middle
-        else:
-            low = middle
-    return high
+    low, high = (bisect.bisect_left(range(many), each, key=below) for each in (tail, 1 - tail))
+    return low, high + 1
 
 
 def quantile(
