@@ -1,11 +1,17 @@
 """python3 -m gate.crates [--check]
 
-Writes into each crate's folder a README.md of one line, which says what the crate is for: its row in
-docs/ARCHITECTURE.md. With --check it writes nothing, and tells what isn't so:
+Writes what is said of the crates: into each crate's folder a README.md of one line, which says what the
+crate is for, its row in docs/ARCHITECTURE.md; and into that page the graph of the crates, as a Mermaid
+diagram. There an arrow leads from each crate to those that it stands on, without the arrows that follow
+from others, and the layers are those of crates.txt. With --check it writes nothing, and tells what isn't so:
 
 - each crate of crates.txt has one row there, and each row is one of a crate;
 - a crate's row stands after those of all crates that it stands on;
-- its README.md has its row, and its root file begins with a comment on what it holds.
+- its README.md has its row, and its root file begins with a comment on what it holds;
+- the page has this graph;
+- each file right in a crate's proofs/ says by its name what it holds: lemmas stand in files
+  `..Lemmas.antt`, worked rows in `Worked.antt`, and `Lib.antt` names the files; laws, `..Laws.antt`,
+  stand in specs/Inner/.
 
 The exit status is 1 where something is told, and 2 where the words aren't right.
 """
@@ -17,12 +23,16 @@ from collections.abc import Iterator
 from gate import TOP, run
 from tools.build.crates import crates_below
 
+PAGE = TOP / "docs/ARCHITECTURE.md"
 ROW = re.compile(r"^\| `(\w+)` \| (.*) \|$", re.M)
+BLOCK = re.compile(r"(?<=^```mermaid\n).*?(?=^```$)", re.M | re.S)
+LAYER = re.compile(r"^# (.+)\n((?:\w+:.*\n)+)", re.M)
+PROOFS = re.compile(r"(?:\w+Lemmas|Worked|Lib)\.antt")
 
 
 def rows() -> list[tuple[str, str]]:
     """The rows of crates in docs/ARCHITECTURE.md, in their order."""
-    text = (TOP / "docs/ARCHITECTURE.md").read_text()
+    text = PAGE.read_text()
     begin = text.index("\n## The crates\n")
     return ROW.findall(text, begin, text.index("\n## ", begin + 1))
 
@@ -30,6 +40,41 @@ def rows() -> list[tuple[str, str]]:
 def readme(name: str, what: str) -> tuple[pathlib.Path, str]:
     """Where a crate says what it is for, and how."""
     return TOP / "crates" / name / "README.md", f"`{name}`: {what}.\n"
+
+
+def layers(text: str) -> dict[str, list[str]]:
+    """Returns the names of the layers of crates.txt, each with its crates."""
+    return {title: re.findall(r"^\w+", rows, re.M) for title, rows in LAYER.findall(text)}
+
+
+def reduced(below: dict[str, list[str]]) -> dict[str, list[str]]:
+    """Returns for each crate those that it stands on, without those on which one of these stands."""
+    edges = {name: [use for use in uses if use in below] for name, uses in below.items()}
+    all_below: dict[str, set[str]] = {}
+    for name, uses in edges.items():
+        all_below[name] = {*uses}.union(*(all_below[use] for use in uses))
+    return {
+        name: [use for use in uses if not any(use in all_below[other] for other in uses)]
+        for name, uses in edges.items()
+    }
+
+
+def diagram(top: pathlib.Path) -> Iterator[str]:
+    """The lines of the diagram; the names of crates stand without their `psi_`."""
+    below = crates_below(top)
+    yield "graph BT"
+    for number, (title, names) in enumerate(layers((top / "crates.txt").read_text()).items()):
+        yield f"  subgraph L{number}[{title}]"
+        yield from (f"    {name}[{name.removeprefix('psi_')}]" for name in names)
+        yield "  end"
+    for name, uses in reduced(below).items():
+        yield from (f"  {name} --> {use}" for use in uses)
+
+
+def drawn() -> str:
+    """The page with the graph of the crates."""
+    graph = "".join(f"{line}\n" for line in diagram(TOP))
+    return BLOCK.sub(lambda _: graph, PAGE.read_text(), count=1)
 
 
 def faults() -> Iterator[str]:
@@ -55,12 +100,18 @@ def faults() -> Iterator[str]:
         root = next(file for file in (source / "lib.rt", source / "main.rt") if file.exists())
         if not root.read_text().startswith("//! "):
             yield f"the root file of {name} doesn't begin with a comment on what it holds"
+    if drawn() != PAGE.read_text():
+        yield "docs/ARCHITECTURE.md has another graph of the crates: run `python3 -m gate.crates`"
+    for file in sorted(TOP.glob("crates/*/proofs/*.antt")):
+        if not PROOFS.fullmatch(file.name):
+            yield f"{file.relative_to(TOP)}: no file of lemmas by its name"
 
 
 def write() -> None:
-    """Writes the README.md of each crate."""
+    """Writes the README.md of each crate, and the graph."""
     for file, line in (readme(*row) for row in rows()):
         file.write_text(line)
+    PAGE.write_text(drawn())
 
 
 if __name__ == "__main__":
