@@ -15,8 +15,7 @@ from typing import NoReturn
 
 from psi_tools.cli.options import STREAM, TOTAL, Parser, check_last_stream, number
 from psi_tools.draw.blocks import MOST_BLOCKS, Folder
-from psi_tools.draw.engines import SHARE, SSH, Here, Hosts, Slurm, Way, run_task
-from psi_tools.draw.many import COMMAND, draw_all, joined, merge
+from psi_tools.draw.many import COMMAND, SHARE, SSH, Here, Hosts, Slurm, Way, draw_all, joined, merge, run_task
 from psi_tools.draw.program import Program, built_companion, built_program, companion_of, program_of
 from psi_tools.draw.streams import LEAST_BATCHES, MOST_STREAMS
 from psi_tools.errors import PsiError
