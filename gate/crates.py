@@ -3,12 +3,16 @@
 Writes what is said of the crates: into each crate's folder a README.md of one line, which says what the
 crate is for, its row in docs/ARCHITECTURE.md; and into that page the graph of the crates, as a Mermaid
 diagram. There an arrow leads from each crate to those that it stands on, without the arrows that follow
-from others, and the layers are those of crates.txt. With --check it writes nothing, and tells what isn't so:
+from others, and the layers are those of crates.txt. A comment at the end of a line of crates.txt names the
+crates that no code of the crate needs: those that only clauses and definitions name, and those that only
+proofs name. With --check it writes nothing, and tells what isn't so:
 
 - each crate of crates.txt has one row there, and each row is one of a crate;
 - a crate's row stands after those of all crates that it stands on;
 - its README.md has its row, and its root file begins with a comment on what it holds;
-- the page has this graph;
+- the page has this graph, and each line of crates.txt this comment;
+- each edge of crates.txt is needed: a source, a specs file or a proof of the crate names the other crate;
+- no edge is missing: each crate of this repository that one of these names is on the crate's line;
 - each file right in a crate's proofs/ says by its name what it holds: lemmas stand in files
   `..Lemmas.antt`, worked rows in `Worked.antt`, and `Lib.antt` names the files; laws, `..Laws.antt`,
   stand in specs/Inner/.
@@ -18,16 +22,21 @@ The exit status is 1 where something is told, and 2 where the words aren't right
 
 import pathlib
 import re
-from collections.abc import Iterator
+from collections.abc import Collection, Iterator
 
 from gate import TOP, run
 from tools.build.crates import crates_below
 
-PAGE = TOP / "docs/ARCHITECTURE.md"
+PAGE, CRATES = TOP / "docs/ARCHITECTURE.md", TOP / "crates.txt"
 ROW = re.compile(r"^\| `(\w+)` \| (.*) \|$", re.M)
 BLOCK = re.compile(r"(?<=^```mermaid\n).*?(?=^```$)", re.M | re.S)
 LAYER = re.compile(r"^# (.+)\n((?:\w+:.*\n)+)", re.M)
 PROOFS = re.compile(r"(?:\w+Lemmas|Worked|Lib)\.antt")
+# What a clause, a definition or a proof names, and what a source names.
+GHOST = re.compile(r"\bRattle\.(\w+)\.")
+SOURCE = re.compile(r"(?<![\w:.])(\w+)::")
+FORMS = {".rt": (GHOST, SOURCE), ".antt": (GHOST,)}
+COMMENT = {".rt": re.compile(r"//.*"), ".antt": re.compile(r"--.*")}
 
 
 def rows() -> list[tuple[str, str]]:
@@ -77,6 +86,47 @@ def drawn() -> str:
     return BLOCK.sub(lambda _: graph, PAGE.read_text(), count=1)
 
 
+def named(name: str, *folders: str, forms: Collection[re.Pattern[str]] = (GHOST, SOURCE)) -> dict[str, pathlib.Path]:
+    """The crates that files of a crate name, each with the first of these files."""
+    files: dict[str, pathlib.Path] = {}
+    for path in (path for folder in folders for path in sorted((TOP / "crates" / name / folder).rglob("*"))):
+        for form in (form for form in FORMS.get(path.suffix, ()) if form in forms):
+            for word in form.findall(COMMENT[path.suffix].sub("", path.read_text())):
+                files.setdefault(word, path.relative_to(TOP))
+    return files
+
+
+def row(name: str, line: list[str]) -> str:
+    """The line of a crate in crates.txt, with the comment that it is to have."""
+    code, clauses = named(name, "src", forms=[SOURCE]), named(name, "src", "specs", forms=[GHOST])
+    parts = {
+        "clauses alone": [other for other in line if other not in code and other in clauses],
+        "proofs alone": [other for other in line if other not in code and other not in clauses],
+    }
+    note = "; ".join(f"{title}: {' '.join(names)}" for title, names in parts.items() if names)
+    return f"{name}:{''.join(f' {other}' for other in line)}" + (f"  # {note}" if note else "")
+
+
+def commented(text: str) -> str:
+    """The text of crates.txt, with the comments that its lines are to have."""
+    edges = crates_below(TOP)
+    return re.sub(r"^(\w+):.*$", lambda found: row(found[1], edges[found[1]]), text, flags=re.M)
+
+
+def faults_of_edges() -> Iterator[str]:
+    """The edges that are needless or missing, and the lines whose comments are wrong."""
+    edges, text = crates_below(TOP), CRATES.read_text()
+    for is_line, should in zip(text.splitlines(), commented(text).splitlines()):
+        if is_line != should:
+            yield f"comment: {should}"
+    for name, line in edges.items():
+        below, files = {*line}, named(name, "src", "specs", "proofs")
+        for other in sorted(below - {*files}):
+            yield f"needless: {name}: {other}"
+        for other in sorted({*files} & {*edges} - below - {name}):
+            yield f"missing: {name}: {other} ({files[other]})"
+
+
 def faults() -> Iterator[str]:
     """What isn't so."""
     known, listed = crates_below(TOP), rows()
@@ -105,13 +155,15 @@ def faults() -> Iterator[str]:
     for file in sorted(TOP.glob("crates/*/proofs/*.antt")):
         if not PROOFS.fullmatch(file.name):
             yield f"{file.relative_to(TOP)}: no file of lemmas by its name"
+    yield from faults_of_edges()
 
 
 def write() -> None:
-    """Writes the README.md of each crate, and the graph."""
+    """Writes the README.md of each crate, the graph, and the comments of crates.txt."""
     for file, line in (readme(*row) for row in rows()):
         file.write_text(line)
     PAGE.write_text(drawn())
+    CRATES.write_text(commented(CRATES.read_text()))
 
 
 if __name__ == "__main__":
