@@ -22,7 +22,7 @@ from psi_tools.stats.intervals import (
     spread_of,
 )
 from psi_tools.stats.spans import Row, guessed_span, spans_of
-from psi_tools.stats.text import ends_shown, figures, half_shown
+from psi_tools.stats.text import ends_shown, figures, half_shown, not_coupled
 
 REWARD = "reward-"
 # The rows that are means or rates, and what they are called for people.
@@ -115,12 +115,8 @@ def batches_of(reports: Sequence[Report]) -> Batches:
 
 def notes_of(batches: Batches, wanted: int) -> list[str]:
     """What has to be known before a mean is read, each as one sentence."""
-    samples, lost, notes = sum(batches.samples), batches.uncoupled, []
-    if lost:
-        more = "the intervals hold what they may change"
-        if not batches.spans:
-            more = "--net NET gives intervals that hold what they may change"
-        notes.append(f"NOT COUPLED: {lost:,} of {samples:,} streams; the means are of the others, and biased; {more}")
+    hold = "the intervals hold" if batches.spans else "--net NET gives intervals that hold"
+    notes = not_coupled(batches.uncoupled, sum(batches.samples), "means", hold)
     if len(batches.samples) < wanted:
         notes.append(
             f"NOT WHOLE: {len(batches.samples)} of {wanted} blocks are finished; those that come "
