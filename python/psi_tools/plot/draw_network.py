@@ -12,7 +12,7 @@ import matplotlib.path
 
 from psi_tools.plot import style
 from psi_tools.plot.network_layout import Curve, Point, folded, laid_out, size_of
-from psi_tools.plot.network_scene import Arrow, NetworkPicture, Node, QueueBox, Scene, SceneArrow, SceneNode, scene_of
+from psi_tools.plot.network_scene import Arrow, NetworkPicture, Node, Scene, SceneArrow, SceneNode, scene_of
 
 # The most places of a waiting line, and the most servers, that are drawn one by one.
 MOST_PLACES, MOST_SERVERS = 6, 3
@@ -115,26 +115,25 @@ def draw_queue(axes: Any, node: SceneNode, centre: Point) -> None:
     """A waiting line with its places, then its servers; the name above, the numbers below."""
     queue = node.queue
     assert queue is not None
+    servers, capacity = queue.get("servers", 1), queue["capacity"]
     left, low = centre[0] - 0.68, centre[1] - 0.15
-    server_room = 0.36 if queue.is_served else 0.0
-    draw_line(axes, queue, node.key, (left, low), 1.36 - server_room)
-    if queue.is_served:
-        draw_servers(axes, queue, node.key, (left + 1.36 - server_room / 2, centre[1]))
-    name, size = style.fitted(queue.name, 98, 9)
+    server_room = 0.36 if node.is_served else 0.0
+    draw_line(axes, node.key, (left, low), 1.36 - server_room, capacity - servers * node.is_served)
+    if node.is_served:
+        draw_servers(axes, node.key, (left + 1.36 - server_room / 2, centre[1]), servers)
+    name, size = style.fitted(queue["name"], 98, 9)
     put_text(axes, (centre[0], centre[1] + 0.28), name, size, weight="bold")
-    servers = f", {queue.servers} servers" if queue.servers > 1 else ""
-    numbers, size = style.fitted(f"capacity {queue.capacity}{servers}", 98, 7.5)
+    numbers, size = style.fitted(f"capacity {capacity}" + f", {servers} servers" * (servers > 1), 98, 7.5)
     put_text(axes, (centre[0], centre[1] - 0.31), numbers, size, DARK_GREY)
 
 
-def draw_line(axes: Any, queue: QueueBox, key: str, corner: Point, width: float) -> None:
-    """The waiting line: open where customers come, closed at the servers, with places while there are few."""
+def draw_line(axes: Any, key: str, corner: Point, width: float, waiting: int) -> None:
+    """The waiting line: open where customers come, closed at the servers, with its places while there are few."""
     (left, low), high = corner, corner[1] + 0.3
     floor = matplotlib.patches.Rectangle(corner, width, 0.3, fc="#EEF3F8", ec="none", zorder=3, gid=f"queue-{key}")
     axes.add_patch(floor)
     right = left + width
     put_line(axes, [(left, high), (right, high), (right, low), (left, low)], INK, 1.1, zorder=4)
-    waiting = queue.capacity - (queue.servers if queue.is_served else 0)
     places = min(waiting, MOST_PLACES)
     cell = width / (MOST_PLACES + 1)
     for place in range(1, places + 1):
@@ -143,17 +142,17 @@ def draw_line(axes: Any, queue: QueueBox, key: str, corner: Point, width: float)
         put_text(axes, (left + cell / 2, low + 0.15), "…", 7)
 
 
-def draw_servers(axes: Any, queue: QueueBox, key: str, centre: Point) -> None:
+def draw_servers(axes: Any, key: str, centre: Point, servers: int) -> None:
     """A circle for each server while they are few, else one with their number."""
-    few = queue.servers <= MOST_SERVERS
-    count = queue.servers if few else 1
+    few = servers <= MOST_SERVERS
+    count = servers if few else 1
     radius = {1: 0.16, 2: 0.1, 3: 0.07}[count]
     for place in range(count):
         up = centre[1] + ((count - 1) / 2 - place) * 2.2 * radius
         drawn = {"fc": PAPER, "ec": INK, "lw": 1.1, "zorder": 4, "gid": f"server-{key}-{place}"}
         axes.add_patch(matplotlib.patches.Circle((centre[0], up), radius, **drawn))
     if not few:
-        put_text(axes, centre, f"×{queue.servers}", 7 if queue.servers < 100 else 5.5)
+        put_text(axes, centre, f"×{servers}", 7 if servers < 100 else 5.5)
 
 
 def draw_point(axes: Any, node: SceneNode, centre: Point) -> None:

@@ -103,7 +103,7 @@ def layout_of(found: dict[str, Any], scene: Scene) -> Layout:
     queues = {node.key: node.queue for node in scene.nodes if node.queue}
     for number, arrow in enumerate(scene.arrows):
         if arrow.kind is Arrow.LOSS and arrow.tail in queues:
-            has_one = queues[arrow.tail].servers == 1
+            has_one = queues[arrow.tail].get("servers", 1) == 1
             begin = (centres[arrow.tail][0] + TO_SERVERS, centres[arrow.tail][1] - BELOW_SERVER) if has_one else None
             centres[arrow.head], ordered[number] = below_servers(centres[arrow.head], ordered[number], begin)
     return Layout((width / POINTS_AN_INCH, height / POINTS_AN_INCH), centres, ordered)
