@@ -1,4 +1,4 @@
-"""python3 -m generate.cases_from_elsewhere PATH [--commands check,sample] > FILE.cases
+"""python3 -m generate.cases_from_json PATH [--commands check,sample] > FILE.cases
 
 Writes cases whose answers come from elsewhere in the form that `psi_test_cases` reads. PATH is one of
 
