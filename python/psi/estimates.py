@@ -16,8 +16,7 @@ from psi_tools.errors import ArgumentError, PsiError
 from psi_tools.io.reports import together
 from psi_tools.model.networks import Source, data_of, network_of
 from psi_tools.stats.batches import REWARD, batches_of, record
-from psi_tools.stats.guaranteed import ASSUMED, Guarantee, Pilot, file_of
-from psi_tools.stats.guaranteed_rows import GuaranteedLaw, guaranteed_means
+from psi_tools.stats.guaranteed import ASSUMED, Guarantee, GuaranteedLaw, Pilot, file_of, guaranteed_means
 from psi_tools.stats.law import RECORD, SHARED, Law
 
 

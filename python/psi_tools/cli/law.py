@@ -123,8 +123,7 @@ def answer_of(found: Found, args: argparse.Namespace) -> str:
 def certificates_of(net: Network, args: argparse.Namespace, law: Law) -> str:
     """The certificates of a guaranteed distribution, as JSON."""
     from psi_tools.draw.blocks import digest_of
-    from psi_tools.stats.guaranteed import file_of
-    from psi_tools.stats.guaranteed_rows import GuaranteedLaw
+    from psi_tools.stats.guaranteed import GuaranteedLaw, file_of
 
     assert isinstance(law, GuaranteedLaw)
     pilot = law.pilot and {"first": law.pilot.first, "count": law.pilot.count}

@@ -123,8 +123,7 @@ def heads_of(batches: Batches) -> Record:
 
 def guaranteed_answer(args: argparse.Namespace, batches: Batches, wanted: int) -> tuple[str, list[str]]:
     """The text of the answer whose intervals carry a theorem, by the sums of all reports."""
-    from psi_tools.stats.guaranteed import ASSUMED, file_of, misses
-    from psi_tools.stats.guaranteed_rows import guaranteed_means
+    from psi_tools.stats.guaranteed import ASSUMED, file_of, guaranteed_means, misses
 
     if not batches.spans:
         raise PsiError("--guaranteed needs the range of each row over all states, which --net NET gives")

@@ -52,8 +52,7 @@ def text_of(paths: Paths, records: list[Record], level: float) -> str:
 
 def guaranteed_answer(psi: Program, net: Network, args: argparse.Namespace, paths: Paths) -> tuple[str, list[str]]:
     """The text of the answer whose intervals carry a theorem: of queues and rewards alone."""
-    from psi_tools.stats.guaranteed import ASSUMED, file_of, misses, pilots_of
-    from psi_tools.stats.guaranteed_rows import guaranteed_paths
+    from psi_tools.stats.guaranteed import ASSUMED, file_of, guaranteed_paths, misses, pilots_of
 
     pilots = pilots_of(args.count) if args.pilot is None else args.pilot
     begin, pilot = args.first + args.count, None

@@ -19,7 +19,7 @@ from psi_tools.stats.law import Joint, Law, Share
 from psi_tools.stats.spans import Range, Spans
 
 if TYPE_CHECKING:
-    from psi_tools.stats.guaranteed_rows import GuaranteedLaw
+    from psi_tools.stats.guaranteed import GuaranteedLaw
 
 COUNT = 10_000
 
@@ -77,8 +77,7 @@ class Samples:
     def guaranteed_law(self, name: str, is_reward: bool = False, pilots: int | None = None) -> "GuaranteedLaw":
         """As law, with intervals that carry a theorem. Where the mean is found by bets, the pilot streams
         follow those that are counted."""
-        from psi_tools.stats.guaranteed import Pilot, pilots_of
-        from psi_tools.stats.guaranteed_rows import GuaranteedLaw
+        from psi_tools.stats.guaranteed import GuaranteedLaw, Pilot, pilots_of
 
         law = self.law(name, is_reward)
         if not law.known:
