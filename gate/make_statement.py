@@ -40,7 +40,7 @@ def clause(sources: Sources, path: str, function: str, label: str = "") -> Item:
     if not heads:
         raise Missing(f"{path}: {function} has no clause")
     first, begin = heads[0], start
-    while file.lines[begin - 1].startswith("///"):
+    while file.lines[begin - 1].startswith(("///", "#[")):
         begin -= 1
     if label:
         first = next(i for i in heads if file.lines[i].startswith(f"    ensures {label} "))
@@ -49,7 +49,8 @@ def clause(sources: Sources, path: str, function: str, label: str = "") -> Item:
         while file.lines[begin - 1].startswith("    //"):
             begin -= 1
     shown = first if label else start
-    item = Item(file, function, 0, file.lines[begin:shown], [])
+    comment = [line for line in file.lines[begin:shown] if not line.startswith("#[")]
+    item = Item(file, function, 0, comment, [])
     item.text = file.lines[shown:end]
     item.head = [] if label else file.lines[start : heads[0]]
     head = " ".join(file.lines[start : heads[0]])
