@@ -3,6 +3,7 @@ use Rattle.std.specs.Prelude.{◌≡◌, ℕ, zero, suc, ◌+◌, ◌-◌, ◌*�
 use Rattle.std.specs.List.{sum_by}
 use Rattle.std.proofs.Common.{ap, sym, ◌∙◌, arith}
 use Rattle.std.proofs.Math.Nat.{pow-zero, pow-succ', mul-le-mul_left}
+use Rattle.std.proofs.lemmas.Grind.{common_steps}
 use Rattle.psi_state.proofs.StatesLemmas.{same-from_eq}
 use Rattle.psi_rate.specs.Rates.{total, least_power}
 use Rattle.psi_rate.specs.Composition.{picked}
@@ -25,8 +26,7 @@ weighted-is chain weight = (let over = sum_by-is chain.states in record {
 })
 
 pub weighted-same : (chain : Chain) (weight g h : List ℕ → ℕ) → ((x : List ℕ) → Own chain x → g x ≡ h x) → weighted chain weight g ≡ weighted chain weight h
-weighted-same chain weight g h same =
-    sum_by-same chain.states (λ x. weight x * g x) (λ x. weight x * h x) (λ x member. ap (λ n. weight x * n) (same x member))
+weighted-same chain weight g h same = grind (arith, common_steps, sum_by-same)
 
 pub weighted-order : (chain : Chain) (weight g h : List ℕ → ℕ) → ((x : List ℕ) → Own chain x → g x ≤ h x) → weighted chain weight g ≤ weighted chain weight h
 weighted-order chain weight g h order = sum_by-order chain.states (λ x. weight x * g x) (λ x. weight x * h x) (λ x own. mul-le-mul_left (weight x) (order x own))

@@ -1,8 +1,9 @@
 -- What is true of the chain of every network, and its runs.
 use Rattle.std.specs.Prelude.{◌≡◌, ℕ, zero, suc, ◌+◌, ◌-◌, ◌<◌, List, length, true, refl}
 use Rattle.std.proofs.Common.{inl, inr, ap, sym, ◌∙◌, subst, arith}
-use Rattle.std.proofs.lemmas.Bool.{cases_lt, cases_Bool}
+use Rattle.std.proofs.lemmas.Bool.{cases_lt}
 use Rattle.std.proofs.lemmas.List.{get_or_past}
+use Rattle.std.proofs.lemmas.Grind.{common_steps}
 use Rattle.psi_state.specs.Members.{In}
 use Rattle.psi_state.proofs.StatesLemmas.{apart-from_eq}
 use Rattle.psi_rate.specs.Rates.{event_of}
@@ -12,10 +13,7 @@ use Rattle.psi_law.specs.Counting.{Words}
 use Rattle.psi_law.specs.Chains.{Chain, IsFinite, IsChain, function_of, is_same, end_of}
 
 pub is_same-itself : (x : List ℕ) → is_same x x ≡ true
-is_same-itself x = elim (cases_Bool (is_same x x)) [
-  | inl so ↦ so
-  | inr not_so ↦ absurd (apart-from_eq x x not_so refl)
-]
+is_same-itself x = grind (arith, common_steps, apart-from_eq)
 
 -- a state of the chain
 abbrev pub Own : Chain → List ℕ → Type 0
@@ -51,9 +49,7 @@ compose-first f g (suc t) same =
 -- its older steps come first
 pub compose-append : (f : Functions) (n k : ℕ) (x : List ℕ) → compose f (n + k) x ≡ compose f n (compose (λ i. f (n + i)) k x)
 compose-append f n zero x = (let e : n + zero ≡ n = omega arith in ap (λ m. compose f m x) e)
-compose-append f n (suc k) x =
-    let e : n + suc k ≡ suc (n + k) = omega arith in
-    ap (λ m. compose f m x) e ∙ (compose-append f n k (f (suc (n + k)) x) ∙ ap (λ m. compose f n (compose (λ i. f (n + i)) k (f m x))) (sym e))
+compose-append f n (suc k) x = grind (arith, common_steps, (compose-append f n k (f (suc (n + k)) x)))
 
 -- the newest word comes after what the older ones made
 pub end_of-first : (chain : Chain) (past : Words) (n : ℕ) (x : List ℕ)

@@ -3,6 +3,7 @@ use Rattle.std.specs.Prelude.{◌≡◌, ℕ, zero, suc, ◌+◌, ◌<◌, ◌�
 use Rattle.std.proofs.Common.{inl, inr, ap, sym, ◌∙◌, subst, arith}
 use Rattle.std.proofs.lemmas.List.{length-map, ext_get_or}
 use Rattle.std.proofs.lemmas.List.Elements.{All-map}
+use Rattle.std.proofs.lemmas.Grind.{common_steps}
 use Rattle.psi_state.specs.declared.Outcome.{Outcome}
 use Rattle.psi_state.specs.Sets.{image, single}
 use Rattle.psi_state.proofs.AscendingLemmas.{rising-distinct}
@@ -48,9 +49,7 @@ ending-first caps k f g t same = ap (λ (xs : List (List ℕ)). single xs) (afte
 after-append : (caps : List ℕ) (k : ℕ) (f : Functions) (n d : ℕ) (xs : List (List ℕ))
     → closed_after caps k f (n + d) xs ≡ closed_after caps k f n (closed_after caps k (λ i. f (n + i)) d xs)
 after-append caps k f n zero xs = (let e : n + zero ≡ n = omega arith in ap (λ m. closed_after caps k f m xs) e)
-after-append caps k f n (suc d) xs =
-    let e : n + suc d ≡ suc (n + d) = omega arith in
-    rw e (after-append caps k f n d (arc_hull caps k (image (f (suc (n + d))) xs)))
+after-append caps k f n (suc d) xs = grind (arith, common_steps, (after-append caps k f n d (arc_hull caps k (image (f (suc (n + d))) xs))))
 
 -- the arc hull of one state is that state: another state with its arcs has the same number in each queue
 hull-one : (caps : List ℕ) (k : ℕ) (y : List ℕ) → IsOfTotal caps k y → arc_hull caps k (y ∷ []) ≡ y ∷ []

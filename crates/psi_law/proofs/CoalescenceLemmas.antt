@@ -1,7 +1,8 @@
 -- Runs of any kind: every state reaches their samples, and the share of the pasts whose runs have not coalesced falls geometrically.
-use Rattle.std.specs.Prelude.{◌≡◌, ℕ, suc, ◌+◌, ◌*◌, ◌^◌, ◌<◌, ◌≤◌, List, [], ◌∷◌, Option, Some, None, is_none, refl}
-use Rattle.std.proofs.Common.{ap, sym, ◌∙◌, subst, arith}
+use Rattle.std.specs.Prelude.{◌≡◌, ℕ, suc, ◌+◌, ◌*◌, ◌^◌, ◌<◌, ◌≤◌, List, [], ◌∷◌, Option, Some, None, is_none}
+use Rattle.std.proofs.Common.{ap, sym, ◌∙◌, arith}
 use Rattle.std.proofs.Math.Nat.{pow-succ'}
+use Rattle.std.proofs.lemmas.Grind.{common_steps}
 use Rattle.psi_state.specs.declared.Outcome.{Outcome}
 use Rattle.psi_state.specs.declared.Outcome.TheVariants.{Met, NotMet}
 use Rattle.psi_state.specs.Sets.{single}
@@ -10,8 +11,7 @@ use Rattle.psi_rate.specs.Doubling.{IsFirst, IsLasting}
 use Rattle.psi_rate.specs.Outcomes.{outcome_within, IsOutcome}
 use Rattle.psi_rate.proofs.OutcomesLemmas.{outcome_within-is}
 use Rattle.psi_couple.proofs.CouplingLemmas.{first-within}
-use Rattle.psi_law.specs.Counting.{Words, sum_pasts}
-use Rattle.psi_law.specs.Wheel.{word_count}
+use Rattle.psi_law.specs.Counting.{Words}
 use Rattle.psi_law.specs.Chains.{Chain, end_of}
 use Rattle.psi_law.specs.Samples.{Reaches, is_unmet, unmet, uncoalesced}
 use Rattle.psi_law.specs.Statements.{UncoalescedFalls, UnmetIsUncoalesced, LimitSquares, LooksAtFirst}
@@ -54,9 +54,7 @@ module _ (chain : Chain) (run : Functions → ℕ → Option (List ℕ)) (are : 
   first-last past limit t s is = (are.last past).each t (2 ^ limit) s (first-within (ending past) limit t s is) is.answer
 
   pub outcome-reaches : (limit : ℕ) → Reaches chain (λ past. outcome_within (ending past) limit) (2 ^ limit)
-  outcome-reaches limit =
-      runs-reach (λ past. outcome_within (ending past) limit) (2 ^ limit)
-      (λ past t s met. first-last past limit t s (subst (λ (o : Outcome). IsOutcome (ending past) limit o) met (outcome_within-is (ending past) limit)))
+  outcome-reaches limit = grind (arith, common_steps, runs-reach, first-last, outcome_within-is)
 
   pub outcome-looks : (limit : ℕ) → LooksAtFirst (λ past. outcome_within (ending past) limit) (2 ^ limit)
   outcome-looks limit = answers-look chain.functions chain.rates run (λ answers. outcome_within answers limit) (2 ^ limit) are.looks (λ first other. outcome-same first other limit)
@@ -77,31 +75,22 @@ module _ (chain : Chain) (run : Functions → ℕ → Option (List ℕ)) (are : 
       let e = is_none-some (ending both (n + k)) found.0 found.1 in omega arith
 
   pub uncoalesced-falls : UncoalescedFalls ending
-  uncoalesced-falls = λ n k.
-      count_pasts-joined word_count n k (λ past. is_none (ending past (n + k))) (λ p. is_none (ending p n)) (λ q. is_none (ending q k))
-      (λ p q. open-joined n k p q (ending p n) (ending q k) refl refl)
+  uncoalesced-falls = grind (arith, common_steps, count_pasts-joined, open-joined)
 
   -- a sample isn't met exactly where the run of all its words has not coalesced
   pub unmet-last : (past : Words) (limit : ℕ) (o : Outcome) → IsOutcome (ending past) limit o → one_if (is_unmet o) ≡ one_if (is_none (ending past (2 ^ limit)))
   unmet-last past limit (Met t s) is = (let e = is_none-some (ending past (2 ^ limit)) s (first-last past limit t s is) in omega arith)
-  unmet-last past limit (NotMet l) is =
-      let last = is.1.each limit (omega arith) in
-      let e : one_if (is_none (ending past (2 ^ limit))) ≡ 1 = ap (λ (m : Option (List ℕ)). one_if (is_none m)) last in omega arith
+  unmet-last past limit (NotMet l) is = grind (arith, common_steps)
 
   pub unmet-uncoalesced : UnmetIsUncoalesced ending
-  unmet-uncoalesced = λ limit.
-      sum-same (sum_pasts word_count (2 ^ limit)) (sum_pasts-is word_count (2 ^ limit)) (λ past. one_if (is_unmet (outcome_within (ending past) limit)))
-      (λ past. one_if (is_none (ending past (2 ^ limit))))
-      (λ past. unmet-last past limit (outcome_within (ending past) limit) (outcome_within-is (ending past) limit))
+  unmet-uncoalesced = grind (arith, common_steps, sum-same, sum_pasts-is, one_if, unmet-last, outcome_within-is)
 
   pub limit-squares : LimitSquares ending
   limit-squares = λ limit.
       (let n = 2 ^ limit in
       let twice : 2 ^ suc limit ≡ n + n = (let e = pow-succ' 2 limit in omega arith) in
-      let last = unmet-uncoalesced (suc limit) in
       let same : uncoalesced ending (2 ^ suc limit) ≡ uncoalesced ending (n + n) = ap (uncoalesced ending) twice in
-      let falls = uncoalesced-falls n n in
       let each = unmet-uncoalesced limit in
       let square : uncoalesced ending n * uncoalesced ending n ≡ unmet (λ past. outcome_within (ending past) limit) n * unmet (λ past. outcome_within (ending past) limit) n =
       ap (λ u. u * u) (sym each) in
-      omega arith)
+      omega (arith, unmet-uncoalesced (suc limit), uncoalesced-falls n n))

@@ -1,10 +1,10 @@
 -- State elimination: the weights that it finds balance, and their sum is not 0.
-use Rattle.std.specs.Prelude.{◌≡◌, ℕ, ◌+◌, ◌*◌, ◌<◌, ◌≤◌, List, [], ◌∷◌, Bool, false, nat_eq, if◌then◌else◌}
+use Rattle.std.specs.Prelude.{◌≡◌, ℕ, zero, suc, ◌+◌, ◌*◌, ◌<◌, ◌≤◌, List, [], ◌∷◌, Bool, false, if◌then◌else◌}
 use Rattle.std.specs.List.{sum_by}
-use Rattle.std.proofs.Common.{inl, inr, ap, sym, ◌∙◌, subst, arith}
-use Rattle.std.proofs.Math.Nat.{mul-le-mul}
-use Rattle.std.proofs.lemmas.Bool.{cases_lt, cases_Bool, eqb-true, eqb-false}
+use Rattle.std.proofs.Common.{rules, inl, inr, ap, sym, ◌∙◌, subst, arith}
+use Rattle.std.proofs.lemmas.Bool.{cases_Bool}
 use Rattle.std.proofs.lemmas.List.Sums.{sum_by-cons}
+use Rattle.std.proofs.lemmas.Grind.{common_steps}
 use Rattle.psi_state.specs.Members.{In}
 use Rattle.psi_state.specs.Ascending.{IsDistinct}
 use Rattle.psi_state.proofs.StatesLemmas.{same-from_eq}
@@ -34,18 +34,24 @@ module _ (a : List ℕ) (rest : List (List ℕ)) (q : Matrix) (w : List ℕ → 
   censored-inflow y =
       let out = outflow rest q a in
       let is = sum_by-is rest in
-      let each = sum_by-same rest (λ x. w x * (out * q x y + q x a * q a y)) (λ x. out * (w x * q x y) + w x * q x a * q a y) (λ x member. omega arith) in
-      let parts = is.more (λ x. out * (w x * q x y)) (λ x. w x * q x a * q a y) in
-      let direct = sum-times (λ (g : List ℕ → ℕ). sum_by g rest) is out (λ x. w x * q x y) in
-      let through = sum_by-out rest (λ x. w x * q x a) (q a y) in omega arith
+      omega (
+        arith,
+        sum_by-same rest (λ x. w x * (out * q x y + q x a * q a y)) (λ x. out * (w x * q x y) + w x * q x a * q a y) (λ x member. omega arith),
+        is.more (λ x. out * (w x * q x y)) (λ x. w x * q x a * q a y),
+        sum-times (λ (g : List ℕ → ℕ). sum_by g rest) is out (λ x. w x * q x y),
+        sum_by-out rest (λ x. w x * q x a) (q a y),
+      )
 
   censored-outflow : (y : List ℕ) → outflow rest (censored a rest q) y ≡ outflow rest q a * (q y a + outflow rest q y)
   censored-outflow y =
       let out = outflow rest q a in
       let is = sum_by-is rest in
-      let parts = is.more (λ z. out * q y z) (λ z. q y a * q a z) in
-      let direct = sum-times (λ (g : List ℕ → ℕ). sum_by g rest) is out (λ z. q y z) in
-      let through = sum-times (λ (g : List ℕ → ℕ). sum_by g rest) is (q y a) (λ z. q a z) in omega arith
+      omega (
+        arith,
+        is.more (λ z. out * q y z) (λ z. q y a * q a z),
+        sum-times (λ (g : List ℕ → ℕ). sum_by g rest) is out (λ z. q y z),
+        sum-times (λ (g : List ℕ → ℕ). sum_by g rest) is (q y a) (λ z. q a z),
+      )
 
   -- where the state is not one of the others
   module _ (alone : In a rest → ⊥) where
@@ -56,18 +62,14 @@ module _ (a : List ℕ) (rest : List (List ℕ)) (q : Matrix) (w : List ℕ → 
     restored-inflow : (y : List ℕ) → inflow (a ∷ rest) q restored y ≡ top * q a y + outflow rest q a * inflow rest q w y
     restored-inflow y =
         let out = outflow rest q a in
-        let first = sum_by-cons (λ x. restored x * q x y) a rest in
-        let own : restored a * q a y ≡ top * q a y = ap (λ n. n * q a y) restored-first in
-        let others = sum_by-same rest (λ x. restored x * q x y) (λ x. out * (w x * q x y))
-        (λ x member. (let e : restored x * q x y ≡ out * w x * q x y = ap (λ n. n * q x y) (restored-rest x member) in omega arith)) in
-        let scaled = sum-times (λ (g : List ℕ → ℕ). sum_by g rest) (sum_by-is rest) out (λ x. w x * q x y) in omega arith
+        let others = sum_by-same rest (λ x. restored x * q x y) (λ x. out * (w x * q x y)) (λ x member. rw (restored-rest x member) (omega arith)) in
+        let scaled = sum-times (λ (g : List ℕ → ℕ). sum_by g rest) (sum_by-is rest) out (λ x. w x * q x y) in
+        rw (sum_by-cons (λ x. restored x * q x y) a rest, restored-first) (omega arith)
 
     restored-sum : sum_by restored (a ∷ rest) ≡ top + outflow rest q a * sum_by w rest
     restored-sum =
-        let first = sum_by-cons restored a rest in
-        let own = restored-first in
-        let others = sum_by-same rest restored (λ x. outflow rest q a * w x) restored-rest in
-        let scaled = sum-times (λ (g : List ℕ → ℕ). sum_by g rest) (sum_by-is rest) (outflow rest q a) w in omega arith
+        rw (sum_by-cons restored a rest, restored-first, sum_by-same rest restored (λ x. outflow rest q a * w x) restored-rest)
+        (ap (λ n. top + n) (sum-times (λ (g : List ℕ → ℕ). sum_by g rest) (sum_by-is rest) (outflow rest q a) w))
 
     -- weights that balance the censored rates are restored to weights that balance all rates, if the state's own weight is right wherever it leads
     restored-balances : Balances rest (censored a rest q) w → top * outflow rest q a ≡ inflow rest q w a * outflow rest q a
@@ -93,13 +95,7 @@ module _ (a : List ℕ) (rest : List (List ℕ)) (q : Matrix) (w : List ℕ → 
 
 -- the weight of an eliminated state is right wherever it leads: where it has no outflow, it leads nowhere
 first-times : (out inward part : ℕ) → part ≤ out → first_weight out inward * part ≡ inward * part
-first-times out inward part under = elim (cases_Bool (nat_eq out 0)) [
-  | inl none ↦
-      (let zero_out = eqb-true out 0 none in
-      let zero_part : part ≡ 0 = omega arith in
-      rw zero_part (omega arith))
-  | inr some ↦ ap (λ (b : Bool). (if b then 1 else inward) * part) some
-]
+first-times out inward part under = grind (arith, common_steps)
 
 pub eliminated-balances : (xs : List (List ℕ)) (q : Matrix) → IsDistinct xs → Balances xs q (eliminated xs q)
 eliminated-balances [] q distinct = record { each = λ y member. absurd member }
@@ -110,19 +106,16 @@ eliminated-balances (a ∷ rest) q distinct =
     restored-balances a rest q w (first_weight out inward) distinct.0 (eliminated-balances rest (censored a rest q) distinct.1)
     (first-times out inward out (omega arith)) (λ y member. first-times out inward (q a y) (sum_by-member rest (λ z. q a z) y member))
 
+-- where the others weigh something, so do all
+first-some : (out inward sum : ℕ) → 0 < sum → 0 < first_weight out inward + out * sum
+first-some zero inward sum some = omega arith
+first-some (suc out) inward sum some = omega arith
+
 pub eliminated-some : (a : List ℕ) (rest : List (List ℕ)) (q : Matrix) → IsDistinct (a ∷ rest) → 0 < sum_by (eliminated (a ∷ rest) q) (a ∷ rest)
-eliminated-some a [] q distinct =
-    let sum = restored-sum a [] q (eliminated [] (censored a [] q)) 1 distinct.0 in omega arith
+eliminated-some a [] q distinct = search rules
 eliminated-some a (b ∷ more) q distinct =
     let rest = b ∷ more in
     let w = eliminated rest (censored a rest q) in
     let out = outflow rest q a in
     let inward = inflow rest q w a in
-    let sum = restored-sum a rest q w (first_weight out inward) distinct.0 in
-    elim (cases_Bool (nat_eq out 0)) [
-      | inl none ↦ (let one : first_weight out inward ≡ 1 = ap (λ (c : Bool). if c then 1 else inward) none in omega arith)
-      | inr some ↦
-          (let others = eliminated-some b more (censored a rest q) distinct.1 in
-          let leads : 0 < out = elim (cases_lt 0 out) [ inl more_than ↦ more_than | inr at_most ↦ absurd (eqb-false out 0 some (omega arith)) ] in
-          let least : 1 * 1 ≤ out * sum_by w rest = mul-le-mul leads others in omega arith)
-    ]
+    rw (restored-sum a rest q w (first_weight out inward) distinct.0) (first-some out inward (sum_by w rest) (eliminated-some b more (censored a rest q) distinct.1))

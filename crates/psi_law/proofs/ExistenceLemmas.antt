@@ -2,6 +2,7 @@
 use Rattle.std.specs.Prelude.{◌≡◌, ℕ, ◌*◌, ◌<◌, List, [], ◌∷◌, length, slice_index, refl}
 use Rattle.std.specs.List.{sum_by}
 use Rattle.std.proofs.Common.{ap, sym, ◌∙◌, arith}
+use Rattle.std.proofs.lemmas.Grind.{common_steps}
 use Rattle.psi_state.specs.Members.{In}
 use Rattle.psi_state.specs.Ascending.{IsDistinct}
 use Rattle.psi_rate.specs.Rates.{total}
@@ -16,9 +17,7 @@ use Rattle.psi_law.proofs.EliminationLemmas.{eliminated-balances, eliminated-som
 rates-sum : (rates : List ℕ) → sum_below (length rates) (λ e. slice_index rates e) ≡ total rates
 unfolding sum_below
 rates-sum [] = refl
-rates-sum (rate ∷ rates) =
-    let first = sum_below-first (length rates) (λ e. slice_index (rate ∷ rates) e) in
-    let rest = rates-sum rates in omega arith
+rates-sum (rate ∷ rates) = grind (arith, common_steps, sum_below-first, (rates-sum rates))
 
 -- the outflow of each state is the sum of all rates, since each function leads it to one of the states
 outflow-total : (chain : Chain) (y : List ℕ) → IsFinite chain → In y chain.states → outflow chain.states (rate_between chain) y ≡ total chain.rates

@@ -1,6 +1,7 @@
 -- All states' meeting is a run, so the share of the pasts that leave states apart falls geometrically, and unmet samples of meetings are counted by it.
 use Rattle.std.specs.Prelude.{ℕ, ◌+◌, ◌^◌, List, Option}
-use Rattle.std.proofs.Common.{ap, ◌∙◌}
+use Rattle.std.proofs.Common.{arith, ap, ◌∙◌}
+use Rattle.std.proofs.lemmas.Grind.{common_steps}
 use Rattle.psi_state.specs.declared.Outcome.{Outcome}
 use Rattle.psi_state.specs.Sets.{image, single}
 use Rattle.psi_state.proofs.SetsLemmas.{single-image, single-each, In-image}
@@ -37,8 +38,7 @@ module _ (chain : Chain) (is : IsFinite chain) where
               (λ x own. compose-append f n k x ∙ ap (compose f n) (single-each (image_from (λ i. f (n + i)) chain.states k) s (compose (λ i. f (n + i)) k x) met (In-image (compose (λ i. f (n + i)) k) x chain.states own))),
         ));
     ends = λ past n s x met own.
-        (let f = function_at chain.functions chain.rates past in
-        single-each (image_from f chain.states n) s (compose f n x) met (In-image (compose f n) x chain.states own));
+        grind (arith, common_steps, single-each, In-image);
   }
 
   pub apart-falls : ApartFalls chain

@@ -1,6 +1,7 @@
 -- Pasts that are joined of newer and older words, and counts of them.
 use Rattle.std.specs.Prelude.{◌≡◌, ℕ, zero, suc, ◌+◌, ◌-◌, ◌*◌, ◌<◌, ◌≤◌, List, Bool, refl}
 use Rattle.std.proofs.Common.{ap, sym, ◌∙◌, arith}
+use Rattle.std.proofs.lemmas.Grind.{common_steps}
 use Rattle.psi_rate.specs.Composition.{picked, function_at}
 use Rattle.psi_law.specs.Counting.{Words, sum_below, after, sum_pasts, count_pasts}
 use Rattle.psi_law.proofs.SumsLemmas.{one_if, sum-same, sum-times, sum_below-is, sum_pasts-is}
@@ -30,13 +31,11 @@ count_pasts-joined bound n k both newer older each =
     let one : Words → ℕ = λ p. one_if (newer p) in
     let other : Words → ℕ = λ q. one_if (older q) in
     let c = count_pasts bound k older in
-    let parted = sum_pasts-joined bound n k (λ past. one_if (both past)) in
     let order = new.order (λ p. sum_pasts bound k (λ q. one_if (both (joined n p q)))) (λ p. c * one p)
     (λ p. (let inner = old.order (λ q. one_if (both (joined n p q))) (λ q. one p * other q) (each p) in
     let out = sum-times (sum_pasts bound k) old (one p) other in
     omega arith)) in
-    let out = sum-times (sum_pasts bound n) new c one in
-    omega arith
+    omega (arith, sum_pasts-joined bound n k (λ past. one_if (both past)), sum-times (sum_pasts bound n) new c one)
 
 -- the words of a joined past
 pub joined-newer : (n : ℕ) (p q : Words) (k : ℕ) → k < n → joined n p q k ≡ p k
@@ -48,9 +47,7 @@ joined-newer (suc n) p q (suc k) small = joined-newer n (λ j. p (suc j)) q k (o
 pub joined-older : (n : ℕ) (p q : Words) (k : ℕ) → joined n p q (n + k) ≡ q k
 unfolding joined
 joined-older zero p q k = (let e : zero + k ≡ k = omega arith in ap q e)
-joined-older (suc n) p q k =
-    let e : suc n + k ≡ suc (n + k) = omega arith in
-    ap (λ i. after (p 0) (joined n (λ j. p (suc j)) q) i) e ∙ joined-older n (λ j. p (suc j)) q k
+joined-older (suc n) p q k = grind (arith, common_steps, (joined-older n (λ j. p (suc j)) q k))
 
 -- and its functions
 pub function_at-older : (functions : List (List ℕ → List ℕ)) (rates : List ℕ) (n : ℕ) (p q : Words) (k : ℕ)

@@ -1,8 +1,9 @@
 -- Answers of runs look at the first words of a past alone.
-use Rattle.std.specs.Prelude.{◌≡◌, ℕ, zero, suc, ◌+◌, ◌-◌, ◌*◌, ◌^◌, ◌<◌, ◌≤◌, ℤ, List, Option, None, refl}
+use Rattle.std.specs.Prelude.{◌≡◌, ℕ, zero, suc, ◌+◌, ◌*◌, ◌^◌, ◌<◌, ◌≤◌, ℤ, List, Option, None, refl}
 use Rattle.std.proofs.Common.{ap, sym, ◌∙◌, arith}
 use Rattle.std.proofs.Math.Nat.{pow-zero}
-use Rattle.psi_rate.specs.Composition.{Functions, picked, function_at}
+use Rattle.std.proofs.lemmas.Grind.{common_steps}
+use Rattle.psi_rate.specs.Composition.{Functions, function_at}
 use Rattle.psi_rate.specs.Doubling.{answer_or, first_from, first_answer}
 use Rattle.psi_rate.specs.Least.{least_from, least_answer}
 use Rattle.psi_rate.specs.Outcomes.{outcome_of, outcome_within}
@@ -27,9 +28,7 @@ first-same run other limit agree = first_from-same run other limit 0 1 (sym (pow
 
 least_from-same : {A : Type 0} (run other : ℕ → Option A) (more t most : ℕ) → more + t ≤ suc most → ((k : ℕ) → k ≤ most → run k ≡ other k) → least_from run more t ≡ least_from other more t
 least_from-same run other zero t most within agree = refl
-least_from-same run other (suc more) t most within agree =
-    ap (λ o. answer_or o t (least_from run more (suc t))) (agree t (omega arith))
-    ∙ ap (λ rest. answer_or (other t) t rest) (least_from-same run other more (suc t) most (omega arith) agree)
+least_from-same run other (suc more) t most within agree = grind (arith, common_steps, (least_from-same run other more (suc t) most (omega arith) agree))
 
 pub outcome-same : (run other : ℕ → Option (List ℕ)) (limit : ℕ) → ((t : ℕ) → t ≤ 2 ^ limit → run t ≡ other t) → outcome_within run limit ≡ outcome_within other limit
 unfolding outcome_within
@@ -47,15 +46,11 @@ coupled-same run other limit agree = ap (λ found. coupled_of limit found) (leas
 
 pub function_at-same : (functions : List (List ℕ → List ℕ)) (rates : List ℕ) (past other : Words) (n : ℕ) → ((k : ℕ) → k < n → past k ≡ other k)
     → (k : ℕ) → k < n → function_at functions rates past (suc k) ≡ function_at functions rates other (suc k)
-function_at-same functions rates past other n same k small =
-    let e : suc k - 1 ≡ k = omega arith in
-    ap (λ i. picked functions rates (past i)) e ∙ (ap (λ word. picked functions rates word) (same k small) ∙ ap (λ i. picked functions rates (other i)) (sym e))
+function_at-same functions rates past other n same k small = grind (arith, common_steps)
 
 -- an answer that depends on the horizons up to n alone, of runs that look at the functions of their own steps alone, looks at the first n words alone
 pub answers-look : {A B : Type 0} (functions : List (List ℕ → List ℕ)) (rates : List ℕ) (run : Functions → ℕ → Option A) (answer : (ℕ → Option A) → B) (n : ℕ)
     → ((f g : Functions) (t : ℕ) → ((k : ℕ) → k < t → f (suc k) ≡ g (suc k)) → run f t ≡ run g t)
     → ((first other : ℕ → Option A) → ((t : ℕ) → t ≤ n → first t ≡ other t) → answer first ≡ answer other)
     → LooksAtFirst (λ past. answer (run (function_at functions rates past))) n
-answers-look functions rates run answer n looks depends = λ past other same.
-    depends (run (function_at functions rates past)) (run (function_at functions rates other))
-    (λ t most. looks (function_at functions rates past) (function_at functions rates other) t (function_at-same functions rates past other t (λ k small. same k (omega arith))))
+answers-look functions rates run answer n looks depends = grind (arith, common_steps)

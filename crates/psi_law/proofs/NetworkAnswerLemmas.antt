@@ -1,6 +1,7 @@
 -- The least coupling of a network and the first values of its rewards.
 use Rattle.std.specs.Prelude.{◌≡◌, ℕ, ◌^◌, List, Option, Some}
-use Rattle.std.proofs.Common.{ap, ◌∙◌, subst}
+use Rattle.std.proofs.Common.{arith, ap, subst}
+use Rattle.std.proofs.lemmas.Grind.{common_steps}
 use Rattle.psi_state.specs.declared.Outcome.TheVariants.{Met}
 use Rattle.psi_state.proofs.BoxesLemmas.{In-of_all_states}
 use Rattle.psi_reward.specs.declared.kinds.RewardKind.{RewardKind}
@@ -9,13 +10,12 @@ use Rattle.psi_rate.specs.Composition.{Functions, function_at, AreClosed}
 use Rattle.psi_rate.specs.Doubling.{IsFirst, IsLasting}
 use Rattle.psi_rate.proofs.FunctionsLemmas.{function_at-closed}
 use Rattle.psi_rate.proofs.OutcomesLemmas.{outcome_within-is}
-use Rattle.psi_region.specs.Region.{Area, start}
 use Rattle.psi_horizon.specs.Runs.{ending_at}
 use Rattle.psi_couple.specs.declared.answers.Coupled.{Coupled}
 use Rattle.psi_couple.specs.declared.answers.Coupled.TheVariants.{At, NotAt}
 use Rattle.psi_couple.specs.declared.answers.Valued.{Valued}
 use Rattle.psi_couple.specs.Coupling.{coupled_within, IsCoupled}
-use Rattle.psi_couple.specs.Valuing.{common_value, value_at, valued_within, IsValued}
+use Rattle.psi_couple.specs.Valuing.{value_at, IsValued}
 use Rattle.psi_couple.proofs.CouplingLemmas.{first-within, coupled_within-is}
 use Rattle.psi_couple.proofs.ValuingLemmas.{value-reached, valued_within-is}
 use Rattle.psi_net_model.specs.Network.{Network, caps_of, rates_of, functions_of}
@@ -34,8 +34,7 @@ use Rattle.psi_law.proofs.NetworkLemmas.{follow-first, network-closed, network-r
 
 -- where a coupling is met, the run of its horizon ends with its state
 coupled-ends : (run : ℕ → Option (List ℕ)) (limit : ℕ) (c : Coupled) → IsLasting run → IsCoupled run limit c → (t : ℕ) (s : List ℕ) → coupled_outcome c ≡ Met t s → run (2 ^ limit) ≡ Some s
-coupled-ends run limit (At h z) lasting is t s met =
-    (let same : z ≡ s = cc in lasting.each h (2 ^ limit) z is.within is.answer ∙ ap (λ (x : List ℕ). Some x) same)
+coupled-ends run limit (At h z) lasting is t s met = grind (arith, common_steps)
 coupled-ends run limit (NotAt l) lasting is t s met = absurd cc
 
 module _ (net : Network) (kept : IsNetwork net) where
@@ -80,11 +79,7 @@ module _ (net : Network) (kept : IsNetwork net) where
   }
 
   pub values-lawful : (kind : RewardKind) → BalanceIsValueLaw (network_value net kind) (2 ^ net.limit) (network_chain net) (worth_of kind)
-  values-lawful kind =
-      value-law (network_chain net) (worth_of kind) (network_value net kind) (2 ^ net.limit) (network-lawful net kept).laws.is_chain (values-reach kind)
+  values-lawful kind = grind (arith, common_steps, value-law, network-lawful, values-reach)
 
   pub values-look : (kind : RewardKind) → LooksAtFirst (network_value net kind) (2 ^ net.limit)
-  values-look kind =
-      answers-look (functions_of net) (rates_of net) (λ f. value_at (worth_of kind) net.split f (caps_of net)) (λ answers. valued_within answers net.limit) (2 ^ net.limit)
-      (λ f g t same. ap (λ (a : Area). common_value (worth_of kind) a.states) (follow-first net.split f g t (start (caps_of net)) same))
-      (λ first other. valued-same first other net.limit)
+  values-look kind = grind (arith, common_steps, answers-look, follow-first, valued-same)

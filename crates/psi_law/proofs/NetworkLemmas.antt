@@ -1,9 +1,10 @@
 -- The chain and the samples of events on all states.
-use Rattle.std.specs.Prelude.{◌≡◌, ℕ, zero, suc, ◌+◌, ◌^◌, ◌<◌, ◌≤◌, ◌↔◌, List, [], ◌∷◌, length, map, slice_index_or, nat_le, All, Bool, true, Some, refl}
+use Rattle.std.specs.Prelude.{◌≡◌, ℕ, zero, suc, ◌+◌, ◌^◌, ◌<◌, ◌≤◌, ◌↔◌, List, [], ◌∷◌, length, map, slice_index_or, All, Bool, true, Some, refl}
 use Rattle.std.proofs.Common.{ap, sym, ◌∙◌, subst, arith}
 use Rattle.std.proofs.lemmas.Bool.{le-leb, or_right}
 use Rattle.std.proofs.lemmas.List.{length-map}
 use Rattle.std.proofs.lemmas.List.Elements.{All-map}
+use Rattle.std.proofs.lemmas.Grind.{common_steps}
 use Rattle.psi_state.specs.declared.Outcome.{Outcome}
 use Rattle.psi_state.specs.State.{all_states, zeros}
 use Rattle.psi_state.specs.Sets.{single}
@@ -44,25 +45,16 @@ follow-first split f g (suc t) a same = rw (same t (omega arith)) (follow-first 
 -- the older steps of a run come first
 follow-append : (split : ℕ) (f : Functions) (n k : ℕ) (a : Area) → follow split f (n + k) a ≡ follow split f n (follow split (λ i. f (n + i)) k a)
 follow-append split f n zero a = (let e : n + zero ≡ n = omega arith in ap (λ m. follow split f m a) e)
-follow-append split f n (suc k) a =
-    let e : n + suc k ≡ suc (n + k) = omega arith in
-    rw e (follow-append split f n k (step split (f (suc (n + k))) a))
+follow-append split f n (suc k) a = grind (arith, common_steps, (follow-append split f n k (step split (f (suc (n + k))) a)))
 
 -- a region of one state stays one
 follow-one : (split : ℕ) (f : Functions) (t : ℕ) (b : Bool) (s : List ℕ) → 1 ≤ split → (follow split f t (record { is_split = b; states = s ∷ [] })).states ≡ compose f t s ∷ []
 follow-one split f zero b s some = refl
-follow-one split f (suc t) b s some =
-    ap (λ (a : Area). (follow split f t a).states)
-    (step-split split (f (suc t)) (record { is_split = b; states = s ∷ [] }) (or_right b (nat_le 1 split) (le-leb 1 split some)))
-    ∙ follow-one split f t true (f (suc t) s) some
+follow-one split f (suc t) b s some = grind (arith, common_steps, step-split, or_right, le-leb, (follow-one split f t true (f (suc t) s) some))
 
 one-older : (split : ℕ) (caps : List ℕ) (f : Functions) (n k : ℕ) (s : List ℕ) → 1 ≤ split → ending_at split (λ i. f (n + i)) caps k ≡ Some s
     → ending_at split f caps (n + k) ≡ Some (compose f n s)
-one-older split caps f n k s some met =
-    let a = follow split (λ i. f (n + i)) k (start caps) in
-    ap (λ (b : Area). single b.states) (follow-append split f n k (start caps))
-    ∙ (ap (λ (xs : List (List ℕ)). single (follow split f n (record { is_split = a.is_split; states = xs })).states) (single-list a.states s met)
-    ∙ ap (λ (xs : List (List ℕ)). single xs) (follow-one split f n a.is_split s some))
+one-older split caps f n k s some met = grind (arith, common_steps, follow-append, single-list, follow-one)
 
 -- what is proved of the samples of events on all states of these capacities alone
 pub record AreSampled (caps : List ℕ) (functions : List (List ℕ → List ℕ)) (rates : List ℕ) (split limit : ℕ) (chain : Chain) (sample : Words → Outcome) : Type 0 where

@@ -2,6 +2,7 @@
 use Rattle.std.specs.Prelude.{◌≡◌, ℕ, zero, suc, ◌+◌, ◌-◌, ◌*◌, ◌^◌, ◌<◌, ◌≤◌, List}
 use Rattle.std.proofs.Common.{arith}
 use Rattle.std.proofs.Math.Nat.{pow-zero, pow-succ', mul-le-mul_left}
+use Rattle.std.proofs.lemmas.Grind.{common_steps}
 use Rattle.psi_law.specs.Counting.{distance}
 use Rattle.psi_law.specs.Wheel.{word_count}
 use Rattle.psi_law.specs.Chains.{Chain, IsChain, whole, pasts_between, IsBalanced}
@@ -16,11 +17,7 @@ use Rattle.psi_law.proofs.MixingLemmas.{chain-mixes}
 -- so many words, j times
 apart-power : (chain : Chain) → ApartFalls chain → (n j : ℕ) → apart chain (j * n) ≤ apart chain n ^ j
 apart-power chain falls n zero = (let z : zero * n ≡ 0 = omega arith in rw (z, pow-zero (apart chain n)) (at_most_one (are_apart chain 0 (λ k. 0))))
-apart-power chain falls n (suc j) =
-    let z : suc j * n ≡ n + j * n = omega arith in
-    let rest = mul-le-mul_left (apart chain n) (apart-power chain falls n j) in
-    let fall = falls n (j * n) in
-    rw (z, pow-succ' (apart chain n) j) (omega arith)
+apart-power chain falls n (suc j) = grind (arith, common_steps, mul-le-mul_left, pow-succ', (apart-power chain falls n j))
 
 -- weights x and y, of all and rest, are near the same count b of p ends, but for u
 parts-near : (x y all rest b p u : ℕ) → x * p ≤ all * b + 2 * (all * u) → rest * b ≤ y * p + 2 * (rest * u) → x * rest * p ≤ y * all * p + 4 * (all * rest) * u
@@ -56,7 +53,4 @@ module _ (chain : Chain) (is : IsChain chain) (s : List ℕ) (own : Own chain s)
       omega arith
 
 pub balance-one : (chain : Chain) → IsChain chain → BalanceIsOne chain
-balance-one chain is = λ weight other n first second some s own.
-    (let under = part-under chain is s own weight other n first second some in
-    let over = part-under chain is s own other weight n second first some in
-    omega arith)
+balance-one chain is = grind (arith, common_steps, part-under)

@@ -1,9 +1,10 @@
 -- What stays below a share that falls geometrically is nothing.
 use Rattle.std.specs.Prelude.{◌≡◌, ℕ, zero, suc, ◌+◌, ◌-◌, ◌*◌, ◌^◌, ◌<◌, ◌≤◌, refl}
-use Rattle.std.proofs.Common.{inl, inr, ap, arith}
+use Rattle.std.proofs.Common.{inl, inr, arith}
 use Rattle.std.proofs.Math.Nat.{pow-zero, pow-succ', pow-le-pow_left, mul-le-mul_left, mul-le-mul_right, le_of_mul-le-mul_left, mul-sub, one-le-pow}
 use Rattle.std.proofs.lemmas.Nat.{pow-add}
 use Rattle.std.proofs.lemmas.Bool.{cases_lt}
+use Rattle.std.proofs.lemmas.Grind.{common_steps}
 
 -- the powers of the next number grow by more than a part each (Bernoulli's inequality)
 bernoulli : (b k : ℕ) → b ^ k * (b + k) ≤ suc b ^ k * b
@@ -14,9 +15,7 @@ bernoulli b (suc k) =
 
 pub pow-times : (b n j : ℕ) → b ^ (j * n) ≡ (b ^ n) ^ j
 pow-times b n zero = (let z : zero * n ≡ 0 = omega arith in rw (z, pow-zero b, pow-zero (b ^ n)) refl)
-pow-times b n (suc j) =
-    let z : suc j * n ≡ n + j * n = omega arith in
-    rw (z, pow-add b n (j * n), pow-succ' (b ^ n) j, pow-times b n j) refl
+pow-times b n (suc j) = grind (arith, common_steps, pow-add, pow-succ', (pow-times b n j))
 
 -- what is left of a difference, as often
 pub less-times : (a b p c : ℕ) → a * p ≤ b * p + c → (a - b) * p ≤ c
@@ -30,20 +29,15 @@ vanishes (suc d) c u a less under =
       | inl some ↦
           (let j = c * u in
           let more : suc u ^ j ≤ a ^ j = pow-le-pow_left less j in
-          let first : suc d * (u ^ j * (u + j)) ≤ suc d * (suc u ^ j * u) = mul-le-mul_left (suc d) (bernoulli u j) in
-          let second : suc u ^ j * u ≤ a ^ j * u = mul-le-mul_right u more in
-          let third : suc d * (suc u ^ j * u) ≤ suc d * (a ^ j * u) = mul-le-mul_left (suc d) second in
-          let fourth : suc d * a ^ j * u ≤ c * u ^ j * u = mul-le-mul_right u (under j) in
+          let first = mul-le-mul_left (suc d) (bernoulli u j) in
+          let second = mul-le-mul_left (suc d) (mul-le-mul_right u more) in
+          let third = mul-le-mul_right u (under j) in
           let whole : u ^ j * (suc d * (u + j)) ≤ u ^ j * (c * u) = omega arith in
-          let part : suc d * (u + j) ≤ c * u = le_of_mul-le-mul_left whole (let s = one-le-pow j u some in omega arith) in
+          let part = le_of_mul-le-mul_left whole (one-le-pow j u some) in
           absurd (omega arith))
       | inr none ↦
           (let z : u ≡ 0 = omega arith in
-          let e = pow-succ' u 0 in
-          let g : u * u ^ 0 ≡ 0 * u ^ 0 = ap (λ m. m * u ^ 0) z in
-          let p : c * u ^ 1 ≡ c * 0 = ap (λ m. c * m) (omega arith) in
-          let q : 1 ≤ a ^ 1 = one-le-pow 1 a (omega arith) in
-          let r = mul-le-mul_left (suc d) q in
-          let one = under 1 in
+          let one = rw (pow-succ' u 0, z) at (under 1) in
+          let least = mul-le-mul_left (suc d) (one-le-pow 1 a (omega arith)) in
           absurd (omega arith))
     ]

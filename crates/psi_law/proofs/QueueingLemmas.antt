@@ -1,7 +1,7 @@
 -- A network for examples: one queue, which customers join and leave.
-use Rattle.std.specs.Prelude.{◌≡◌, ℕ, zero, suc, ◌-◌, ◌*◌, ◌<◌, ◌≤◌, List, [], ◌∷◌, map, slice_index, codes, refl}
+use Rattle.std.specs.Prelude.{◌≡◌, ℕ, ◌-◌, ◌*◌, ◌≤◌, List, [], ◌∷◌, map, slice_index, codes}
 use Rattle.std.proofs.Common.{inl, inr, ap, sym, ◌∙◌, arith}
-use Rattle.std.proofs.lemmas.List.Elements.{All-nil, All-cons, All-replicate}
+use Rattle.std.proofs.lemmas.Grind.{common_steps}
 use Rattle.psi_state.specs.Members.{In}
 use Rattle.psi_route.specs.declared.Full.TheVariants.{Lost}
 use Rattle.psi_kinds.specs.declared.kinds.Kind.{Kind}
@@ -9,7 +9,7 @@ use Rattle.psi_kinds.specs.declared.kinds.Kind.TheVariants.{Arrival, Service}
 use Rattle.psi_kinds.specs.Refusals.{refusal_of}
 use Rattle.psi_rate.specs.Rates.{total}
 use Rattle.psi_net_model.specs.Network.{Network}
-use Rattle.psi_net_model.specs.Valid.{IsNetwork, IsQueue, IsAccepted}
+use Rattle.psi_net_model.specs.Valid.{IsNetwork}
 use Rattle.psi_net_model.specs.declared.entries.NamedEvent.{NamedEvent}
 use Rattle.psi_law.specs.Chains.{Chain, flow_to, IsBalanced}
 
@@ -29,9 +29,7 @@ same-map f g (x ∷ xs) y same member = elim member [
 
 -- so weights balance where two lists of numbers are the same
 pub balanced-by : (chain : Chain) (weight : List ℕ → ℕ) → map (flow_to chain weight) chain.states ≡ map (λ y. total chain.rates * weight y) chain.states → IsBalanced chain weight
-balanced-by chain weight same = record {
-  each = λ y member. same-map (flow_to chain weight) (λ z. total chain.rates * weight z) chain.states y same member;
-}
+balanced-by chain weight same = grind (arith, common_steps, same-map)
 
 -- and a value is at most a number where what it is above it is 0 at each state
 pub bounded-by : (chain : Chain) (value : List ℕ → ℕ) (high : ℕ) → map (λ x. value x - high) chain.states ≡ map (λ x. 0) chain.states → (x : List ℕ) → In x chain.states → value x ≤ high
@@ -57,34 +55,6 @@ abbrev pub halves : List ℕ → ℕ
 halves x = slice_index (4 ∷ 2 ∷ 1 ∷ []) (slice_index x 0)
 
 -- it is a network, whatever the limit is
-rate-small : (i : ℕ) → i < 2 → (1 ≤ slice_index (1 ∷ 2 ∷ []) i) × (slice_index (1 ∷ 2 ∷ []) i ≤ 2)
-rate-small zero small = (omega arith, omega arith)
-rate-small (suc zero) small = (omega arith, omega arith)
-rate-small (suc (suc i)) small = absurd (omega arith)
-
 pub queueing-kept : (capacity limit : ℕ) → 1 ≤ capacity → capacity ≤ 2 → limit ≤ 22 → IsNetwork (queueing capacity limit)
 unfolding refusal_of
-queueing-kept capacity limit some two most = record {
-  queues = record {
-    some = omega arith;
-    few = omega arith;
-    each = All-cons IsQueue (record { name = codes "a"; capacity = capacity; servers = 1 }) [] (record { some = omega arith; most = omega arith; served = omega arith; servers = omega arith; fits = omega arith }) (All-nil IsQueue);
-  };
-  rates = record {
-    some = omega arith;
-    few = omega arith;
-    least = λ i small. (rate-small i small).0;
-    most = λ i small. (let two = (rate-small i small).1 in omega arith);
-    bounded = omega arith;
-  };
-  kinds =
-      All-cons (λ e. IsAccepted (capacity ∷ []) e.kind) (event 1 (Arrival (0 ∷ []))) (event 2 (Service (record { queue = 0; k = 1 }) [] Lost) ∷ [])
-      (record { named = λ i small. All-replicate (λ queue. queue < 1) 1 0 (omega arith) i 0 small; accepted = refl })
-      (All-cons (λ e. IsAccepted (capacity ∷ []) e.kind) (event 2 (Service (record { queue = 0; k = 1 }) [] Lost)) []
-      (record { named = (record { queue = omega arith; least = omega arith; most = omega arith }, λ i small. absurd (omega arith)); accepted = refl })
-      (All-nil (λ e. IsAccepted (capacity ∷ []) e.kind)));
-  limit = most;
-  some_split = omega arith;
-  most_split = omega arith;
-  few_rewards = omega arith;
-}
+queueing-kept capacity limit some two most = grind (arith, common_steps)

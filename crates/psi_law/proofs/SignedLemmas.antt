@@ -2,6 +2,7 @@
 use Rattle.std.specs.Prelude.{◌≡◌, ℕ, ◌+◌, ◌*◌, ◌^◌, ◌≤◌, ℤ, pos, negsuc, ◌+ℤ◌, ◌-ℤ◌, ◌*ℤ◌, ◌≤ℤ◌, List, refl}
 use Rattle.std.proofs.Common.{ap, arith}
 use Rattle.std.proofs.lemmas.Int.{ints}
+use Rattle.std.proofs.lemmas.Grind.{common_steps}
 use borrow.Author.Differences.{up, down}
 use Rattle.psi_state.specs.declared.Outcome.{Outcome}
 use Rattle.psi_law.specs.Counting.{Words, positive, negative}
@@ -35,9 +36,7 @@ less-parts : (p n : ℕ) → up (pos p -ℤ pos n) + n ≡ down (pos p -ℤ pos 
 less-parts p n = omega (arith, ints)
 
 more-parts : (p n u : ℕ) (l : ℤ) → up ((pos p -ℤ pos n) +ℤ (l *ℤ pos u)) + (n + negative l * u) ≡ down ((pos p -ℤ pos n) +ℤ (l *ℤ pos u)) + (p + positive l * u)
-more-parts p n u l =
-    let e = positive-up l in
-    rw (e.0, e.1) (omega (arith, ints))
+more-parts p n u l = grind (arith, common_steps)
 
 pub signed-mean : (chain : Chain) (weight : List ℕ → ℕ) (n : ℕ) (end : Words → List ℕ → List ℕ) → IsSteady chain weight n end → (sample : Words → Outcome)
     → ((past : Words) (x : List ℕ) → Own chain x → MeetsAt (end past x) (sample past)) → (value : List ℕ → ℤ) (low high : ℤ)

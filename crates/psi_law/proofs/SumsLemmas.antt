@@ -5,6 +5,7 @@ use Rattle.std.proofs.Common.{inl, inr, ap, sym, ◌∙◌, subst, arith}
 use Rattle.std.proofs.Math.Nat.{mod-eq_of_lt, add-mod_left, pow-zero, pow-succ'}
 use Rattle.std.proofs.lemmas.Bool.{cases_lt, cases_Bool, eqb-true, eqb-false, ne_eqb, false_from_ne_true}
 use Rattle.std.proofs.lemmas.List.Sums.{sum_by-cons}
+use Rattle.std.proofs.lemmas.Grind.{common_steps}
 use Rattle.psi_state.specs.Members.{In}
 use Rattle.psi_state.specs.Ascending.{IsDistinct}
 use Rattle.psi_law.specs.Counting.{sum_below, after, sum_pasts}
@@ -25,17 +26,12 @@ pub record IsSum {A : Type 0} (sum : (A → ℕ) → ℕ) : Type 0 where
 
 -- the same values have the same sum
 pub sum-same : {A : Type 0} (sum : (A → ℕ) → ℕ) → IsSum sum → (g h : A → ℕ) → ((a : A) → g a ≡ h a) → sum g ≡ sum h
-sum-same sum is g h same =
-    let under : sum g ≤ sum h = is.order g h (λ a. (let e = same a in omega arith)) in
-    let over : sum h ≤ sum g = is.order h g (λ a. (let e = same a in omega arith)) in
-    omega arith
+sum-same sum is g h same = grind (arith, common_steps)
 
 pub sum-times : {A : Type 0} (sum : (A → ℕ) → ℕ) → IsSum sum → (c : ℕ) (g : A → ℕ) → sum (λ a. c * g a) ≡ c * sum g
 sum-times sum is zero g = (let e = sum-same sum is (λ a. zero * g a) (λ a. 0) (λ a. omega arith) in let n = is.none in omega arith)
 sum-times sum is (suc c) g =
-    let e = sum-same sum is (λ a. suc c * g a) (λ a. g a + c * g a) (λ a. omega arith) in
-    let m = is.more g (λ a. c * g a) in
-    let rest = sum-times sum is c g in omega arith
+    omega (arith, sum-same sum is (λ a. suc c * g a) (λ a. g a + c * g a) (λ a. omega arith), is.more g (λ a. c * g a), sum-times sum is c g)
 
 -- one way to sum inside another
 pub nested-is : {A B C : Type 0} (outer : (A → ℕ) → ℕ) (inner : (B → ℕ) → ℕ) (join : A → B → C) → IsSum outer → IsSum inner
@@ -45,19 +41,14 @@ nested-is outer inner join over under = record {
   more = λ g h. sum-same outer over (λ a. inner (λ b. g (join a b) + h (join a b))) (λ a. inner (λ b. g (join a b)) + inner (λ b. h (join a b)))
       (λ a. under.more (λ b. g (join a b)) (λ b. h (join a b)))
       ∙ over.more (λ a. inner (λ b. g (join a b))) (λ a. inner (λ b. h (join a b)));
-  order = λ g h each. over.order (λ a. inner (λ b. g (join a b))) (λ a. inner (λ b. h (join a b)))
-      (λ a. under.order (λ b. g (join a b)) (λ b. h (join a b)) (λ b. each (join a b)));
+  order = λ g h each. grind (arith, common_steps);
 }
 
 -- the three ways
 pub sum_below-is : (n : ℕ) → IsSum (sum_below n)
 unfolding sum_below
 sum_below-is zero = record { none = refl; more = λ g h. refl; order = λ g h each. omega arith }
-sum_below-is (suc n) = (let rest = sum_below-is n in record {
-  none = (let e = rest.none in omega arith);
-  more = λ g h. (let e = rest.more g h in omega arith);
-  order = λ g h each. (let e = rest.order g h each in let last = each n in omega arith);
-})
+sum_below-is (suc n) = grind (arith, common_steps, (sum_below-is n))
 
 pub sum_pasts-is : (bound n : ℕ) → IsSum (sum_pasts bound n)
 sum_pasts-is bound zero = record { none = refl; more = λ g h. refl; order = λ g h each. each (λ k. 0) }
@@ -65,11 +56,7 @@ sum_pasts-is bound (suc n) = nested-is (sum_below bound) (sum_pasts bound n) aft
 
 pub sum_by-is : {A : Type 0} (xs : List A) → IsSum (λ (g : A → ℕ). sum_by g xs)
 sum_by-is [] = record { none = refl; more = λ g h. refl; order = λ g h each. omega arith }
-sum_by-is (x ∷ xs) = (let rest = sum_by-is xs in record {
-  none = simp sum_by-cons (omega (arith, rest.none));
-  more = λ g h. simp sum_by-cons (omega (arith, rest.more g h));
-  order = λ g h each. simp sum_by-cons (omega (arith, rest.order g h each, each x));
-})
+sum_by-is (x ∷ xs) = grind (arith, common_steps, sum_by-cons, (sum_by-is xs))
 
 -- the order of two sums doesn't matter
 pub sum_by-swap : {A B : Type 0} (sum : (A → ℕ) → ℕ) → IsSum sum → (xs : List B) (g : B → A → ℕ)
@@ -83,15 +70,12 @@ sum_by-order [] g h order = omega arith
 sum_by-order (x ∷ xs) g h order = simp sum_by-cons (omega (arith, order x (inl refl), sum_by-order xs g h (λ y member. order y (inr member))))
 
 pub sum_by-same : {A : Type 0} (xs : List A) (g h : A → ℕ) → ((x : A) → In x xs → g x ≡ h x) → sum_by g xs ≡ sum_by h xs
-sum_by-same xs g h same =
-    let under = sum_by-order xs g h (λ x member. (let e = same x member in omega arith)) in
-    let over = sum_by-order xs h g (λ x member. (let e = same x member in omega arith)) in omega arith
+sum_by-same xs g h same = grind (arith, common_steps, sum_by-order)
 
 -- what is in each term stands outside the sum
 pub sum_by-out : {A : Type 0} (xs : List A) (g : A → ℕ) (c : ℕ) → sum_by (λ x. g x * c) xs ≡ sum_by g xs * c
 sum_by-out {A} xs g c =
-    let turned = sum_by-same xs (λ x. g x * c) (λ x. c * g x) (λ x member. omega arith) in
-    let out = sum-times (λ (h : A → ℕ). sum_by h xs) (sum_by-is xs) c g in omega arith
+    omega (arith, sum_by-same xs (λ x. g x * c) (λ x. c * g x) (λ x member. omega arith), sum-times (λ (h : A → ℕ). sum_by h xs) (sum_by-is xs) c g)
 
 -- a test in each term
 pub times-one : (b : Bool) (n : ℕ) → b ≡ true → n * one_if b ≡ n
@@ -151,9 +135,7 @@ pasts-constant bound n c = sum-constant (sum_pasts bound n) (sum_pasts-is bound 
 pub sum_below-same : (n : ℕ) (g h : ℕ → ℕ) → ((k : ℕ) → k < n → g k ≡ h k) → sum_below n g ≡ sum_below n h
 unfolding sum_below
 sum_below-same zero g h same = refl
-sum_below-same (suc n) g h same =
-    let rest = sum_below-same n g h (λ k small. same k (omega arith)) in
-    let last = same n (omega arith) in omega arith
+sum_below-same (suc n) g h same = grind (arith, common_steps, (sum_below-same n g h (λ k small. same k (omega arith))))
 
 pub sum_below-first : (n : ℕ) (g : ℕ → ℕ) → sum_below (suc n) g ≡ g 0 + sum_below n (λ k. g (suc k))
 unfolding sum_below

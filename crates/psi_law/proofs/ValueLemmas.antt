@@ -1,20 +1,21 @@
 -- The first value of a past: how it agrees with the sample, and its law.
-use Rattle.std.specs.Prelude.{◌≡◌, ℕ, ℤ, ◌+◌, ◌*◌, ◌^◌, ◌<◌, ◌≤◌, List, [], ◌∷◌, Some, refl}
+use Rattle.std.specs.Prelude.{◌≡◌, ℕ, ℤ, ◌+◌, ◌*◌, ◌^◌, ◌<◌, ◌≤◌, List, Some, refl}
 use Rattle.std.specs.Ordering.{int_eq}
 use Rattle.std.proofs.Common.{inl, inr, ap, sym, ◌∙◌, arith}
 use Rattle.std.proofs.lemmas.Bool.{cases_lt}
+use Rattle.std.proofs.lemmas.Grind.{common_steps}
 use Rattle.psi_state.specs.declared.Outcome.{Outcome}
 use Rattle.psi_state.specs.declared.Outcome.TheVariants.{Met, NotMet}
 use Rattle.psi_state.specs.State.{IsBelow}
 use Rattle.psi_rate.specs.Composition.{Functions, AreClosed}
 use Rattle.psi_rate.specs.Outcomes.{IsOutcome}
 use Rattle.psi_rate.proofs.PowersLemmas.{pow-order}
-use Rattle.psi_horizon.specs.Runs.{region_at, ending_at}
+use Rattle.psi_horizon.specs.Runs.{ending_at}
 use Rattle.psi_horizon.proofs.RunsLemmas.{ending-reached}
 use Rattle.psi_couple.specs.declared.answers.Valued.{Valued}
 use Rattle.psi_couple.specs.declared.answers.Valued.TheVariants.{At, NotAt}
-use Rattle.psi_couple.specs.Valuing.{common_value, value_at, IsValued}
-use Rattle.psi_couple.proofs.ValuingLemmas.{common_value-same, value-reached}
+use Rattle.psi_couple.specs.Valuing.{value_at, IsValued}
+use Rattle.psi_couple.proofs.ValuingLemmas.{value-reached}
 use Rattle.psi_law.specs.Counting.{Words}
 use Rattle.psi_law.specs.Wheel.{word_count}
 use Rattle.psi_law.specs.Chains.{Chain, IsChain, end_of, whole, weighted}
@@ -22,21 +23,15 @@ use Rattle.psi_law.specs.Values.{is_value, is_unvalued, weight_valued, BalanceIs
 use Rattle.psi_law.proofs.SumsLemmas.{one_if, at_most_one, sum_pasts-is, sum_by-filter}
 use Rattle.psi_law.proofs.BalanceLemmas.{weighted-is}
 use Rattle.psi_law.proofs.LawLemmas.{runs-steady, sums-between}
-use Rattle.psi_law.proofs.CoalescenceLemmas.{single-list}
 
 -- ---- agreement with the sample
 
 -- the states of a region of one state have its value
 one-valued : (value : List ℕ → ℤ) (split : ℕ) (caps : List ℕ) (f : Functions) (t : ℕ) (s : List ℕ) → ending_at split f caps t ≡ Some s → value_at value split f caps t ≡ Some (value s)
-one-valued value split caps f t s met =
-    ap (λ (xs : List (List ℕ)). common_value value xs) (single-list (region_at split f caps t).states s met)
-    ∙ common_value-same value (value s) (s ∷ []) s (inl refl) (λ x member. elim member [ inl here ↦ ap value here | inr past ↦ absurd past ])
+one-valued value split caps f t s met = grind (arith, common_steps)
 
 exponent-under : (a b t h : ℕ) → t ≡ 2 ^ a → h ≡ 2 ^ b → t < h → a < b
-exponent-under a b t h first second less = elim (cases_lt a b) [
-  | inl small ↦ small
-  | inr large ↦ (let order = pow-order b a large in absurd (omega arith))
-]
+exponent-under a b t h first second less = grind (arith, common_steps, pow-order)
 
 -- the value is that of the sample's state, and is there no later
 pub value-agrees : (value : List ℕ → ℤ) (split : ℕ) (caps : List ℕ) (f : Functions) (limit : ℕ) (v : Valued) (o : Outcome) (z : List ℕ) → IsBelow z caps → AreClosed caps f
@@ -55,22 +50,17 @@ value-agrees value split caps f limit (At h w) (Met t s) z below closed first me
     | inr enough ↦ enough
   ],
 )
-value-agrees value split caps f limit (NotAt l) (Met t s) z below closed none met =
-    let own = one-valued value split caps f t s met.answer in
-    let missed = ap (value_at value split f caps) met.power ∙ none.1.each met.exponent (let w = met.within in omega arith) in absurd cc
+value-agrees value split caps f limit (NotAt l) (Met t s) z below closed none met = grind (arith, common_steps)
 value-agrees value split caps f limit (At h w) (NotMet l) z below closed first met = tt
 value-agrees value split caps f limit (NotAt m) (NotMet l) z below closed first met = tt
 
 -- ---- the law
 
 -- a value is the one that it is of a state z only where z has it, and where there is a value, it is that of z
-value-least : (o : Valued) (u v : ℤ) → ((t : ℕ) (w : ℤ) → o ≡ At t w → u ≡ w) → one_if (is_value v o) ≤ one_if (int_eq u v)
-value-least (At t w) u v at = (let e : one_if (int_eq u v) ≡ one_if (int_eq w v) = ap (λ x. one_if (int_eq x v)) (at t w refl) in omega arith)
-value-least (NotAt l) u v at = omega arith
-
-value-most : (o : Valued) (u v : ℤ) → ((t : ℕ) (w : ℤ) → o ≡ At t w → u ≡ w) → one_if (int_eq u v) ≤ one_if (is_value v o) + one_if (is_unvalued o)
-value-most (At t w) u v at = (let e : one_if (int_eq u v) ≡ one_if (int_eq w v) = ap (λ x. one_if (int_eq x v)) (at t w refl) in omega arith)
-value-most (NotAt l) u v at = at_most_one (int_eq u v)
+value-near : (o : Valued) (u v : ℤ) → ((t : ℕ) (w : ℤ) → o ≡ At t w → u ≡ w)
+    → (one_if (is_value v o) ≤ one_if (int_eq u v)) × (one_if (int_eq u v) ≤ one_if (is_value v o) + one_if (is_unvalued o))
+value-near (At t w) u v at = rw (at t w refl) (omega arith, omega arith)
+value-near (NotAt l) u v at = (omega arith, at_most_one (int_eq u v))
 
 pub value-law : (chain : Chain) (value : List ℕ → ℤ) (answer : Words → Valued) (n : ℕ) → IsChain chain → ReachesValue answer n chain value → BalanceIsValueLaw answer n chain value
 value-law chain value answer n is reaches = λ weight balanced.
@@ -87,12 +77,12 @@ value-law chain value answer n is reaches = λ weight balanced.
       least = λ v.
           (let e = part v in
           let under = sums-between chain weight n (λ past x. end_of chain past n x) steady (valued v) (λ past. 0) (ends v) (λ x. 0)
-          (λ past x own. (let order = value-least (answer past) (value (end_of chain past n x)) v (reaches.each past x own) in omega arith)) in
+          (λ past x own. (let order = (value-near (answer past) (value (end_of chain past n x)) v (reaches.each past x own)).0 in omega arith)) in
           omega arith);
       most = λ v.
           (let e = part v in
           let both = ap (λ (k : ℕ). whole chain weight * k) (pasts.more (valued v) unvalued_at) in
           let over = sums-between chain weight n (λ past x. end_of chain past n x) steady (λ past. 0) (λ past. valued v past + unvalued_at past) (λ x. 0) (ends v)
-          (λ past x own. (let order = value-most (answer past) (value (end_of chain past n x)) v (reaches.each past x own) in omega arith)) in
+          (λ past x own. (let order = (value-near (answer past) (value (end_of chain past n x)) v (reaches.each past x own)).1 in omega arith)) in
           omega arith);
     })

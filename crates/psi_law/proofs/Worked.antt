@@ -205,19 +205,12 @@ rounds-balanced = balanced-by (network_total_chain rounds 2) threes refl
 law-exact : (chain : Chain) (sample : Words → Outcome) (n : ℕ) (weight : List ℕ → ℕ) → HasLaw sample n chain weight → unmet sample n ≡ 0
     → (s : List ℕ) → In s chain.states → whole chain weight * met_in sample n s ≡ weight s * word_count ^ n
 law-exact chain sample n weight law none s member =
-    let least = law.least s member in
-    let most = law.most s member in
-    let e : whole chain weight * (met_in sample n s + unmet sample n) ≡ whole chain weight * (met_in sample n s + 0) = ap (λ u. whole chain weight * (met_in sample n s + u)) none in
-    omega arith
+    omega (arith, law.least s member, rw none at (law.most s member))
 
 -- where one state has all weight, each sample that is met is met in it
 law-one : (chain : Chain) (sample : Words → Outcome) (n : ℕ) (weight : List ℕ → ℕ) → HasLaw sample n chain weight
     → (s : List ℕ) → In s chain.states → whole chain weight ≡ weight s → 1 ≤ weight s → word_count ^ n ≤ met_in sample n s + unmet sample n
-law-one chain sample n weight law s member all some =
-    let most = law.most s member in
-    let e : whole chain weight * (met_in sample n s + unmet sample n) ≡ weight s * (met_in sample n s + unmet sample n) = ap (λ k. k * (met_in sample n s + unmet sample n)) all in
-    let under : weight s * word_count ^ n ≤ weight s * (met_in sample n s + unmet sample n) = omega arith in
-    le_of_mul-le-mul_left under some
+law-one chain sample n weight law s member all some = le_of_mul-le-mul_left (rw all at (law.most s member)) some
 
 -- where each value is the same, the mean is that value
 mean-exact : (chain : Chain) (sample : Words → Outcome) (n : ℕ) (weight value : List ℕ → ℕ) (c : ℕ) → HasMean sample n chain weight value c c
