@@ -1,7 +1,7 @@
 -- Claims that are won by bets are seldom false.
 use Rattle.std.specs.Prelude.{◌≡◌, ℕ, ◌+◌, ◌-◌, ◌*◌, ◌^◌, ◌<◌, ◌≤◌, List, [], ◌∷◌, length, map, Bool, true, nat_le, refl}
 use Rattle.std.specs.List.{sum_by}
-use Rattle.std.proofs.Common.{inl, inr, ap, sym, ◌∙◌, subst, arith}
+use Rattle.std.proofs.Common.{inl, inr, ap, ◌∙◌, subst, arith}
 use Rattle.std.proofs.Math.Nat.{pow-le-pow_left, mul-le-mul, mul-le-mul_left, le_of_mul-le-mul_left, one-le-pow, one-le-mul, le_trans, le_of_eq}
 use Rattle.std.proofs.lemmas.Nat.{mul-pow}
 use Rattle.std.proofs.lemmas.Bool.{cases_Bool, cases_lt, lt-ltb, leb-true, le-leb, both_ways}
@@ -44,9 +44,7 @@ fair-of all t q c s a w sum fair mean =
     omega arith
 
 rare-of : (c d j p w wp : ℕ) → 1 ≤ j → 1 ≤ p → wp ≡ p * w → d * (j * p) * c ≤ j * wp → c * d ≤ 1 * w
-rare-of c d j p w wp first last e few =
-    (let under = rw e at few in
-    let both : j * p * (c * d) ≤ j * p * (1 * w) = omega arith in le_of_mul-le-mul_left both (one-le-mul first last))
+rare-of c d j p w wp first last e few = le_of_mul-le-mul_left (omega (arith, rw e at few)) (one-le-mul first last)
 
 -- a score whose mean is at most c of q, and stakes
 module _ (n : ℕ) (s : Score) (t q c : ℕ) (mean : q * sum_pasts word_count n s.score ≤ c * word_count ^ n) (stakes : List ℕ) where
@@ -72,16 +70,10 @@ module _ (n : ℕ) (s : Score) (t q c : ℕ) (mean : q * sum_pasts word_count n 
   lists-pay : (k stake : ℕ) → sum_lists word_count n k (λ pasts. one_if (payable stake) * product (pays stake) pasts) ≤ (t * q * word_count ^ n) ^ k
   unfolding payable
   lists-pay k stake =
-      let out = sum-times (sum_lists word_count n k) (sum_lists-is word_count n k) (one_if (payable stake)) (product (pays stake)) in
-      let all = sum_lists word_count n k (product (pays stake)) in
-      let same = lists-product word_count n k (pays stake) in
-      subst (λ m. m ≤ (t * q * word_count ^ n) ^ k) (sym out)
+      rw (sum-times (sum_lists word_count n k) (sum_lists-is word_count n k) (one_if (payable stake)) (product (pays stake)))
       (elim (cases_Bool (payable stake)) [
-        | inl so ↦
-            (let fair = leb-true (stake * c) (t * q) so in
-            let power = pow-le-pow_left (pays-fair stake fair) k in
-            rw so (omega arith))
-        | inr not_so ↦ (let none : one_if (payable stake) * all ≡ 0 * all = ap (λ (b : Bool). one_if b * all) not_so in omega arith)
+        | inl so ↦ rw so (omega (arith, lists-product word_count n k (pays stake), pow-le-pow_left (pays-fair stake (leb-true (stake * c) (t * q) so)) k))
+        | inr not_so ↦ rw not_so (omega arith)
       ])
 
   -- what all stakes that can be paid come to on a list of pasts

@@ -1,7 +1,7 @@
 -- Totals of scores of 0 and 1 are binomial counts.
 use Rattle.std.specs.Prelude.{◌≡◌, ℕ, zero, suc, ◌+◌, ◌-◌, ◌*◌, ◌^◌, ◌≤◌, ◌∷◌, nat_le, refl}
 use Rattle.std.specs.List.{sum_by}
-use Rattle.std.proofs.Common.{ap, sym, ◌∙◌, subst, arith}
+use Rattle.std.proofs.Common.{ap, sym, ◌∙◌, arith}
 use Rattle.std.proofs.Math.Nat.{pow-zero, pow-suc, mul-le-mul_left, mul-le-mul_right}
 use Rattle.std.proofs.lemmas.Bool.{leb-true, le-leb, lt-leb}
 use Rattle.std.proofs.lemmas.List.Sums.{sum_by-cons}
@@ -16,14 +16,11 @@ use Rattle.psi_law_many.proofs.ScoreLemmas.{IsScore, parts-sum}
 
 -- ---- the binomial distribution
 
-all-of : (u v c p q : ℕ) → c ≡ p → q ≡ p * (u + v) → (u + v) * c ≡ q
-all-of u v c p q e f = (let g : (u + v) * c ≡ (u + v) * p = ap (λ m. (u + v) * m) e in omega arith)
-
 -- all cases have 0 or more
 pub cases-all : (u v k : ℕ) → cases_from u v k 0 ≡ (u + v) ^ k
 unfolding cases_from
 cases-all u v zero = sym (pow-zero (u + v))
-cases-all u v (suc k) = all-of u v (cases_from u v k 0) ((u + v) ^ k) ((u + v) ^ suc k) (cases-all u v k) (pow-suc (u + v) k)
+cases-all u v (suc k) = rw (cases-all u v k, pow-suc (u + v) k) (omega arith)
 
 pub cases-next : (u v k i : ℕ) → cases_from u v (suc k) (suc i) ≡ u * cases_from u v k i + v * cases_from u v k (suc i)
 unfolding cases_from
@@ -42,32 +39,19 @@ moved-gap : (u v r o y g : ℕ) → u * (r + o) * g ≤ r * (u + v) * g → u * 
 moved-gap u v r o y g less = omega arith
 
 moved-share : (u v r o x y : ℕ) → u * (r + o) ≤ r * (u + v) → y ≤ x → u * (r + o) * x + v * (r + o) * y ≤ r * (u + v) * x + o * (u + v) * y
-moved-share u v r o x y less order =
-    let e : x ≡ y + (x - y) = omega arith in
-    let times = mul-le-mul_right (x - y) less in
-    subst (λ n. u * (r + o) * n + v * (r + o) * y ≤ r * (u + v) * n + o * (u + v) * y) (sym e) (moved-gap u v r o y (x - y) times)
-
-more-last : (u v r o a b x y p s : ℕ) → u * (r + o) * (a * p) ≤ u * (r + o) * (s * x) → v * (r + o) * (b * p) ≤ v * (r + o) * (s * y)
-    → s * (u * (r + o) * x + v * (r + o) * y) ≤ s * (r * (u + v) * x + o * (u + v) * y)
-    → (u * a + v * b) * (p * (r + o)) ≤ s * (u + v) * (r * x + o * y)
-more-last u v r o a b x y p s one two three = omega arith
+moved-share u v r o x y less order = (let e : x ≡ y + (x - y) = omega arith in rw e (moved-gap u v r o y (x - y) (mul-le-mul_right (x - y) less)))
 
 more-of : (u v r o a b x y p s pn sn : ℕ) → pn ≡ p * (r + o) → sn ≡ s * (u + v) → u * (r + o) ≤ r * (u + v) → y ≤ x → a * p ≤ s * x → b * p ≤ s * y
     → (u * a + v * b) * pn ≤ sn * (r * x + o * y)
 more-of u v r o a b x y p s pn sn e f less order one two =
-    subst (λ n. (u * a + v * b) * n ≤ sn * (r * x + o * y)) (sym e)
-    (subst (λ n. (u * a + v * b) * (p * (r + o)) ≤ n * (r * x + o * y)) (sym f)
-    (more-last u v r o a b x y p s (mul-le-mul_left (u * (r + o)) one) (mul-le-mul_left (v * (r + o)) two) (mul-le-mul_left s (moved-share u v r o x y less order))))
-
-more-all : (c d s q : ℕ) → c ≡ s → d ≡ q → c * q ≤ s * d
-more-all c d s q e f = (let g : c * q ≡ s * q = ap (λ m. m * q) e in let h : s * d ≡ s * q = ap (λ m. s * m) f in omega arith)
+    rw (e, f) (omega (arith, mul-le-mul_left (u * (r + o)) one, mul-le-mul_left (v * (r + o)) two, mul-le-mul_left s (moved-share u v r o x y less order)))
 
 -- a greater share of ones has a greater share of cases with i or more
 pub cases-more : (u v r o k i : ℕ) → u * (r + o) ≤ r * (u + v) → cases_from u v k i * (r + o) ^ k ≤ (u + v) ^ k * cases_from r o k i
 unfolding cases_from
 cases-more u v r o zero zero less = (let e = pow-zero (r + o) in let f = pow-zero (u + v) in omega arith)
 cases-more u v r o zero (suc i) less = omega arith
-cases-more u v r o (suc k) zero less = more-all (cases_from u v (suc k) 0) (cases_from r o (suc k) 0) ((u + v) ^ suc k) ((r + o) ^ suc k) (cases-all u v (suc k)) (cases-all r o (suc k))
+cases-more u v r o (suc k) zero less = rw (cases-all u v (suc k), cases-all r o (suc k)) (omega arith)
 cases-more u v r o (suc k) (suc i) less =
     more-of u v r o (cases_from u v k i) (cases_from u v k (suc i)) (cases_from r o k i) (cases_from r o k (suc i)) ((r + o) ^ k) ((u + v) ^ k) ((r + o) ^ suc k) ((u + v) ^ suc k)
     (pow-suc (r + o) k) (pow-suc (u + v) k) less (cases-order r o k i) (cases-more u v r o k i less) (cases-more u v r o k (suc i) less)
@@ -115,9 +99,6 @@ module _ (n : ℕ) (s : Score) (is : IsScore n s) (one : s.top ≡ 1) where
       (λ pasts so passed. (let sum = sum_by-cons s.score past pasts in let reached = leb-true (suc i) (sum_by s.score (past ∷ pasts)) passed in
       le-leb i (sum_by s.score pasts) (omega arith))))
 
-  next-of : (all c d x y u v more : ℕ) → all ≤ more → more ≡ c * u + d * v → c ≤ x → d ≤ y → all ≤ u * x + v * y
-  next-of all c d x y u v more order sum first last = (let one = mul-le-mul_left u first in let two = mul-le-mul_left v last in omega arith)
-
   -- a total of i or more is had by the cases of as many draws
   lists-cases : (k i : ℕ) → at_least n k s i ≤ cases_from ones nones k i
   unfolding ones nones
@@ -125,31 +106,19 @@ module _ (n : ℕ) (s : Score) (is : IsScore n s) (one : s.top ≡ 1) where
   lists-cases zero (suc i) = (let none : at_least n zero s (suc i) ≡ 0 = ap one_if (lt-leb (suc i) 0 (omega arith)) in omega arith)
   lists-cases (suc k) (suc i) =
       let way = sum_pasts-is word_count n in
-      let sum = sum_pasts word_count n in
       let c = at_least n k s i in
       let d = at_least n k s (suc i) in
       let order = way.order (λ past. sum_lists word_count n k (λ pasts. one_if (nat_le (suc i) (sum_by s.score (past ∷ pasts))))) (λ past. c * s.score past + d * (1 - s.score past))
       (λ past. with-one past k i) in
       let more = way.more (λ past. c * s.score past) (λ past. d * (1 - s.score past)) in
-      let first = sum-times sum way c s.score in
-      let last = sum-times sum way d (λ past. 1 - s.score past) in
-      subst (λ m. at_least n (suc k) s (suc i) ≤ m) (sym (cases-next ones nones k i))
-      (next-of (at_least n (suc k) s (suc i)) c d (cases_from ones nones k i) (cases_from ones nones k (suc i)) ones nones
-      (sum (λ past. c * s.score past + d * (1 - s.score past))) order
-      (more ∙ (ap (λ m. m + sum (λ past. d * (1 - s.score past))) first ∙ ap (λ m. c * sum s.score + m) last)) (lists-cases k i) (lists-cases k (suc i)))
-
-  fewer : (m o p e s w : ℕ) → s * m ≤ p * w → m + o ≡ w → p + e ≡ s → m * (p + e) ≤ p * (m + o)
-  fewer m o p e s w mean all whole = (let one : m * (p + e) ≡ m * s = ap (λ x. m * x) whole in let two : p * (m + o) ≡ p * w = ap (λ x. p * x) all in omega arith)
+      let first = sum-times (sum_pasts word_count n) way c s.score in
+      let last = sum-times (sum_pasts word_count n) way d (λ past. 1 - s.score past) in
+      rw (cases-next ones nones k i) (omega (arith, mul-le-mul_left ones (lists-cases k i), mul-le-mul_left nones (lists-cases k (suc i))))
 
   pub binomial-tail : (k i : ℕ) → at_least n k s i * s.whole ^ k ≤ cases_from s.part (s.whole - s.part) k i * word_count ^ (n * k)
   unfolding ones
   binomial-tail k i =
-      let share = rw one at is.share in
       let rest = s.whole - s.part in
-      let whole : s.part + rest ≡ s.whole = omega arith in
-      let more = cases-more ones nones s.part rest k i (fewer ones nones s.part rest s.whole (word_count ^ n) is.mean ones-nones whole) in
-      let cases : cases_from ones nones k i * s.whole ^ k ≤ (word_count ^ n) ^ k * cases_from s.part rest k i
-      = subst (λ m. cases_from ones nones k i * m ^ k ≤ (word_count ^ n) ^ k * cases_from s.part rest k i) whole
-      (subst (λ m. cases_from ones nones k i * (s.part + rest) ^ k ≤ m ^ k * cases_from s.part rest k i) ones-nones more) in
-      let lists = mul-le-mul_right (s.whole ^ k) (lists-cases k i) in
-      subst (λ m. at_least n k s i * s.whole ^ k ≤ cases_from s.part rest k i * m) (lists-power word_count n k) (omega arith)
+      let whole : s.part + rest ≡ s.whole = (let share = rw one at is.share in omega arith) in
+      let more = rw (ones-nones, whole, lists-power word_count n k) at (cases-more ones nones s.part rest k i (rw (whole, ones-nones) (omega (arith, is.mean)))) in
+      omega (arith, more, mul-le-mul_right (s.whole ^ k) (lists-cases k i))

@@ -121,9 +121,7 @@ module _ {X Y : Type 0} {outer : (X → ℕ) → ℕ} {own : X → Type 0} {numb
     mean = both-mean;
     top = (let first = one.top in let last = two.top in omega arith);
     whole = ap (λ m. m * v.whole) one.whole ∙ ap (λ m. s.whole * m) two.whole;
-    parts = ap (λ m. s.part * u.whole + u.part * s.whole + (t.part * m + v.part * t.whole)) two.whole
-        ∙ (ap (λ m. s.part * u.whole + u.part * s.whole + (t.part * u.whole + v.part * m)) one.whole
-        ∙ added-parts s.part t.part s.whole s.top u.part v.part u.whole u.top one.parts two.parts);
+    parts = rw (two.whole, one.whole) (added-parts s.part t.part s.whole s.top u.part v.part u.whole u.top one.parts two.parts);
   }
 
 -- ---- how far values are above low, and how far below high

@@ -1,7 +1,7 @@
 -- Chebyshev's inequality, by counting: few lists of pasts have bounds whose sums are far from the mean of numbers between them.
 use Rattle.std.specs.Prelude.{◌≡◌, ℕ, zero, suc, ◌+◌, ◌*◌, ◌^◌, ◌≤◌, List, [], ◌∷◌, nat_le}
 use Rattle.std.specs.List.{sum_by}
-use Rattle.std.proofs.Common.{ap, sym, ◌∙◌, subst, arith}
+use Rattle.std.proofs.Common.{ap, ◌∙◌, arith}
 use Rattle.std.proofs.Math.Nat.{pow-zero, pow-succ', mul-le-mul_left, le_of_mul-le-mul_left, one-le-pow, le_trans}
 use Rattle.std.proofs.lemmas.Nat.{mul-pow}
 use Rattle.std.proofs.lemmas.Bool.{leb-true}
@@ -17,10 +17,7 @@ use Rattle.psi_law_many.proofs.ListsLemmas.{sum_lists-is, lists-power, constant-
 
 -- b lists whose squares d come to at most x over draws of r states, of q draws in all
 squares-few : (b d q x r g k w : ℕ) → 1 ≤ r → r * (d * b) ≤ x → q * x ≡ k * g * (r * w) → b * (d * q) ≤ k * g * w
-squares-few b d q x r g k w some under all =
-    let times = mul-le-mul_left q under in
-    let both : r * (b * (d * q)) ≤ r * (k * g * w) = omega arith in
-    le_of_mul-le-mul_left both some
+squares-few b d q x r g k w some under all = le_of_mul-le-mul_left (omega (arith, mul-le-mul_left q under, all)) some
 
 -- the square g of one number x, up to z, less a mean v; and n squares of which the mean is v
 gap-under-range : (x z v g : ℕ) → x ≤ z → g + 2 * (x * v) ≡ x * x + v * v → g + 2 * v * x ≤ z * x + v * v
@@ -89,14 +86,10 @@ module _ {X : Type 0} (outer : (X → ℕ) → ℕ) (is : IsSum outer) (own : X 
     -- lists that are far off have large squares
     off-under : (v k d : ℕ) → outer (λ x. 1) ^ k * (square d * count_lists word_count n k (λ pasts. nat_le d (off v k pasts))) ≤ draws draw k (λ t. gap t (k * v))
     off-under v k d =
-        let s = outer (λ x. 1) in
         let out = sum-times (sum_lists word_count n k) (sum_lists-is word_count n k) (square d) (λ pasts. one_if (nat_le d (off v k pasts))) in
-        subst (λ m. s ^ k * m ≤ draws draw k (λ t. gap t (k * v))) out
-        (lists-under k (λ pasts. square d * one_if (nat_le d (off v k pasts))) (λ t. gap t (k * v))
+        rw out at (lists-under k (λ pasts. square d * one_if (nat_le d (off v k pasts))) (λ t. gap t (k * v))
         (λ pasts t below above. constant-if (square d) (gap t (k * v)) (nat_le d (off v k pasts))
-        (λ so.
-        (let more = outside-order (c * sum_by low pasts) (c * sum_by high pasts) (k * v) t below above in
-        subst (λ m. square d ≤ m) (sym (gap-is t (k * v))) (square-order (le_trans (leb-true d (off v k pasts) so) more))))))
+        (λ so. rw (gap-is t (k * v)) (square-order (le_trans (leb-true d (off v k pasts) so) (outside-order (c * sum_by low pasts) (c * sum_by high pasts) (k * v) t below above))))))
 
     pub off-few : (v : ℕ) → draw (λ m. m) ≡ draw (λ m. 1) * v → 1 ≤ outer (λ x. 1) → (k d : ℕ)
         → count_lists word_count n k (λ pasts. nat_le d (off v k pasts)) * (square d * draw (λ m. 1)) ≤ k * draw (λ m. gap m v) * word_count ^ (n * k)

@@ -1,7 +1,7 @@
 -- Large totals are rare, by the exponential inequality (Chernoff 1952).
 use Rattle.std.specs.Prelude.{◌≡◌, ℕ, ◌+◌, ◌-◌, ◌*◌, ◌^◌, ◌≤◌, List, [], ◌∷◌, length, true, nat_le}
 use Rattle.std.specs.List.{sum_by}
-use Rattle.std.proofs.Common.{ap, sym, ◌∙◌, subst, arith}
+use Rattle.std.proofs.Common.{ap, sym, ◌∙◌, arith}
 use Rattle.std.proofs.Math.Nat.{pow-zero, pow-le-pow_left, mul-le-mul_left, mul-le-mul_right}
 use Rattle.std.proofs.lemmas.Nat.{mul-pow, pow-add}
 use Rattle.std.proofs.lemmas.Bool.{leb-true}
@@ -14,10 +14,6 @@ use Rattle.psi_law_many.specs.Tails.{at_least}
 use Rattle.psi_law_many.proofs.ListsLemmas.{lists-power, product, lists-product, markov}
 use Rattle.psi_law_many.proofs.ScoreLemmas.{IsScore, parts-sum}
 use Rattle.psi_law_many.proofs.PowerLemmas.{convex, more-factors}
-
-product-of : (x y r u d p q : ℕ) → r ≡ u * d → p ≡ x * u → q ≡ y * d → x * y * r ≡ p * q
-product-of x y r u d p q rest up down =
-    rw (rest, up, down) (omega arith)
 
 -- x and y are the sums over the pasts of the score and of what is left to the top z; a power of a is g above that of b
 mean-line : (all x y z w s p e b g : ℕ) → z * all ≤ (b + g) * x + b * y → x + y ≡ z * w → s * x ≤ p * w → s * z ≡ p + e
@@ -33,8 +29,7 @@ mean-lines : (all x y z w s p a b : ℕ) → b ≤ a → p ≤ s * z → z * all
     → all * (s * z) ≤ (p * a + (s * z - p) * b) * w
 mean-lines all x y z w s p a b order share line parts mean =
     let e : a ≡ b + (a - b) = omega arith in
-    subst (λ m. all * (s * z) ≤ (p * m + (s * z - p) * b) * w) (sym e)
-    (mean-line all x y z w s p (s * z - p) b (a - b) (subst (λ m. z * all ≤ m * x + b * y) e line) parts mean (omega arith))
+    rw e (mean-line all x y z w s p (s * z - p) b (a - b) (rw e at line) parts mean (omega arith))
 
 last-of : (c f p all r : ℕ) → f * c ≤ all → all * p ≤ r → c * f * p ≤ r
 last-of c f p all r few powers = (let times = mul-le-mul_right p few in omega arith)
@@ -81,21 +76,13 @@ module _ (n : ℕ) (s : Score) (is : IsScore n s) (a b : ℕ) (order : b ≤ a) 
   product-is : (pasts : List Words) → product tilt pasts ≡ a ^ sum_by s.score pasts * b ^ sum_by rest pasts
   unfolding product tilt
   product-is [] = (let p = pow-zero a in let q = pow-zero b in let e : a ^ 0 * b ^ 0 ≡ 1 * b ^ 0 = ap (λ m. m * b ^ 0) p in omega arith)
-  product-is (past ∷ pasts) =
-      let up : a ^ sum_by s.score (past ∷ pasts) ≡ a ^ s.score past * a ^ sum_by s.score pasts
-      = ap (λ m. a ^ m) (sum_by-cons s.score past pasts) ∙ pow-add a (s.score past) (sum_by s.score pasts) in
-      let down : b ^ sum_by rest (past ∷ pasts) ≡ b ^ rest past * b ^ sum_by rest pasts
-      = ap (λ m. b ^ m) (sum_by-cons rest past pasts) ∙ pow-add b (rest past) (sum_by rest pasts) in
-      product-of (a ^ s.score past) (b ^ rest past) (product tilt pasts) (a ^ sum_by s.score pasts) (b ^ sum_by rest pasts)
-      (a ^ sum_by s.score (past ∷ pasts)) (b ^ sum_by rest (past ∷ pasts)) (product-is pasts) up down
+  product-is (past ∷ pasts) = simp (sum_by-cons, pow-add, product-is pasts) (omega arith)
 
   -- lists with a large total have a large product
   large-product : (k i j : ℕ) → i + j ≡ k * s.top → (pasts : List Words) → length pasts ≡ k → nat_le i (sum_by s.score pasts) ≡ true → a ^ i * b ^ j ≤ product tilt pasts
   large-product k i j whole pasts so reached =
-      let all = rests-are pasts in
-      let e : length pasts * s.top ≡ k * s.top = ap (λ m. m * s.top) so in
-      subst (λ m. a ^ i * b ^ j ≤ m) (sym (product-is pasts))
-      (more-factors a b i j (sum_by s.score pasts) (sum_by rest pasts) order (leb-true i (sum_by s.score pasts) reached) (whole ∙ sym (all ∙ e)))
+      rw (product-is pasts)
+      (more-factors a b i j (sum_by s.score pasts) (sum_by rest pasts) order (leb-true i (sum_by s.score pasts) reached) (whole ∙ sym (rests-are pasts ∙ ap (λ m. m * s.top) so)))
 
   pub exponential-tail : (k i j : ℕ) → i + j ≡ k * s.top
       → at_least n k s i * (a ^ i * b ^ j) * (s.whole * s.top) ^ k ≤ (s.part * a ^ s.top + (s.whole * s.top - s.part) * b ^ s.top) ^ k * word_count ^ (n * k)
@@ -103,11 +90,6 @@ module _ (n : ℕ) (s : Score) (is : IsScore n s) (a b : ℕ) (order : b ≤ a) 
       let all = sum_pasts word_count n tilt in
       let p = s.whole * s.top in
       let g = s.part * a ^ s.top + (s.whole * s.top - s.part) * b ^ s.top in
-      let w = word_count ^ n in
-      let few : a ^ i * b ^ j * at_least n k s i ≤ all ^ k
-      = subst (λ m. a ^ i * b ^ j * at_least n k s i ≤ m) (lists-product word_count n k tilt)
-      (markov word_count n k (a ^ i * b ^ j) (λ pasts. nat_le i (sum_by s.score pasts)) (product tilt) (large-product k i j whole)) in
-      let powers : all ^ k * p ^ k ≤ g ^ k * w ^ k
-      = subst (λ m. m ≤ g ^ k * w ^ k) (mul-pow all p k) (subst (λ m. (all * p) ^ k ≤ m) (mul-pow g w k) (pow-le-pow_left tilt-mean k)) in
-      subst (λ m. at_least n k s i * (a ^ i * b ^ j) * p ^ k ≤ g ^ k * m) (lists-power word_count n k)
-      (last-of (at_least n k s i) (a ^ i * b ^ j) (p ^ k) (all ^ k) (g ^ k * w ^ k) few powers)
+      let few = rw (lists-product word_count n k tilt) at (markov word_count n k (a ^ i * b ^ j) (λ pasts. nat_le i (sum_by s.score pasts)) (product tilt) (large-product k i j whole)) in
+      let powers = rw (mul-pow all p k, mul-pow g (word_count ^ n) k) at (pow-le-pow_left tilt-mean k) in
+      rw (lists-power word_count n k) at (last-of (at_least n k s i) (a ^ i * b ^ j) (p ^ k) (all ^ k) (g ^ k * (word_count ^ n) ^ k) few powers)

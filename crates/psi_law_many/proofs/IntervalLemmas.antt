@@ -26,20 +26,10 @@ tailed n s is = record {
 
 -- c lists, of w, have f times p for p, and d times m is at most f
 few-of : (c d f p m w : ℕ) → 1 ≤ m → c * f * p ≤ m * w → d * m ≤ f * p → c * d ≤ 1 * w
-few-of c d f p m w some tail few =
-    let one = mul-le-mul_left c few in
-    let all : m * (c * d) ≤ m * (1 * w) = omega arith in
-    le_of_mul-le-mul_left all some
-
-some-line : (r o x y : ℕ) → 1 ≤ r * x → 1 ≤ r * x + o * y
-some-line r o x y some = omega arith
+few-of c d f p m w some tail few = le_of_mul-le-mul_left (omega (arith, mul-le-mul_left c few, tail)) some
 
 few-cases : (c d p m w : ℕ) → 1 ≤ p → c * p ≤ m * w → d * m ≤ p → c * d ≤ 1 * w
-few-cases c d p m w some tail few =
-    let one = mul-le-mul_left d tail in
-    let two = mul-le-mul_right w few in
-    let all : p * (c * d) ≤ p * (1 * w) = omega arith in
-    le_of_mul-le-mul_left all some
+few-cases c d p m w some tail few = le_of_mul-le-mul_left (omega (arith, mul-le-mul_left d tail, mul-le-mul_right w few)) some
 
 -- where i or more is rare under a mean of r of q, and the mean is less
 module _ (n : ℕ) (s : Score) (is : IsScore n s) (k q d i r : ℕ) where
@@ -49,7 +39,7 @@ module _ (n : ℕ) (s : Score) (is : IsScore n s) (k q d i r : ℕ) where
       let j = k * z - i in
       let m = r * told.a ^ z + (q * z - r) * told.b ^ z in
       let tail = exponential-tail n (against s q r) (against-is n s q r is wrong.less wrong.some told.share) told.a told.b told.order k i j (omega arith) in
-      let positive : 1 ≤ m = some-line r (q * z - r) (told.a ^ z) (told.b ^ z) (one-le-mul wrong.claimed (one-le-pow z told.a told.some)) in
+      let positive : 1 ≤ m = omega (arith, one-le-mul wrong.claimed (one-le-pow z told.a told.some)) in
       few-of (at_least n k s i) d (told.a ^ i * told.b ^ j) ((q * z) ^ k) (m ^ k) (word_count ^ (n * k)) (one-le-pow k m positive) tail told.few
 
   pub binomial-few : s.part * q ≤ r * s.whole → 1 ≤ s.whole → 1 ≤ q → s.top ≡ 1 → r ≤ q → d * cases_from r (q - r) k i ≤ q ^ k

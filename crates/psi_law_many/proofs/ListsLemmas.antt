@@ -65,14 +65,10 @@ count-order bound n k test other passes =
     (λ pasts so. (let under = constant-if 1 (one_if (other pasts)) (test pasts) (λ passed. (let e = ap one_if (passes pasts so passed) in omega arith)) in omega arith))
 
 -- tests that no list passes, or that few pass
-none-of : (c d w m : ℕ) → c ≤ 0 → c * d ≤ m * w
-none-of c d w m none = (let e : c ≡ 0 = omega arith in let f : c * d ≡ 0 * d = ap (λ x. x * d) e in omega arith)
-
 pub at-most-none : (d n k : ℕ) (test : List Words → Bool) → ((pasts : List Words) → length pasts ≡ k → test pasts ≡ false) → AtMost 1 d n k test
 at-most-none d n k test fails =
-    (let under = sum_lists-order word_count n k (λ pasts. one_if (test pasts)) (λ pasts. 0) (λ pasts so. (let e : one_if (test pasts) ≡ 0 = ap one_if (fails pasts so) in omega arith)) in
-    let none = (sum_lists-is word_count n k).none in
-    none-of (count_lists word_count n k test) d (word_count ^ (n * k)) 1 (omega arith))
+    (let under = sum_lists-order word_count n k (λ pasts. one_if (test pasts)) (λ pasts. 0) (λ pasts so. rw (fails pasts so) (omega arith)) in
+    omega (arith, mul-le-mul_right d (rw (sum_lists-is word_count n k).none at under)))
 
 pub at-most-order : (d n k : ℕ) (test other : List Words → Bool) → ((pasts : List Words) → length pasts ≡ k → test pasts ≡ true → other pasts ≡ true)
     → AtMost 1 d n k other → AtMost 1 d n k test
@@ -83,13 +79,8 @@ pub either : (a b : Bool) → one_if (a || b) ≤ one_if a + one_if b
 either true b = omega arith
 either false b = omega arith
 
-both-of : (c a b d w : ℕ) → c ≤ a + b → a * d ≤ 1 * w → b * d ≤ 1 * w → c * d ≤ 2 * w
-both-of c a b d w under first last = (let times = mul-le-mul_right d under in omega arith)
-
 pub at-most-both : (d n k : ℕ) (a b : List Words → Bool) → AtMost 1 d n k a → AtMost 1 d n k b → AtMost 2 d n k (λ pasts. a pasts || b pasts)
 at-most-both d n k a b first last =
     let lists-is = sum_lists-is word_count n k in
     let under = lists-is.order (λ pasts. one_if (a pasts || b pasts)) (λ pasts. one_if (a pasts) + one_if (b pasts)) (λ pasts. either (a pasts) (b pasts)) in
-    let more = lists-is.more (λ pasts. one_if (a pasts)) (λ pasts. one_if (b pasts)) in
-    both-of (count_lists word_count n k (λ pasts. a pasts || b pasts)) (count_lists word_count n k a) (count_lists word_count n k b) d (word_count ^ (n * k))
-    (subst (λ m. count_lists word_count n k (λ pasts. a pasts || b pasts) ≤ m) more under) first last
+    omega (arith, mul-le-mul_right d (rw (lists-is.more (λ pasts. one_if (a pasts)) (λ pasts. one_if (b pasts))) at under), first, last)

@@ -29,15 +29,10 @@ some-words = omega arith
 -- ---- totals of numbers between two scores
 
 quarter-of : (b d q g k z w : ℕ) → 1 ≤ q → b * (d * q) ≤ k * g * w → 4 * g ≤ q * z → b * (4 * d) ≤ k * z * w
-quarter-of b d q g k z w some few range =
-    let times = mul-le-mul_left (k * w) range in
-    let both : q * (b * (4 * d)) ≤ q * (k * z * w) = omega arith in
-    le_of_mul-le-mul_left both some
+quarter-of b d q g k z w some few range = le_of_mul-le-mul_left (omega (arith, few, mul-le-mul_left (k * w) range)) some
 
 plain-of : (s b e k z v : ℕ) → 1 ≤ s → b * (4 * (s * e * (s * e))) ≤ k * (s * z * (s * z)) * v → b * (4 * (e * e)) ≤ k * (z * z) * v
-plain-of s b e k z v some range =
-    let both : s * s * (b * (4 * (e * e))) ≤ s * s * (k * (z * z) * v) = omega arith in
-    le_of_mul-le-mul_left both (one-le-mul some some)
+plain-of s b e k z v some range = le_of_mul-le-mul_left (omega (arith, range)) (one-le-mul some some)
 
 module _ {X : Type 0} {outer : (X → ℕ) → ℕ} {own : X → Type 0} {number : X → Words → ℕ} {n : ℕ} {s t : Score} (are : AreBounds outer own number n s t) where
   -- the number that is compared with the part of the mean, and the number that it is at most
@@ -97,10 +92,7 @@ module _ {X : Type 0} {outer : (X → ℕ) → ℕ} {own : X → Type 0} {number
 
 -- w pasts for each state
 near-of : (w s c b g q k v e : ℕ) → 1 ≤ w → q ≡ w * s → e ≡ w * g → b * (c * q) ≤ k * e * v → b * (s * c) ≤ k * g * v
-near-of w s c b g q k v e some all each few =
-    let under = rw (all, each) at few in
-    let both : w * (b * (s * c)) ≤ w * (k * g * v) = omega arith in
-    le_of_mul-le-mul_left both some
+near-of w s c b g q k v e some all each few = le_of_mul-le-mul_left (omega (arith, rw (all, each) at few)) some
 
 near-none : (b s c z : ℕ) → s ≤ 0 → b * (s * c) ≤ z
 near-none b s c z none = (let e : s ≡ 0 = omega arith in let f : b * (s * c) ≡ b * (0 * c) = ap (λ m. b * (m * c)) e in omega arith)

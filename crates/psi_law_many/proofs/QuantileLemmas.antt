@@ -1,12 +1,12 @@
 -- Counts of samples below and above a quantile are seldom large.
-use Rattle.std.specs.Prelude.{◌≡◌, ℕ, ◌-◌, ◌*◌, ◌^◌, ◌≤◌, List, Bool, true, false, if◌then◌else◌, nat_le, nat_lt, refl}
+use Rattle.std.specs.Prelude.{◌≡◌, ℕ, ◌-◌, ◌*◌, ◌^◌, ◌≤◌, List, Bool, nat_le, nat_lt, refl}
 use Rattle.std.proofs.Common.{subst, arith}
 use Rattle.psi_state.specs.declared.Outcome.{Outcome}
 use Rattle.psi_law.specs.Counting.{Words, sum_pasts}
 use Rattle.psi_law.specs.Wheel.{word_count}
 use Rattle.psi_law.specs.Chains.{Chain, IsChain, whole, weighted, IsBalanced}
 use Rattle.psi_law.specs.Samples.{Reaches}
-use Rattle.psi_law.proofs.SumsLemmas.{sum-same, sum_pasts-is}
+use Rattle.psi_law.proofs.SumsLemmas.{at_most_one, sum-same, sum_pasts-is}
 use Rattle.psi_law_many.specs.Lists.{AtMost}
 use Rattle.psi_law_many.specs.Values.{value_or, IsMeasured, Score}
 use Rattle.psi_law_many.specs.Tails.{cases_from}
@@ -17,12 +17,8 @@ use Rattle.psi_law_many.proofs.ScoreLemmas.{IsScore}
 use Rattle.psi_law_many.proofs.BoundsLemmas.{first-score, sample-bounds}
 use Rattle.psi_law_many.proofs.IntervalLemmas.{binomial-few}
 
-mark-of : (b : Bool) → (if b then 1 else 0) ≤ 1
-mark-of true = omega arith
-mark-of false = omega arith
-
 mark-most : (has : List ℕ → Bool) (x : List ℕ) → mark has x ≤ 1
-mark-most has x = mark-of (has x)
+mark-most has x = at_most_one (has x)
 
 -- samples of a chain that all states reach
 module _ (chain : Chain) (sample : Words → Outcome) (n : ℕ) (is : IsChain chain) (reaches : Reaches chain sample n) (weight : List ℕ → ℕ) (balanced : IsBalanced chain weight) where
@@ -34,17 +30,11 @@ module _ (chain : Chain) (sample : Words → Outcome) (n : ℕ) (is : IsChain ch
   hit-is has =
       let measured : IsMeasured chain weight (mark has) 0 1 = record { balanced = balanced; above = λ x own. omega arith; below = λ x own. mark-most has x } in
       let score = first-score (sample-bounds is reaches measured) in
-      let least = score.mean in
       let same : sum_pasts word_count n (λ past. value_or 0 (mark has) (sample past) - 0) ≡ sum_pasts word_count n (λ past. value_or 0 (mark has) (sample past))
       = sum-same (sum_pasts word_count n) (sum_pasts-is word_count n) (λ past. value_or 0 (mark has) (sample past) - 0) (λ past. value_or 0 (mark has) (sample past)) (λ past. omega arith) in
       let part : weighted chain weight (mark has) - 0 * whole chain weight ≡ weighted chain weight (mark has) = omega arith in
       let share = score.share in
-      record {
-        most = λ past. (let most = score.most past in omega arith);
-        mean = subst (λ m. whole chain weight * m ≤ weighted chain weight (mark has) * word_count ^ n) same
-            (subst (λ m. whole chain weight * sum_pasts word_count n (λ past. value_or 0 (mark has) (sample past) - 0) ≤ m * word_count ^ n) part least);
-        share = omega arith;
-      }
+      record { most = λ past. (let most = score.most past in omega arith); mean = rw (same, part) at score.mean; share = omega arith }
 
   hits-few : (has : List ℕ → Bool) (k r q d i : ℕ) → 1 ≤ whole chain weight → 1 ≤ q → r ≤ q → weighted chain weight (mark has) * q ≤ r * whole chain weight
       → d * cases_from r (q - r) k i ≤ q ^ k → AtMost 1 d n k (λ pasts. nat_le i (hits has sample pasts))

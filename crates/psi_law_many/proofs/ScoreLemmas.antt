@@ -56,16 +56,9 @@ some-less u zero s less = absurd (omega arith)
 some-less u (suc r) zero less = absurd (omega arith)
 some-less u (suc r) (suc s) less = (omega arith, omega arith)
 
-claim-of : (a p s q r w : ℕ) → s * a ≤ p * w → p * q ≤ r * s → 1 ≤ s → q * a ≤ r * w
-claim-of a p s q r w mean less some =
-    let one = mul-le-mul_left q mean in
-    let two = mul-le-mul_right w less in
-    let both : s * (q * a) ≤ s * (r * w) = omega arith in
-    le_of_mul-le-mul_left both some
-
 -- where the mean that a score is compared with is at most r of q, so is the mean over all pasts
 pub mean-under : (n : ℕ) (s : Score) (q r : ℕ) → IsScore n s → s.part * q ≤ r * s.whole → 1 ≤ s.whole → q * sum_pasts word_count n s.score ≤ r * word_count ^ n
-mean-under n s q r is less some = claim-of (sum_pasts word_count n s.score) s.part s.whole q r (word_count ^ n) is.mean less some
+mean-under n s q r is less some = le_of_mul-le-mul_left (omega (arith, mul-le-mul_left q is.mean, mul-le-mul_right (word_count ^ n) less)) some
 
 pub against-is : (n : ℕ) (s : Score) (q r : ℕ) → IsScore n s → s.part * q ≤ r * s.whole → 1 ≤ s.whole → r ≤ q * s.top → IsScore n (against s q r)
 against-is n s q r is less some share = record { most = is.most; mean = mean-under n s q r is less some; share = share }

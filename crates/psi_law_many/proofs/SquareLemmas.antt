@@ -31,13 +31,8 @@ pub two-products : (a b : ℕ) → 2 * (a * b) ≤ a * a + b * b
 two-products a b = (let e = gap-square a b in omega arith)
 
 -- the squares of a sum of two differences, less the cross terms
-add-of : (s v t b x y z : ℕ) → x + 2 * ((s + t) * (v + b)) ≡ (s + t) * (s + t) + (v + b) * (v + b)
-    → y + 2 * (s * v) ≡ s * s + v * v → z + 2 * (t * b) ≡ t * t + b * b
-    → x + (2 * b * s + 2 * v * t) ≡ y + z + (2 * s * t + 2 * v * b)
-add-of s v t b x y z p q r = omega arith
-
 pub gap-add : (s v t b : ℕ) → gap (s + t) (v + b) + (2 * b * s + 2 * v * t) ≡ gap s v + gap t b + (2 * s * t + 2 * v * b)
-gap-add s v t b = add-of s v t b (gap (s + t) (v + b)) (gap s v) (gap t b) (gap-square (s + t) (v + b)) (gap-square s v) (gap-square t b)
+gap-add s v t b = omega (arith, gap-square (s + t) (v + b), gap-square s v, gap-square t b)
 
 -- a number is at least as far from each number of a range as from the range
 pub outside-order : (least greatest m t : ℕ) → least ≤ t → t ≤ greatest → outside least greatest m ≤ outside t t m
