@@ -34,24 +34,18 @@ module _ (a : List ℕ) (rest : List (List ℕ)) (q : Matrix) (w : List ℕ → 
   censored-inflow y =
       let out = outflow rest q a in
       let is = sum_by-is rest in
-      omega (
-        arith,
-        sum_by-same rest (λ x. w x * (out * q x y + q x a * q a y)) (λ x. out * (w x * q x y) + w x * q x a * q a y) (λ x member. omega arith),
-        is.more (λ x. out * (w x * q x y)) (λ x. w x * q x a * q a y),
-        sum-times (λ (g : List ℕ → ℕ). sum_by g rest) is out (λ x. w x * q x y),
-        sum_by-out rest (λ x. w x * q x a) (q a y),
-      )
+      let each = sum_by-same rest (λ x. w x * (out * q x y + q x a * q a y)) (λ x. out * (w x * q x y) + w x * q x a * q a y) (λ x member. omega arith) in
+      let parts = is.more (λ x. out * (w x * q x y)) (λ x. w x * q x a * q a y) in
+      let direct = sum-times (λ (g : List ℕ → ℕ). sum_by g rest) is out (λ x. w x * q x y) in
+      let through = sum_by-out rest (λ x. w x * q x a) (q a y) in omega arith
 
   censored-outflow : (y : List ℕ) → outflow rest (censored a rest q) y ≡ outflow rest q a * (q y a + outflow rest q y)
   censored-outflow y =
       let out = outflow rest q a in
       let is = sum_by-is rest in
-      omega (
-        arith,
-        is.more (λ z. out * q y z) (λ z. q y a * q a z),
-        sum-times (λ (g : List ℕ → ℕ). sum_by g rest) is out (λ z. q y z),
-        sum-times (λ (g : List ℕ → ℕ). sum_by g rest) is (q y a) (λ z. q a z),
-      )
+      let parts = is.more (λ z. out * q y z) (λ z. q y a * q a z) in
+      let direct = sum-times (λ (g : List ℕ → ℕ). sum_by g rest) is out (λ z. q y z) in
+      let through = sum-times (λ (g : List ℕ → ℕ). sum_by g rest) is (q y a) (λ z. q a z) in omega arith
 
   -- where the state is not one of the others
   module _ (alone : In a rest → ⊥) where

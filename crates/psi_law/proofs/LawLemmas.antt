@@ -63,15 +63,12 @@ module _ (chain : Chain) (weight : List ℕ → ℕ) (n : ℕ) (end : Words → 
       (let under = pasts.order (λ past. a past + h (end past x)) (λ past. b past + g (end past x)) (λ past. each past x own) in
       let left = pasts.more a (λ past. h (end past x)) in
       let right = pasts.more b (λ past. g (end past x)) in omega arith)) in
-      omega (
-        arith,
-        way.more (λ x. sum a) (λ x. sum (λ past. h (end past x))),
-        way.more (λ x. sum b) (λ x. sum (λ past. g (end past x))),
-        weighted-constant chain weight (sum a),
-        weighted-constant chain weight (sum b),
-        steady.still h,
-        steady.still g,
-      )
+      let left = way.more (λ x. sum a) (λ x. sum (λ past. h (end past x))) in
+      let right = way.more (λ x. sum b) (λ x. sum (λ past. g (end past x))) in
+      let left-own = weighted-constant chain weight (sum a) in
+      let right-own = weighted-constant chain weight (sum b) in
+      let left-end = steady.still h in
+      let right-end = steady.still g in omega arith
 
   -- samples that are met at these ends alone
   module _ (sample : Words → Outcome) (meets : (past : Words) (x : List ℕ) → Own chain x → MeetsAt (end past x) (sample past)) where
