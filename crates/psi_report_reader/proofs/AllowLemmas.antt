@@ -2,7 +2,7 @@
 use Rattle.std.specs.Prelude.{◌≡◌, ℕ, zero, suc, ◌-◌, ℤ, pos, ◌+ℤ◌, ◌*ℤ◌, ◌≤ℤ◌, List, [], ◌∷◌, length, int_le, ◌&&◌, true, refl}
 use Rattle.std.specs.Int.{int_min, int_max}
 use Rattle.std.proofs.Common.{arith}
-use Rattle.std.proofs.lemmas.Int.{ints, clamps, by_lt_z}
+use Rattle.std.proofs.lemmas.Int.{ints, clamps}
 use Rattle.std.proofs.Math.IntN.{suc_ℤ-*ℤ}
 use Rattle.psi_reward.specs.Ranges.{least, greatest}
 use Rattle.psi_report.specs.Quantities.{sum_of}
@@ -21,27 +21,11 @@ pub record IsAllowed (n : ℕ) (low high sum : ℤ) : Type 0 where
   pub least : (pos n *ℤ low +ℤ high) ≤ℤ sum
   pub most : sum ≤ℤ (pos n *ℤ high +ℤ low)
 
-allowed-by : (k : ℕ) (low high sum : ℤ) → low ≤ℤ high → ((low +ℤ (pos k *ℤ low)) +ℤ high) ≤ℤ sum → sum ≤ℤ ((high +ℤ (pos k *ℤ high)) +ℤ low) → IsAllowed (suc k) low high sum
-allowed-by k low high sum order least most = record { order = order; least = rw (times-more k low) least; most = rw (times-more k high) most }
-
 allowed-more : (k : ℕ) (z low high sum : ℤ) → IsAllowed k low high sum → IsAllowed (suc k) (int_min z low) (int_max z high) (z +ℤ sum)
 allowed-more k z low high sum is =
-    by_lt_z z low
-    (λ less.
-    let first : int_min z low ≡ z = omega (arith, ints, clamps) in
-    let second : int_max z high ≡ high = omega (arith, ints, clamps) in
-    let down : (pos k *ℤ z) ≤ℤ (pos k *ℤ low) = times-rises k z low (omega (arith, ints)) in
-    rw (first, second) (allowed-by k z high (z +ℤ sum) (omega (arith, ints)) (omega (arith, ints)) (omega (arith, ints))))
-    (λ more.
-    let first : int_min z low ≡ low = omega (arith, ints, clamps) in
-    by_lt_z high z
-    (λ less.
-    let second : int_max z high ≡ z = omega (arith, ints, clamps) in
-    let up : (pos k *ℤ high) ≤ℤ (pos k *ℤ z) = times-rises k high z (omega (arith, ints)) in
-    rw (first, second) (allowed-by k low z (z +ℤ sum) (omega (arith, ints)) (omega (arith, ints)) (omega (arith, ints))))
-    (λ within.
-    let second : int_max z high ≡ high = omega (arith, ints, clamps) in
-    rw (first, second) (allowed-by k low high (z +ℤ sum) (omega (arith, ints)) (omega (arith, ints)) (omega (arith, ints)))))
+    let down = times-rises k (int_min z low) low (omega (arith, ints, clamps)) in
+    let up = times-rises k high (int_max z high) (omega (arith, ints, clamps)) in
+    record { order = omega (arith, ints, clamps); least = rw (times-more k (int_min z low)) (omega (arith, ints, clamps)); most = rw (times-more k (int_max z high)) (omega (arith, ints, clamps)) }
 
 pub allowed : (z : ℤ) (zs : List ℤ) → IsAllowed (length zs) (least (z ∷ zs)) (greatest (z ∷ zs)) (sum_of (z ∷ zs))
 unfolding sum_of

@@ -20,10 +20,7 @@ with-number most z zs low high are =
       few = All-cons (λ v. v ≤ most) (unsigned_abs z) are.numbers (omega (arith, ints)) are.few;
     }
 
-no-numbers : (most : ℕ) → AreNumbers most []
-no-numbers most = record { numbers = []; same = refl; few = All-nil (λ v. v ≤ most) }
-
 pub between : (most : ℕ) (z : ℤ) (zs : List ℤ) → pos 0 ≤ℤ least (z ∷ zs) → greatest (z ∷ zs) ≤ℤ pos most → AreNumbers most (z ∷ zs)
-between most z [] low high = with-number most z [] low high (no-numbers most)
+between most z [] low high = with-number most z [] low high (record { numbers = []; same = refl; few = All-nil (λ v. v ≤ most) })
 between most z (y ∷ ys) low high =
     with-number most z (y ∷ ys) (omega (arith, ints, clamps)) (omega (arith, ints, clamps)) (between most y ys (omega (arith, ints, clamps)) (omega (arith, ints, clamps)))

@@ -9,11 +9,6 @@ use Rattle.psi_report.specs.declared.figure.HorizonCount.{HorizonCount}
 use Rattle.psi_report_reader.specs.Counts.{with_count, place_of, joined_counts}
 use Rattle.psi_report_reader.specs.Merging.{is_count, counts_fit}
 
--- ---- the place of a horizon
-
-place-above : (t p : ℕ) (c : HorizonCount) (cs : List HorizonCount) → place_of t (c ∷ cs) ≡ suc p → (c.horizon < t) × (place_of t cs ≡ p)
-place-above t p c cs at = grind (arith, nat_tests)
-
 -- ---- one more count
 
 pub with_count-higher : (k c : HorizonCount) (cs : List HorizonCount) → c.horizon < k.horizon → with_count k (c ∷ cs) ≡ c ∷ with_count k cs
@@ -32,7 +27,7 @@ pub with_count-insert : (k : HorizonCount) (cs : List HorizonCount) (p : ℕ) �
 with_count-insert k [] p at other = (let none : p ≡ 0 = sym at in rw none refl)
 with_count-insert k (c ∷ cs) zero at other = grind (arith, nat_tests, other c)
 with_count-insert k (c ∷ cs) (suc p) at other =
-    let above = place-above k.horizon p c cs at in
+    let above : (c.horizon < k.horizon) × (place_of k.horizon cs ≡ p) = grind (arith, nat_tests) in
     with_count-higher k c cs above.0 ∙ ap (λ xs. c ∷ xs) (with_count-insert k cs p above.1 (λ d small same. other d (omega arith) same))
 
 -- a sum that has more than 64 bits

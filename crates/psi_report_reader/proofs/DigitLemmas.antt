@@ -1,5 +1,5 @@
 -- The decimal digits of a number are read as this number.
-use Rattle.std.specs.Prelude.{◌≡◌, ℕ, ◌+◌, ◌*◌, ◌/◌, ◌%◌, ◌^◌, ◌<◌, ◌≤◌, ℤ, pos, negsuc, List, [], ◌∷◌, ◌++◌, length, All, Option, Some, suc, refl}
+use Rattle.std.specs.Prelude.{◌≡◌, ℕ, ◌+◌, ◌*◌, ◌/◌, ◌%◌, ◌^◌, ◌<◌, ◌≤◌, ℤ, pos, negsuc, List, [], ◌∷◌, ◌++◌, length, All, Some, suc, refl}
 use Rattle.std.specs.Fmt.{decimal, signed_decimal}
 use Rattle.std.specs.Int.RustNames.{unsigned_abs}
 use Rattle.std.specs.Option.{option_and_then}
@@ -27,19 +27,13 @@ digit-value : (value n byte : ℕ) → byte ≡ 48 + n → n < 10 → value < 10
 unfolding with_digit
 digit-value value n byte is few fits = grind (arith, nat_tests)
 
-then-same : (f g h : ℕ → Option ℕ) → ((w : ℕ) → f w ≡ option_and_then h (g w)) → (o : Option ℕ)
-    → option_and_then f o ≡ option_and_then h (option_and_then g o)
-then-same f g h same o = grind (arith, same)
-
-then-some : (o : Option ℕ) → option_and_then (λ n. Some n) o ≡ o
-then-some o = grind arith
-
 -- one more digit at the end
 digits-push : (value : ℕ) (ds : List ℕ) (byte : ℕ) → with_digits value (ds ++ byte ∷ []) ≡ option_and_then (λ w. with_digit w byte) (with_digits value ds)
 unfolding with_digits
-digits-push value [] byte = then-some (with_digit value byte)
+digits-push value [] byte = grind arith
 digits-push value (d ∷ ds) byte =
-    then-same (λ w. with_digits w (ds ++ byte ∷ [])) (λ w. with_digits w ds) (λ w. with_digit w byte) (λ w. digits-push w ds byte) (with_digit value d)
+    let rest : (w : ℕ) → with_digits w (ds ++ byte ∷ []) ≡ option_and_then (λ v. with_digit v byte) (with_digits w ds) = λ w. digits-push w ds byte in
+    grind (arith, rest)
 
 one-digit : (n : ℕ) → n < 10 → AreDigitsOf n ((48 + n) ∷ [])
 unfolding with_digits

@@ -37,19 +37,16 @@ AreFields rows = (rest : List ℕ) → fields_of (rows_text rows ++ rest) ≡ ro
 
 row-fields : (a b v rest : List ℕ) → All IsPlain a → All IsPlain b → All IsPlain v → fields_of (row_text default_writer (a ∷ b ∷ v ∷ []) ++ rest) ≡ (a ∷ b ∷ v ∷ []) ∷ fields_of rest
 row-fields a b v rest first second third =
-    ap fields_of (row-line a b v rest first second third)
-    ∙ ap (map (slice_split is_comma)) (line-ends a b v rest first second third)
-    ∙ ap (λ (fields : List (List ℕ)). fields ∷ fields_of rest) (line-fields a b v first second third)
+    cc (row-line a b v rest first second third, line-ends a b v rest first second third, line-fields a b v first second third)
 
 fields-more : (a b v : List ℕ) (rows : List (List (List ℕ))) → All IsPlain a → All IsPlain b → All IsPlain v → AreFields rows → AreFields (row a b v ∷ rows)
 unfolding rows_text
 fields-more a b v rows first second third behind_it rest =
-    ap fields_of (append_assoc (row_text default_writer (row a b v)) (flat_map (row_text default_writer) rows) rest)
-    ∙ row-fields a b v (flat_map (row_text default_writer) rows ++ rest) first second third
-    ∙ ap (λ (rows : List (List (List ℕ))). row a b v ∷ rows) (behind_it rest)
-
-item-plain : (item : Item) → All IsPlain (item_text item)
-item-plain item = name-bytes-plain (item_text item) (grind arith)
+    cc (
+      append_assoc (row_text default_writer (row a b v)) (flat_map (row_text default_writer) rows) rest,
+      row-fields a b v (flat_map (row_text default_writer) rows ++ rest) first second third,
+      behind_it rest,
+    )
 
 -- counts of 64 bits, and figures under names
 abbrev pub FitsCount : HorizonCount → Type 0
@@ -80,14 +77,11 @@ name-few : (name : List ℕ) → is_name name ≡ true → length name ≤ 32
 unfolding is_name
 name-few name is = grind (arith, nat_tests)
 
-item-few : (item : Item) → length (item_text item) ≤ 15
-item-few item = grind arith
-
 figure-short : (f : Figure) → FitsFigure f → IsShort (figure_row f)
 unfolding figure_row
 figure-short f fits =
-    row-short (item_text f.item) f.name (signed_decimal f.value) (item-plain f.item) (name-bytes-plain f.name (name-bytes f.name fits.0)) (signed-plain f.value fits.1)
-    (let item = item-few f.item in let name = name-few f.name fits.0 in let value = signed-few f.value fits.1 in omega arith)
+    row-short (item_text f.item) f.name (signed_decimal f.value) (name-bytes-plain (item_text f.item) (grind arith)) (name-bytes-plain f.name (name-bytes f.name fits.0)) (signed-plain f.value fits.1)
+    (let item : length (item_text f.item) ≤ 15 = grind arith in let name = name-few f.name fits.0 in let value = signed-few f.value fits.1 in omega arith)
 
 count-few : (n : ℕ) → n < 2 ^ 64 → length (decimal n) ≤ 20
 count-few n fits = length-decimal-le_wide 20 n (omega arith) (omega arith) (omega arith)

@@ -4,6 +4,7 @@ use Rattle.std.specs.List.{flat_map}
 use Rattle.std.specs.Str.{bytes_eq}
 use Rattle.std.proofs.Common.{ap, sym, ◌∙◌, subst, append_assoc, inl, inr, arith, rules}
 use Rattle.std.proofs.lemmas.Bool.{lt-ltb, ne_eqb}
+use Rattle.std.proofs.lemmas.Bool.Decides.{nat_tests}
 use Rattle.std.proofs.lemmas.List.{append-nil, length-map, length-append}
 use Rattle.std.proofs.lemmas.Slice.Eq.{bytes_eq-Decides}
 use Rattle.psi_state.specs.Ascending.{IsDistinct}
@@ -68,9 +69,6 @@ queues-are = search rules
 rewards-are : IsTrio reward_trio is_reward_value
 rewards-are = search rules
 
-some-met : (n : ℕ) → nat_lt 0 (suc n) ≡ true
-some-met n = lt-ltb 0 (suc n) (omega arith)
-
 -- the last figure of a quantity
 abbrev last_item : List (List ℕ) → Trio → Item
 last_item [] trio = trio.sum
@@ -85,18 +83,14 @@ last_figure states trio q = figure (last_item states trio) q.name (last_value st
 
 module _ (trio : Trio) (p : ℤ → Bool) (is : IsTrio trio p) where
   trio-names : (i : Item) (b : Bool) → same_sum trio.sum i ≡ b → (states : List (List ℕ)) (q : Quantity) → names i (quantity_figures trio states q) ≡ cond b (q.name ∷ []) []
-  trio-names i true own [] q = rw own refl
-  trio-names i false other [] q = rw other refl
-  trio-names i true own (x ∷ xs) q = rw (own, no-sum trio.least i is.least, no-sum trio.greatest i is.greatest) refl
-  trio-names i false other (x ∷ xs) q = rw (other, no-sum trio.least i is.least, no-sum trio.greatest i is.greatest) refl
+  trio-names i b own states q = grind (arith, no-sum trio.least i is.least, no-sum trio.greatest i is.greatest)
 
   room-behind : (states : List (List ℕ)) (before : List Figure) (q : Quantity) (qs : List Quantity) → HasRoom trio.sum before (q ∷ qs) → HasRoom trio.sum (before ++ quantity_figures trio states q) qs
   room-behind states before q qs room =
       let rest = map (λ (r : Quantity). r.name) qs in
       let same : names trio.sum (before ++ quantity_figures trio states q) ++ rest ≡ names trio.sum before ++ q.name ∷ rest =
-      ap (λ (ns : List (List ℕ)). ns ++ rest) (names-append trio.sum before (quantity_figures trio states q) ∙ ap (λ (ns : List (List ℕ)). names trio.sum before ++ ns) (trio-names trio.sum true is.own states q))
-      ∙ append_assoc (names trio.sum before) (q.name ∷ []) rest in
-      record { differ = subst (IsDistinct {A = List ℕ}) (sym same) room.differ; few = subst (λ (ns : List (List ℕ)). length ns ≤ most_of trio.sum) (sym same) room.few }
+      cc (names-append trio.sum before (quantity_figures trio states q), trio-names trio.sum true is.own states q, append_assoc (names trio.sum before) (q.name ∷ []) rest) in
+      record { differ = rw same room.differ; few = rw same room.few }
 
   -- where samples are met, the sum and its extremes
   module _ (name : List ℕ) (z : ℤ) (zs : List ℤ) (passing : All (λ y. p y ≡ true) (z ∷ zs)) where
@@ -113,7 +107,7 @@ module _ (trio : Trio) (p : ℤ → Bool) (is : IsTrio trio p) where
         → flaw_behind (suc (length zs)) before e (sum_figure ∷ least_figure ∷ greatest_figure ∷ rest)
         ≡ flaw_behind (suc (length zs)) (before ++ (sum_figure ∷ least_figure ∷ greatest_figure ∷ [])) greatest_figure rest
     trio-behind before e rest next new =
-        let some = some-met (length zs) in
+        let some : nat_lt 0 (suc (length zs)) ≡ true = lt-ltb 0 (suc (length zs)) (omega arith) in
         let count : (suc (length zs) == 0) ≡ false = ne_eqb (suc (length zs)) 0 (λ e. absurd (omega arith)) in
         let low : extreme_follows sum_figure least_figure ≡ true =
         rw (own-name name, is.low (least (z ∷ zs)), least-has (λ y. p y ≡ true) z zs passing, is.free (sum_of (z ∷ zs)) (least (z ∷ zs))) refl in
@@ -123,8 +117,7 @@ module _ (trio : Trio) (p : ℤ → Bool) (is : IsTrio trio p) where
         rw (count, is.first, is.second, low, high) (allows-allowed (length zs) (least (z ∷ zs)) (greatest (z ∷ zs)) (sum_of (z ∷ zs)) (allowed z zs)) in
         let may : may_stand (suc (length zs)) before e sum_figure (least_figure ∷ greatest_figure ∷ rest) ≡ true = rw (next, is.sum, new) agree in
         rw (may, some, is.first, is.least, low, is.second, is.greatest, high)
-        (ap (λ (fs : List Figure). flaw_behind (suc (length zs)) fs greatest_figure rest)
-        (append_assoc (before ++ sum_figure ∷ []) (least_figure ∷ []) (greatest_figure ∷ []) ∙ append_assoc before (sum_figure ∷ []) (least_figure ∷ greatest_figure ∷ [])))
+        (cc (append_assoc (before ++ sum_figure ∷ []) (least_figure ∷ []) (greatest_figure ∷ []), append_assoc before (sum_figure ∷ []) (least_figure ∷ greatest_figure ∷ [])))
 
   quantity-behind : (states : List (List ℕ)) (q : Quantity) → All (λ z. p z ≡ true) (map q.value states) → (before : List Figure) (e : Figure) (rest : List Figure)
       → may_follow (nat_lt 0 (length states)) e.item trio.sum ≡ true → is_new before (figure trio.sum q.name (sum_of (map q.value states))) ≡ true
@@ -164,18 +157,18 @@ module _ (trio : Trio) (p : ℤ → Bool) (is : IsTrio trio p) where
 no-rewards : (states : List (List ℕ)) (qs : List Quantity) → names RewardSum (flat_map (quantity_figures queue_trio states) qs) ≡ []
 no-rewards states [] = refl
 no-rewards states (q ∷ qs) =
-    names-append RewardSum (quantity_figures queue_trio states q) (flat_map (quantity_figures queue_trio states) qs)
-    ∙ ap (λ (ns : List (List ℕ)). ns ++ names RewardSum (flat_map (quantity_figures queue_trio states) qs)) (trio-names queue_trio is_customers queues-are RewardSum false refl states q)
-    ∙ no-rewards states qs
+    cc (
+      names-append RewardSum (quantity_figures queue_trio states q) (flat_map (quantity_figures queue_trio states) qs),
+      trio-names queue_trio is_customers queues-are RewardSum false refl states q,
+      no-rewards states qs,
+    )
 
 next-follows : (states : List (List ℕ)) (t u : Trio) → may_follow false t.sum u.sum ≡ true → may_follow true t.greatest u.sum ≡ true
     → may_follow (nat_lt 0 (length states)) (last_item states t) u.sum ≡ true
-next-follows [] t u none some = none
-next-follows (x ∷ xs) t u none some = rw (some-met (length xs)) some
+next-follows states t u none some = grind (arith, nat_tests)
 
 last-ends : (states : List (List ℕ)) (t : Trio) → may_end false t.sum ≡ true → may_end true t.greatest ≡ true → may_end (nat_lt 0 (length states)) (last_item states t) ≡ true
-last-ends [] t none some = none
-last-ends (x ∷ xs) t none some = rw (some-met (length xs)) some
+last-ends states t none some = grind (arith, nat_tests)
 
 -- the first figure stands as after one that a queue's sum may follow
 first-behind : (n : ℕ) (name : List ℕ) (z : ℤ) (fs : List Figure) (e : Figure) → may_follow (nat_lt 0 n) e.item Sum ≡ true → figures_flaw n (figure Sum name z ∷ fs) ≡ flaw_behind n [] e (figure Sum name z ∷ fs)

@@ -1,28 +1,14 @@
 -- Figures, one after another as a loop takes them.
-use Rattle.std.specs.Prelude.{◌≡◌, ℕ, zero, suc, ◌+◌, ◌<◌, ◌≤◌, ◌⊎◌, List, [], ◌∷◌, length, take, drop, min, pos, true, false, Some, refl}
+use Rattle.std.specs.Prelude.{◌≡◌, ℕ, zero, suc, ◌+◌, ◌<◌, ◌≤◌, ◌⊎◌, List, [], ◌∷◌, length, take, drop, min, true, false, Some, refl}
 use Rattle.std.proofs.Common.{get_or, ap, sym, ◌∙◌, inl, inr, arith}
 use Rattle.std.proofs.lemmas.Bool.{cases_lt}
 use Rattle.std.proofs.lemmas.List.{drop_more, drop_all, get_or_default}
 use Rattle.psi_report.specs.Joined.{paired}
 use Rattle.psi_report.proofs.PairLemmas.{paired_all, length_paired, get_or-paired}
-use Rattle.psi_report.specs.declared.figure.Item.TheVariants.{Sum}
 use Rattle.psi_report.specs.declared.figure.Figure.{Figure}
 use Rattle.psi_report_reader.specs.Merging.{difference, joined_value, joined_figure, is_value, large_figure}
+use Rattle.psi_report_reader.proofs.JudgeLemmas.{none}
 use Rattle.psi_report_reader.proofs.OrderLemmas.{by_order}
-
--- the first place of two lists at which sums differ
-pub difference-shorter : (fs gs : List Figure) (i : ℕ) (d : Figure) → length fs ≤ i → i < length gs → difference i (drop i fs) (drop i gs) ≡ Some i
-difference-shorter fs gs i d one two = rw (drop_all i fs one, drop_more gs i d two) refl
-
-pub difference-longer : (fs gs : List Figure) (i : ℕ) (d : Figure) → i < length fs → length gs ≤ i → difference i (drop i fs) (drop i gs) ≡ Some i
-difference-longer fs gs i d one two = rw (drop_more fs i d one, drop_all i gs two) refl
-
--- the first figure that is too large, from a place on
-pub large-more : (fs : List Figure) (i : ℕ) (d : Figure) → i < length fs → is_value (get_or fs i d).value ≡ true → large_figure (i + 1) (drop (i + 1) fs) ≡ large_figure i (drop i fs)
-large-more fs i d small is = rw (drop_more fs i d small, is) refl
-
-large-here : (fs : List Figure) (i : ℕ) (d : Figure) → i < length fs → is_value (get_or fs i d).value ≡ false → large_figure i (drop i fs) ≡ Some i
-large-here fs i d small is = rw (drop_more fs i d small, is) refl
 
 get_or-joined : (fs gs : List Figure) (i : ℕ) (d : Figure) → i < length fs → i < length gs
     → get_or (paired joined_figure fs gs) i d ≡ joined_figure (get_or fs i d) (get_or gs i d)
@@ -42,10 +28,10 @@ module _ (fs hs gs : List Figure) (i : ℕ) (f g : Figure) (one : i < length fs)
   -- what two figures come to fits, or is the first that doesn't
   pub paired-fits : is_value (joined_value f.item f.value g.value) ≡ true
       → large_figure (i + 1) (drop (i + 1) (paired joined_figure fs gs)) ≡ large_figure i (drop i (paired joined_figure fs gs))
-  paired-fits fits = large-more (paired joined_figure fs gs) i f (rw (length_paired joined_figure fs gs) one) (rw joined-at fits)
+  paired-fits fits = rw (drop_more (paired joined_figure fs gs) i f (rw (length_paired joined_figure fs gs) one), joined-at, fits) refl
 
   pub paired-large : is_value (joined_value f.item f.value g.value) ≡ false → large_figure i (drop i (paired joined_figure fs gs)) ≡ Some i
-  paired-large large = large-here (paired joined_figure fs gs) i f (rw (length_paired joined_figure fs gs) one) (rw joined-at large)
+  paired-large large = rw (drop_more (paired joined_figure fs gs) i f (rw (length_paired joined_figure fs gs) one), joined-at, large) refl
 
 -- all places are joined where one of the lists ends
 pub paired-end : (fs hs gs : List Figure) (i : ℕ) → (length fs ≤ i) ⊎ (length gs ≤ i) → hs ≡ paired joined_figure fs (take i gs) → hs ≡ paired joined_figure fs gs
@@ -60,15 +46,12 @@ paired-end fs hs gs i (inl past) is = is ∙ short fs gs i past
     short (f ∷ fs) (g ∷ gs) (suc i) past = ap (λ xs. joined_figure f g ∷ xs) (short fs gs i (omega arith))
 
 -- after both lists' common length the shorter one has ended
-none : Figure
-none = record { item = Sum; name = []; value = pos 0 }
-
 pub difference-at-end : (fs gs : List Figure) (i both : ℕ) → i ≡ both → (length fs ≡ length gs → ⊥) → both ≡ min (length fs) (length gs)
     → Some both ≡ difference i (drop i fs) (drop i gs)
 difference-at-end fs gs i both at other least = by_order (length fs) (length gs)
     (λ same. absurd (other same))
-    (λ less. ap Some (sym at) ∙ sym (difference-shorter fs gs i none (omega arith) (omega arith)))
-    (λ more. ap Some (sym at) ∙ sym (difference-longer fs gs i none (omega arith) (omega arith)))
+    (λ less. rw (drop_all i fs (omega arith), drop_more gs i none (omega arith)) (ap Some (sym at)))
+    (λ more. rw (drop_more fs i none (omega arith), drop_all i gs (omega arith)) (ap Some (sym at)))
 
 -- after both lists' common length one of them has ended
 pub one-ends : (m n i : ℕ) → min m n ≤ i → (m ≤ i) ⊎ (n ≤ i)

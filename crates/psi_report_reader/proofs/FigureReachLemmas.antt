@@ -9,12 +9,11 @@ use Rattle.std.proofs.lemmas.List.Elements.{All-nil, All-cons, All-head, All-tai
 use Rattle.std.proofs.lemmas.Slice.Eq.{bytes_eq-Decides}
 use Rattle.psi_reward.specs.Ranges.{least, greatest}
 use Rattle.psi_report.specs.Quantities.{sum_of}
-use Rattle.psi_report.specs.declared.figure.Item.{Item}
 use Rattle.psi_report.specs.declared.figure.Item.TheVariants.{Sum, Least, Greatest}
 use Rattle.psi_report.specs.declared.figure.Figure.{Figure}
 use Rattle.psi_report.specs.Report.{queue_trio, extremes, figures_of}
 use Rattle.psi_report_reader.specs.Reached.{is_of_queue, AreOfQueues}
-use Rattle.psi_report_reader.specs.Sound.{is_sum, may_follow, AreSummed, figures_flaw}
+use Rattle.psi_report_reader.specs.Sound.{is_sum, AreSummed, figures_flaw}
 use Rattle.psi_report_reader.proofs.BetweenLemmas.{between}
 use Rattle.psi_report_reader.proofs.FieldLemmas.{figure-record}
 use Rattle.psi_report_reader.proofs.GroupLemmas.{Group, group_figures, IsGroup, figures-grouped}
@@ -46,15 +45,6 @@ record IsHeld (n : ℕ) (name : List ℕ) (figures : List Figure) : Type 0 where
 
 -- ---- the figures of one queue
 
-queue-sum : (i : Item) → is_of_queue i ≡ true → is_sum i ≡ true → i ≡ Sum
-queue-sum i queue sum = grind arith
-
-least-from : (i : Item) → may_follow true Sum i ≡ true → i ≡ Least
-least-from i follows = grind arith
-
-greatest-from : (i : Item) → may_follow true Least i ≡ true → i ≡ Greatest
-greatest-from i follows = grind arith
-
 -- values with this least, this greatest and this sum
 three-figures : (n : ℕ) (s l g : Figure) (zs : List ℤ) → 0 < n → s.item ≡ Sum → l.item ≡ Least → g.item ≡ Greatest → l.name ≡ s.name → g.name ≡ s.name
     → pos 0 ≤ℤ l.value → g.value ≤ℤ pos 65535 → AreSummed n l.value g.value s.value zs → IsHeld n s.name (s ∷ l ∷ g ∷ [])
@@ -73,15 +63,15 @@ group-held zero g queue is =
     let none : unsigned_abs g.sum.value ≡ 0 = eqb-true (unsigned_abs g.sum.value) 0 is.1 in
     record {
       numbers = [];
-      same = ap (λ f. f ∷ []) (figure-record Sum g.sum.item g.sum.name g.sum.name (pos 0) g.sum.value (sym (queue-sum g.sum.item queue is.0)) refl (omega (arith, ints)));
+      same = ap (λ f. f ∷ []) (figure-record Sum g.sum.item g.sum.name g.sum.name (pos 0) g.sum.value (grind arith) refl (omega (arith, ints)));
       long = refl;
       few = All-nil (λ v. v ≤ 65535);
     }
 group-held (suc m) g queue is =
     let has = is.1 in
-    let one = queue-sum g.sum.item queue is.0 in
-    let two = least-from g.low.item (rw one at has.first) in
-    let three = greatest-from g.high.item (rw two at has.second) in
+    let one : g.sum.item ≡ Sum = grind (arith, is.0) in
+    let two : g.low.item ≡ Least = grind (arith, has.first) in
+    let three : g.high.item ≡ Greatest = grind (arith, has.second) in
     let low = rw two at has.low_follows in
     let high = rw three at has.high_follows in
     let same : g.sum.name ≡ g.low.name = (bytes_eq-Decides g.sum.name g.low.name).0 (grind arith) in

@@ -50,10 +50,12 @@ trios-joined : (trio : Trio) → IsJoined trio → (x y : List ℕ) (xs ys : Lis
     ≡ flat_map (quantity_figures trio ((x ∷ xs) ++ (y ∷ ys))) qs
 trios-joined trio is x y xs ys [] = refl
 trios-joined trio is x y xs ys (q ∷ qs) =
-    paired-append (quantity_figures trio (x ∷ xs) q) (quantity_figures trio (y ∷ ys) q) (flat_map (quantity_figures trio (x ∷ xs)) qs) (flat_map (quantity_figures trio (y ∷ ys)) qs) refl
-    ∙ ap (λ (fs : List Figure). fs ++ paired joined_figure (flat_map (quantity_figures trio (x ∷ xs)) qs) (flat_map (quantity_figures trio (y ∷ ys)) qs))
-    (is q.name (q.value x) (map q.value xs) (q.value y) (map q.value ys) ∙ ap (figures_of trio q.name) (sym (map-append q.value (x ∷ xs) (y ∷ ys))))
-    ∙ ap (λ (fs : List Figure). quantity_figures trio ((x ∷ xs) ++ (y ∷ ys)) q ++ fs) (trios-joined trio is x y xs ys qs)
+    let own = is q.name (q.value x) (map q.value xs) (q.value y) (map q.value ys) ∙ ap (figures_of trio q.name) (sym (map-append q.value (x ∷ xs) (y ∷ ys))) in
+    cc (
+      paired-append (quantity_figures trio (x ∷ xs) q) (quantity_figures trio (y ∷ ys) q) (flat_map (quantity_figures trio (x ∷ xs)) qs) (flat_map (quantity_figures trio (y ∷ ys)) qs) refl,
+      own,
+      trios-joined trio is x y xs ys qs,
+    )
 
 pub figures-joined : (net : Network) (xs ys : List (List ℕ))
     → joined_figures (length xs) (length ys) (all_figures net xs) (all_figures net ys) ≡ all_figures net (xs ++ ys)
@@ -61,13 +63,13 @@ figures-joined net [] ys = refl
 figures-joined net (x ∷ xs) [] = rw (ne_eqb (suc (length xs)) 0 (λ e. absurd (omega arith)), append-nil xs) refl
 figures-joined net (x ∷ xs) (y ∷ ys) =
     rw (ne_eqb (suc (length xs)) 0 (λ e. absurd (omega arith)), ne_eqb (suc (length ys)) 0 (λ e. absurd (omega arith)))
-    (paired-append (flat_map (quantity_figures queue_trio (x ∷ xs)) (queue_quantities net)) (flat_map (quantity_figures queue_trio (y ∷ ys)) (queue_quantities net))
-    (flat_map (quantity_figures reward_trio (x ∷ xs)) (reward_quantities net)) (flat_map (quantity_figures reward_trio (y ∷ ys)) (reward_quantities net))
-    (length-trios queue_trio x y xs ys (queue_quantities net))
-    ∙ ap (λ (fs : List Figure). fs ++ paired joined_figure (flat_map (quantity_figures reward_trio (x ∷ xs)) (reward_quantities net)) (flat_map (quantity_figures reward_trio (y ∷ ys)) (reward_quantities net)))
-    (trios-joined queue_trio queue-joined x y xs ys (queue_quantities net))
-    ∙ ap (λ (fs : List Figure). flat_map (quantity_figures queue_trio ((x ∷ xs) ++ (y ∷ ys))) (queue_quantities net) ++ fs)
-    (trios-joined reward_trio reward-joined x y xs ys (reward_quantities net)))
+    (cc (
+      paired-append (flat_map (quantity_figures queue_trio (x ∷ xs)) (queue_quantities net)) (flat_map (quantity_figures queue_trio (y ∷ ys)) (queue_quantities net))
+          (flat_map (quantity_figures reward_trio (x ∷ xs)) (reward_quantities net)) (flat_map (quantity_figures reward_trio (y ∷ ys)) (reward_quantities net))
+          (length-trios queue_trio x y xs ys (queue_quantities net)),
+      trios-joined queue_trio queue-joined x y xs ys (queue_quantities net),
+      trios-joined reward_trio reward-joined x y xs ys (reward_quantities net),
+    ))
 
 -- ---- the sums are of one network
 
@@ -78,15 +80,16 @@ sum_figure item states q = figure item q.name (sum_of (map q.value states))
 trio-sums : (trio : Trio) → is_sum trio.sum ≡ true → is_sum trio.least ≡ false → is_sum trio.greatest ≡ false → (states : List (List ℕ)) (qs : List Quantity)
     → sums_of (flat_map (quantity_figures trio states) qs) ≡ map (sum_figure trio.sum states) qs
 trio-sums trio one two three states [] = refl
-trio-sums trio one two three [] (q ∷ qs) = rw one (ap (λ fs. sum_figure trio.sum [] q ∷ fs) (trio-sums trio one two three [] qs))
-trio-sums trio one two three (x ∷ xs) (q ∷ qs) = rw (one, two, three) (ap (λ fs. sum_figure trio.sum (x ∷ xs) q ∷ fs) (trio-sums trio one two three (x ∷ xs) qs))
+trio-sums trio one two three states (q ∷ qs) = grind (arith, trio-sums trio one two three states qs)
 
 all-sums : (net : Network) (states : List (List ℕ))
     → sums_of (all_figures net states) ≡ map (sum_figure Sum states) (queue_quantities net) ++ map (sum_figure RewardSum states) (reward_quantities net)
 all-sums net states =
-    filter-append (λ f. is_sum f.item) (flat_map (quantity_figures queue_trio states) (queue_quantities net)) (flat_map (quantity_figures reward_trio states) (reward_quantities net))
-    ∙ ap (λ (fs : List Figure). fs ++ sums_of (flat_map (quantity_figures reward_trio states) (reward_quantities net))) (trio-sums queue_trio refl refl refl states (queue_quantities net))
-    ∙ ap (λ (fs : List Figure). map (sum_figure Sum states) (queue_quantities net) ++ fs) (trio-sums reward_trio refl refl refl states (reward_quantities net))
+    cc (
+      filter-append (λ f. is_sum f.item) (flat_map (quantity_figures queue_trio states) (queue_quantities net)) (flat_map (quantity_figures reward_trio states) (reward_quantities net)),
+      trio-sums queue_trio refl refl refl states (queue_quantities net),
+      trio-sums reward_trio refl refl refl states (reward_quantities net),
+    )
 
 difference-alike : (k : ℕ) (item : Item) → same_sum item item ≡ true → (xs ys : List (List ℕ)) (qs : List Quantity) (fs gs : List Figure) → ((n : ℕ) → difference n fs gs ≡ None)
     → difference k (map (sum_figure item xs) qs ++ fs) (map (sum_figure item ys) qs ++ gs) ≡ None

@@ -1,17 +1,18 @@
 -- What is merged is a report, and what can be told of two reports together is merged.
-use Rattle.std.specs.Prelude.{◌≡◌, ℕ, ◌+◌, ◌^◌, ◌<◌, List, [], ◌∷◌, slice_index_or, All, true, ◌==◌, nat_lt, unsigned_abs, Option, Some, None, Ok, refl}
+use Rattle.std.specs.Prelude.{◌≡◌, ℕ, ◌+◌, ◌^◌, ◌<◌, List, [], ◌∷◌, slice_index_or, All, true, ◌==◌, nat_lt, unsigned_abs, None}
 use Rattle.std.proofs.Common.{◌∙◌, subst, arith}
 use Rattle.std.proofs.lemmas.Bool.{cond_both, ltb-true}
 use Rattle.std.proofs.lemmas.List.Elements.{All-nil, All-cons, All-head, All-tail, All-weaker}
 use Rattle.std.proofs.lemmas.List.Sums.{AllPass-from_list_all}
 use Rattle.psi_net_model.specs.Name.{is_name}
 use Rattle.psi_report.specs.Joined.{paired}
+use Rattle.psi_report.proofs.PairLemmas.{All-paired}
 use Rattle.psi_report.specs.declared.figure.HorizonCount.{HorizonCount}
 use Rattle.psi_report.specs.declared.figure.Figure.{Figure}
 use Rattle.psi_report.specs.Contents.{Contents}
 use Rattle.psi_report_reader.specs.Counts.{with_count, joined_counts}
 use Rattle.psi_report_reader.specs.Reading.{IsReport}
-use Rattle.psi_report_reader.specs.Merging.{sums_of, difference, is_count, is_value, counts_fit, large_figure, too_large, joined_figure, joined_figures, joined, fitting_unless, merged_unless, merged}
+use Rattle.psi_report_reader.specs.Merging.{is_count, is_value, counts_fit, large_figure, too_large, joined_figure, joined_figures, joined, merged}
 use Rattle.psi_report_reader.specs.Lines.{MergedIsReport, FittingAreMerged}
 use Rattle.psi_report_reader.proofs.FieldLemmas.{FitsCount, FitsFigure}
 use Rattle.psi_report_reader.proofs.MergeLemmas.{accepted, merged-fitting, report-fits}
@@ -44,14 +45,10 @@ counts-told cs all fit k d less =
 abbrev IsNamed : Figure → Type 0
 IsNamed f = is_name f.name ≡ true
 
-paired-named : (fs gs : List Figure) → All IsNamed fs → All IsNamed (paired joined_figure fs gs)
-paired-named [] gs all = all
-paired-named (f ∷ fs) [] all = all
-paired-named (f ∷ fs) (g ∷ gs) all = All-cons IsNamed (joined_figure f g) (paired joined_figure fs gs) (All-head IsNamed f fs all) (paired-named fs gs (All-tail IsNamed f fs all))
-
 joined-named : (m n : ℕ) (fs gs : List Figure) → All IsNamed fs → All IsNamed gs → All IsNamed (joined_figures m n fs gs)
 joined-named m n fs gs all others =
-    cond_both (m == 0) gs _ (All IsNamed) (λ none. others) (λ some. cond_both (n == 0) fs (paired joined_figure fs gs) (All IsNamed) (λ none. all) (λ more. paired-named fs gs all))
+    cond_both (m == 0) gs _ (All IsNamed) (λ none. others) (λ some. cond_both (n == 0) fs (paired joined_figure fs gs) (All IsNamed) (λ none. all)
+    (λ more. All-paired joined_figure IsNamed IsNamed IsNamed (λ f own. own) (λ f g own other. own) fs gs all others))
 
 figures-told : (k : ℕ) (fs : List Figure) → All IsNamed fs → large_figure k fs ≡ None → All FitsFigure fs
 figures-told k [] all none = All-nil FitsFigure
@@ -91,15 +88,10 @@ joined-report a b one other none =
 
 pub merged_report : MergedIsReport
 unfolding merged
-merged_report a b c one other is = go (difference 0 (sums_of a.figures) (sums_of b.figures)) is
-  where
-    fit : (o : Option ℕ) → too_large b (joined a b) ≡ o → fitting_unless o (joined a b) ≡ Ok c → IsReport c
-    fit None none same = (let whole : joined a b ≡ c = cc in subst IsReport whole (joined-report a b one other none))
-    fit (Some line) none same = absurd cc
-
-    go : (o : Option ℕ) → merged_unless o a b ≡ Ok c → IsReport c
-    go None same = fit (too_large b (joined a b)) refl same
-    go (Some k) same = absurd cc
+merged_report a b c one other is =
+    let none : too_large b (joined a b) ≡ None = grind arith in
+    let whole : joined a b ≡ c = grind arith in
+    subst IsReport whole (joined-report a b one other none)
 
 pub fitting_merged : FittingAreMerged
 fitting_merged a b same is =

@@ -18,19 +18,6 @@ record Follows (i j k : Item) : Type 0 where
   high : is_sum k ≡ false
   next : (l : Item) → may_follow true k l ≡ true → is_sum l ≡ true
 
-follow-sum : (i j k : Item) → is_sum i ≡ true → may_follow true i j ≡ true → may_follow true j k ≡ true → Follows i j k
-follow-sum i j k is one two = record { low = grind arith; high = grind arith; next = λ l three. grind arith }
-
-after-only : (i j : Item) → may_follow false i j ≡ true → is_sum j ≡ true
-after-only i j next = grind arith
-
--- figures end neither with a sum nor with what follows one
-sum-open : (i : Item) → is_sum i ≡ true → may_end true i ≡ true → ⊥
-sum-open i is ends = grind arith
-
-least-open : (i j : Item) → is_sum i ≡ true → may_follow true i j ≡ true → may_end true j ≡ true → ⊥
-least-open i j is next ends = grind arith
-
 pub begin-sum : (i : Item) → may_begin i ≡ true → is_sum i ≡ true
 begin-sum i is = grind arith
 
@@ -108,7 +95,7 @@ alone : (before : List Figure) (f : Figure) (fs : List Figure) → is_sum f.item
 alone before f [] sum agree right = with-sum f [] sum agree (no-groups 0)
 alone before f (g ∷ fs) sum agree right =
     let stands = one-stands 0 before f g fs right in
-    let next = after-only f.item g.item stands.follows in
+    let next : is_sum g.item ≡ true = grind (arith, stands.follows) in
     with-sum f (g ∷ fs) sum agree (alone (before ++ g ∷ []) g fs next (sum-parts 0 before f g fs stands next).1 stands.rest)
 
 -- where samples are met, the extremes follow each sum
@@ -136,7 +123,7 @@ module _ (m : ℕ) where
       let second = one-stands (suc m) (before ++ l ∷ []) l h rest first.rest in
       let one = follows before f l (h ∷ rest) first in
       let two = follows (before ++ l ∷ []) l h rest second in
-      let items = follow-sum f.item l.item h.item sum one two in
+      let items : Follows f.item l.item h.item = record { low = grind arith; high = grind arith; next = λ i three. grind arith } in
       let low_follows : extreme_follows f l ≡ true = rw items.low at first.own in
       let high_follows : extreme_follows l h ≡ true = rw items.high at second.own in
       let count : (suc m == 0) ≡ false = ne_eqb (suc m) 0 (λ e. absurd (omega arith)) in
@@ -156,10 +143,10 @@ module _ (m : ℕ) where
   }
 
   trios : (before : List Figure) (f : Figure) (fs : List Figure) → is_sum f.item ≡ true → agrees (suc m) f fs ≡ true → flaw_behind (suc m) before f fs ≡ None → AreGroups (suc m) (f ∷ fs)
-  trios before f [] sum agree right = absurd (sum-open f.item sum (ends before f right))
+  trios before f [] sum agree right = absurd (grind (arith, ends before f right))
   trios before f (l ∷ []) sum agree right =
       let first = one-stands (suc m) before f l [] right in
-      absurd (least-open f.item l.item sum (follows before f l [] first) (ends (before ++ l ∷ []) l first.rest))
+      absurd (grind (arith, follows before f l [] first, ends (before ++ l ∷ []) l first.rest))
   trios before f (l ∷ h ∷ []) sum agree right = with-trio f l h [] sum (has-trio before f l h [] sum agree right) (no-groups (suc m))
   trios before f (l ∷ h ∷ g ∷ rest) sum agree right =
       let trio = has-trio before f l h (g ∷ rest) sum agree right in

@@ -51,12 +51,10 @@ rising-same low (c ∷ cs) (d ∷ ds) rise other same =
     let count : c.count ≡ d.count = (let both = same c.horizon in let there : having c.horizon (d ∷ ds) ≡ d.count = ap (λ (t : ℕ). having t (d ∷ ds)) equal ∙ next in omega arith) in
     let rest : cs ≡ ds = rising-same (suc c.horizon) cs ds rise.1.1 (rw equal other.1.1) (λ t. (let both = same t in
     let first : cond {A = ℕ} (c.horizon == t) c.count 0 ≡ cond {A = ℕ} (d.horizon == t) d.count 0 = rw (equal, count) refl in omega arith)) in
-    joined c d cs ds equal count rest))
+    let one : c ≡ d = count-record c.horizon d.horizon c.count d.count equal count in
+    cc))
     (λ less. (let both = same c.horizon in let none = having-none c.horizon d.horizon (d ∷ ds) (omega arith, other.1) less in absurd (omega arith)))
     (λ more. (let both = same d.horizon in let none = having-none d.horizon c.horizon (c ∷ cs) (omega arith, rise.1) more in absurd (omega arith)))
-  where
-    joined : (c d : HorizonCount) (cs ds : List HorizonCount) → c.horizon ≡ d.horizon → c.count ≡ d.count → cs ≡ ds → c ∷ cs ≡ d ∷ ds
-    joined c d cs ds one two rest = ap (λ (xs : List HorizonCount). c ∷ xs) rest ∙ ap (λ (h : HorizonCount). h ∷ ds) (count-record c.horizon d.horizon c.count d.count one two)
 
 -- ---- one count more, and many
 

@@ -1,6 +1,6 @@
 -- The reports of two lists of samples of one network are merged into that of both.
 use Rattle.std.specs.Prelude.{◌≡◌, ℕ, ◌+◌, List, ◌++◌, length, Ok}
-use Rattle.std.proofs.Common.{ap, sym, ◌∙◌}
+use Rattle.std.proofs.Common.{ap, ◌∙◌}
 use Rattle.std.proofs.lemmas.List.{length-append}
 use Rattle.psi_state.specs.declared.Outcome.{Outcome}
 use Rattle.psi_net_model.specs.Network.{Network}
@@ -30,10 +30,8 @@ told-joined net m n xs ys gs hs =
 contents-joined : (net : Network) (outcomes others : List Outcome) → joined (contents_of net outcomes) (contents_of net others) ≡ contents_of net (outcomes ++ others)
 unfolding contents_of
 contents-joined net outcomes others =
-    told-joined net (length outcomes) (length others) (met_states outcomes) (met_states others) (met_horizons outcomes) (met_horizons others)
-    ∙ ap (λ n. told net n (met_states outcomes ++ met_states others) (met_horizons outcomes ++ met_horizons others)) (sym (length-append outcomes others))
-    ∙ ap (λ xs. told net (length (outcomes ++ others)) xs (met_horizons outcomes ++ met_horizons others)) (sym (met_states-append outcomes others))
-    ∙ ap (λ hs. told net (length (outcomes ++ others)) (met_states (outcomes ++ others)) hs) (sym (met_horizons-append outcomes others))
+    rw (length-append outcomes others, met_states-append outcomes others, met_horizons-append outcomes others)
+    (told-joined net (length outcomes) (length others) (met_states outcomes) (met_states others) (met_horizons outcomes) (met_horizons others))
 
 -- what can be told of both is merged
 pub merged-fit : (net : Network) (outcomes others : List Outcome) → IsReport (contents_of net (outcomes ++ others))

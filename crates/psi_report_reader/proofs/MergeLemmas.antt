@@ -1,7 +1,8 @@
 -- Reports that are merged, part by part.
 use Rattle.std.specs.Prelude.{◌≡◌, ℕ, ◌+◌, ◌^◌, ◌<◌, ◌≤◌, List, [], ◌∷◌, length, slice_index_or, All, true, false, Some, None, Result, Ok, Err, refl}
-use Rattle.std.proofs.Common.{ap, arith}
-use Rattle.std.proofs.lemmas.Bool.{lt-ltb, le-ltb, and_left, and_right}
+use Rattle.std.proofs.Common.{arith}
+use Rattle.std.proofs.lemmas.Bool.{lt-ltb, le-ltb}
+use Rattle.std.proofs.lemmas.Bool.Decides.{nat_tests}
 use Rattle.std.proofs.lemmas.List.Elements.{All-head, All-tail}
 use Rattle.std.proofs.lemmas.List.Sums.{list_all-from_AllPass}
 use Rattle.std.specs.Int.RustNames.{unsigned_abs}
@@ -16,9 +17,6 @@ use Rattle.psi_report_reader.specs.Sound.{line_at}
 use Rattle.psi_report_reader.specs.Merging.{sums_of, difference, line_of_sum, is_count, counts_fit, large_figure, too_large, joined_figures, joined, fitting, merged, Merges}
 use Rattle.psi_report_reader.proofs.FieldLemmas.{FitsCount, FitsFigure}
 
-refused : (b c : Contents) (line : ℕ) → too_large b c ≡ Some line → fitting b c ≡ Err (TooLarge line)
-refused b c line is = rw is refl
-
 pub accepted : (b c : Contents) → too_large b c ≡ None → fitting b c ≡ Ok c
 accepted b c is = rw is refl
 
@@ -26,18 +24,16 @@ accepted b c is = rw is refl
 module _ (a b : Contents) where
   pub samples-large : 18446744073709551616 ≤ a.samples + b.samples → fitting b (joined a b) ≡ Err (TooLarge 2)
   unfolding joined too_large
-  samples-large large = refused b (joined a b) 2 (rw (le-ltb (a.samples + b.samples) 18446744073709551616 large) refl)
+  samples-large large = rw (le-ltb (a.samples + b.samples) 18446744073709551616 large) refl
 
   module _ (few : a.samples + b.samples < 18446744073709551616) where
     pub met-large : 18446744073709551616 ≤ a.met + b.met → fitting b (joined a b) ≡ Err (TooLarge 3)
     unfolding joined too_large
-    met-large large = refused b (joined a b) 3
-        (rw (lt-ltb (a.samples + b.samples) 18446744073709551616 few, and_left (is_count (a.met + b.met)) (counts_fit (joined_counts a.horizons b.horizons)) (le-ltb (a.met + b.met) 18446744073709551616 large)) refl)
+    met-large large = grind (arith, nat_tests)
 
     pub counts-large : counts_fit (joined_counts a.horizons b.horizons) ≡ false → fitting b (joined a b) ≡ Err (TooLarge 3)
     unfolding joined too_large
-    counts-large large = refused b (joined a b) 3
-        (rw (lt-ltb (a.samples + b.samples) 18446744073709551616 few, and_right (is_count (a.met + b.met)) (counts_fit (joined_counts a.horizons b.horizons)) large) refl)
+    counts-large large = grind (arith, nat_tests)
 
     module _ (some : a.met + b.met < 18446744073709551616) (counts_are : counts_fit (joined_counts a.horizons b.horizons) ≡ true) where
       pub figures-large : (k first line : ℕ) → large_figure 0 (joined_figures a.met b.met a.figures b.figures) ≡ Some k
@@ -45,8 +41,7 @@ module _ (a b : Contents) where
       unfolding joined too_large
       figures-large k first line large begin at =
           let whole : line_at ((5 + length b.horizons) + k) ≡ line = omega arith in
-          refused b (joined a b) line
-          (rw (lt-ltb (a.samples + b.samples) 18446744073709551616 few, lt-ltb (a.met + b.met) 18446744073709551616 some, counts_are, large) (ap Some whole))
+          rw (lt-ltb (a.samples + b.samples) 18446744073709551616 few, lt-ltb (a.met + b.met) 18446744073709551616 some, counts_are, large, whole) refl
 
   -- all parts fit
   pub parts-fit : (s m : ℕ) (hs : List HorizonCount) (fs : List Figure) → s < 18446744073709551616 → s ≡ a.samples + b.samples → m < 18446744073709551616 → m ≡ a.met + b.met

@@ -18,12 +18,9 @@ pub name-invalid : (bytes : List ℕ) → (IsUtf8 bytes → ⊥) → ◌≡◌ {
 unfolding name_in
 name-invalid bytes isnt = rw (false_from_ne_true (is_utf8 bytes) (λ is. isnt (IsUtf8-from_is_utf8 bytes is))) refl
 
-name-byte-small : (byte : ℕ) → is_name_byte byte ≡ true → byte < 128
-name-byte-small byte is = grind (arith, nat_tests)
-
 name-ascii : (word : List ℕ) → list_all is_name_byte word ≡ true → (i : ℕ) → slice_index word i < 128
 name-ascii [] are i = omega arith
-name-ascii (b ∷ bs) are zero = name-byte-small b (and_parts (is_name_byte b) (list_all is_name_byte bs) are).0
+name-ascii (b ∷ bs) are zero = grind (arith, nat_tests)
 name-ascii (b ∷ bs) are (suc i) = name-ascii bs (and_parts (is_name_byte b) (list_all is_name_byte bs) are).1 i
 
 pub name-bytes : (word : List ℕ) → is_name word ≡ true → list_all is_name_byte word ≡ true

@@ -3,7 +3,7 @@ use Rattle.std.specs.Prelude.{◌≡◌, ℕ, ◌^◌, ◌<◌, ℤ, pos, negsuc
 use Rattle.std.specs.Fmt.{decimal, signed_decimal}
 use Rattle.std.specs.Int.RustNames.{unsigned_abs}
 use Rattle.std.specs.List.{list_any, list_all, slice_split}
-use Rattle.std.proofs.Common.{ap, ◌∙◌, append_assoc, arith}
+use Rattle.std.proofs.Common.{append_assoc, arith}
 use Rattle.std.proofs.lemmas.Bool.Decides.{nat_tests}
 use Rattle.std.proofs.lemmas.List.{append-nil}
 use Rattle.std.proofs.lemmas.List.Elements.{All-cons, All-head, All-tail, All-append, All-weaker}
@@ -34,11 +34,8 @@ name-byte-plain byte is = record {
 pub name-bytes-plain : (word : List ℕ) → list_all is_name_byte word ≡ true → All IsPlain word
 name-bytes-plain word are k d less = name-byte-plain (slice_index_or word k d) (AllPass-from_list_all is_name_byte word are k d less)
 
-digit-plain : (byte : ℕ) → IsDigit byte → IsPlain byte
-digit-plain byte is = name-byte-plain byte (grind (arith, nat_tests))
-
 pub decimal-plain : (n : ℕ) → n < 10 ^ 64 → All IsPlain (decimal n)
-decimal-plain n fits = All-weaker IsDigit IsPlain digit-plain (decimal n) (decimal-digits n fits).digits
+decimal-plain n fits = All-weaker IsDigit IsPlain (λ byte is. name-byte-plain byte (grind (arith, nat_tests))) (decimal n) (decimal-digits n fits).digits
 
 pub signed-plain : (z : ℤ) → unsigned_abs z < 10 ^ 37 → All IsPlain (signed_decimal z)
 signed-plain (pos n) fits = decimal-plain n (omega arith)
@@ -79,6 +76,4 @@ line-ends a b c rest first second third =
 -- and is parted by its commas into the fields
 pub line-fields : (a b c : List ℕ) → All IsPlain a → All IsPlain b → All IsPlain c → slice_split is_comma (line a b c) ≡ a ∷ b ∷ c ∷ []
 line-fields a b c first second third =
-    slice_split_at is_comma a 44 (b ++ 44 ∷ c) (no-comma a first) refl
-    ∙ ap (λ (fields : List (List ℕ)). a ∷ fields) (slice_split_at is_comma b 44 c (no-comma b second) refl)
-    ∙ ap (λ (fields : List (List ℕ)). a ∷ b ∷ fields) (slice_split_none is_comma c (no-comma c third))
+    cc (slice_split_at is_comma a 44 (b ++ 44 ∷ c) (no-comma a first) refl, slice_split_at is_comma b 44 c (no-comma b second) refl, slice_split_none is_comma c (no-comma c third))

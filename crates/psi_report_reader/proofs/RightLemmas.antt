@@ -15,8 +15,8 @@ pub record IsRight (c : Contents) : Type 0 where
   pub first : first_flaw c.met c.figures ≡ None
   pub figures : figures_flaw c.met c.figures ≡ None
 
-no-first : (j k : Option ℕ) → first_of j k ≡ None → j ≡ None
-no-first j k is = grind arith
+pub none-first : (j k : Option ℕ) → first_of j k ≡ None → (j ≡ None) × (k ≡ None)
+none-first j k is = grind arith
 
 -- a figure that stands on no line is none
 pub no-line : (c : Contents) (k : Option ℕ) → figures_line c k ≡ None → k ≡ None
@@ -32,5 +32,5 @@ right-parts c is = elim (cases_Bool (nat_lt c.samples c.met)) [
   | inl more ↦ (let never : ◌≡◌ {A = Option ℕ} (Some 3) None = rw more at is in absurd cc)
   | inr few ↦ (
       let rows = no-rows-line c (horizons_flaw 0 None c.met c.horizons) (rw few at is) in
-      record { few = ltb-false c.samples c.met few; horizons = rows.0; first = rows.1; figures = no-first (figures_flaw c.met c.figures) (varying_reward c.figures) rows.1 })
+      record { few = ltb-false c.samples c.met few; horizons = rows.0; first = rows.1; figures = (none-first (figures_flaw c.met c.figures) (varying_reward c.figures) rows.1).0 })
 ]

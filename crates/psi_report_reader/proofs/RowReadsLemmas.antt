@@ -1,5 +1,5 @@
 -- The rows of a report are read one after another, each as its contents.
-use Rattle.std.specs.Prelude.{◌≡◌, ℕ, ◌+◌, ◌-◌, ◌^◌, ◌<◌, ℤ, List, [], ◌∷◌, ◌++◌, map, codes, All, true, Option, None, Some, Result, Ok, refl}
+use Rattle.std.specs.Prelude.{◌≡◌, ℕ, ◌+◌, ◌-◌, ◌^◌, ◌<◌, ℤ, List, [], ◌∷◌, ◌++◌, map, codes, All, true, Some, Result, Ok, refl}
 use Rattle.std.specs.Fmt.{decimal, signed_decimal}
 use Rattle.std.specs.Int.RustNames.{unsigned_abs}
 use Rattle.std.specs.List.{slice_split}
@@ -26,12 +26,9 @@ read_rows n c (fields ∷ rows) = behind n (λ d. read_rows (n + 1) d rows) (wit
 read-fields : (n : ℕ) (c : Contents) (lines : List (List ℕ)) → read_lines n c lines ≡ read_rows n c (map (slice_split is_comma) lines)
 unfolding read_lines
 read-fields n c [] = refl
-read-fields n c (line ∷ lines) = go (with_row c (slice_split is_comma line)) (λ d. read-fields (n + 1) d lines)
-  where
-    go : (o : Option Contents) → ((d : Contents) → read_lines (n + 1) d lines ≡ read_rows (n + 1) d (map (slice_split is_comma) lines))
-        → behind n (λ d. read_lines (n + 1) d lines) o ≡ behind n (λ d. read_rows (n + 1) d (map (slice_split is_comma) lines)) o
-    go None rest = refl
-    go (Some d) rest = rest d
+read-fields n c (line ∷ lines) =
+    let rest : (d : Contents) → read_lines (n + 1) d lines ≡ read_rows (n + 1) d (map (slice_split is_comma) lines) = λ d. read-fields (n + 1) d lines in
+    grind (arith, rest)
 
 row-read : (n : ℕ) (c d : Contents) (a b v : List ℕ) (rows : List (List (List ℕ))) → with_fields c a b v ≡ Some d → read_rows n c ((a ∷ b ∷ v ∷ []) ∷ rows) ≡ read_rows (n + 1) d rows
 unfolding with_row
@@ -40,14 +37,6 @@ row-read n c d a b v rows told = ap (behind n (λ e. read_rows (n + 1) e rows)) 
 -- what is told, from its parts
 abbrev told : ℕ → ℕ → List HorizonCount → List Figure → Contents
 told samples met horizons figures = record { samples = samples; met = met; horizons = horizons; figures = figures }
-
-samples-fields : (c : Contents) (n : ℕ) → n < 2 ^ 64 → with_fields c (codes "samples") (codes "-") (decimal n) ≡ Some (record c { samples = n })
-unfolding with_fields
-samples-fields c n fits = ap (with_samples c) (count-decimal n fits)
-
-met-fields : (c : Contents) (n : ℕ) → n < 2 ^ 64 → with_fields c (codes "met") (codes "-") (decimal n) ≡ Some (record c { met = n })
-unfolding with_fields
-met-fields c n fits = ap (with_met c) (count-decimal n fits)
 
 horizon-fields : (c : Contents) (t n : ℕ) → t < 2 ^ 64 → n < 2 ^ 64
     → with_fields c (codes "horizon") (decimal t) (decimal n) ≡ Some (record c { horizons = c.horizons ++ record { horizon = t; count = n } ∷ [] })
@@ -67,8 +56,7 @@ figures-read n s m hs before (f ∷ fs) all =
     let fits : FitsFigure f = All-head FitsFigure f fs all in
     row-read n (told s m hs before) (told s m hs (before ++ f ∷ [])) (item_text f.item) f.name (signed_decimal f.value) (map figure_row fs ++ last_line)
     (figure-fields (told s m hs before) f.item f.name f.value fits.0 fits.1)
-    ∙ figures-read (n + 1) s m hs (before ++ f ∷ []) fs (All-tail FitsFigure f fs all)
-    ∙ ap (λ (gs : List Figure). Ok (told s m hs gs)) (append_assoc before (f ∷ []) fs)
+    ∙ cc (figures-read (n + 1) s m hs (before ++ f ∷ []) fs (All-tail FitsFigure f fs all), append_assoc before (f ∷ []) fs)
 
 -- and before them those of horizons
 horizons-read : (n s m : ℕ) (before hs : List HorizonCount) (fs : List Figure) → All FitsCount hs → All FitsFigure fs
@@ -79,30 +67,21 @@ horizons-read n s m before (h ∷ hs) fs all fit =
     let fits : FitsCount h = All-head FitsCount h hs all in
     row-read n (told s m before []) (told s m (before ++ h ∷ []) []) (codes "horizon") (decimal h.horizon) (decimal h.count) (map count_row hs ++ (map figure_row fs ++ last_line))
     (horizon-fields (told s m before []) h.horizon h.count fits.0 fits.1)
-    ∙ horizons-read (n + 1) s m (before ++ h ∷ []) hs fs (All-tail FitsCount h hs all) fit
-    ∙ ap (λ (gs : List HorizonCount). Ok (told s m gs fs)) (append_assoc before (h ∷ []) hs)
-
-heading-fields : with_fields blank (codes "item") (codes "name") (codes "value") ≡ Some blank
-unfolding with_fields
-heading-fields = refl
-
-uncoupled-fields : (c : Contents) (n : ℕ) → with_fields c (codes "uncoupled") (codes "-") (decimal n) ≡ Some c
-unfolding with_fields
-uncoupled-fields c n = refl
+    ∙ cc (horizons-read (n + 1) s m (before ++ h ∷ []) hs fs (All-tail FitsCount h hs all) fit, append_assoc before (h ∷ []) hs)
 
 -- all rows
 rows-read : (c : Contents) → IsReport c → read_rows 1 blank (contents_rows c ++ last_line) ≡ Ok c
-unfolding contents_rows number_rows
+unfolding contents_rows number_rows with_fields
 rows-read c is =
     let none : Contents = told c.samples 0 [] [] in
     let both : Contents = told c.samples c.met [] [] in
     let four = (map count_row c.horizons ++ map figure_row c.figures) ++ last_line in
     let three = samples_row (codes "uncoupled") (c.samples - c.met) ∷ four in
     let two = samples_row (codes "met") c.met ∷ three in
-    row-read 1 blank blank (codes "item") (codes "name") (codes "value") (samples_row (codes "samples") c.samples ∷ two) heading-fields
-    ∙ row-read 2 blank none (codes "samples") (codes "-") (decimal c.samples) two (samples-fields blank c.samples is.samples)
-    ∙ row-read 3 none both (codes "met") (codes "-") (decimal c.met) three (met-fields none c.met is.met)
-    ∙ row-read 4 both both (codes "uncoupled") (codes "-") (decimal (c.samples - c.met)) four (uncoupled-fields both (c.samples - c.met))
+    row-read 1 blank blank (codes "item") (codes "name") (codes "value") (samples_row (codes "samples") c.samples ∷ two) refl
+    ∙ row-read 2 blank none (codes "samples") (codes "-") (decimal c.samples) two (ap (with_samples blank) (count-decimal c.samples is.samples))
+    ∙ row-read 3 none both (codes "met") (codes "-") (decimal c.met) three (ap (with_met none) (count-decimal c.met is.met))
+    ∙ row-read 4 both both (codes "uncoupled") (codes "-") (decimal (c.samples - c.met)) four refl
     ∙ ap (read_rows 5 both) (append_assoc (map count_row c.horizons) (map figure_row c.figures) last_line)
     ∙ horizons-read 5 c.samples c.met [] c.horizons c.figures is.horizons is.figures
 

@@ -2,7 +2,8 @@
 use Rattle.std.specs.Prelude.{◌≡◌, ℕ, ◌+◌, ◌*◌, ◌^◌, ◌<◌, ◌≤◌, ℤ, pos, List, [], ◌∷◌, ◌++◌, map, length, All, unsigned_abs, count_ones, slice_index, Bool, true, refl}
 use Rattle.std.specs.Int.Count.{ones}
 use Rattle.std.proofs.Common.{ap, sym, ◌∙◌, subst, arith}
-use Rattle.std.proofs.Math.Pow.{pow-lt, pow_pos}
+use Rattle.std.proofs.Math.Nat.{pow-le-pow_right}
+use Rattle.std.proofs.Math.Pow.{pow_pos}
 use Rattle.std.proofs.lemmas.Bool.{eq-eqb, le-leb, leb-true}
 use Rattle.std.proofs.lemmas.Int.{ints}
 use Rattle.std.proofs.lemmas.List.{length-map}
@@ -33,7 +34,6 @@ use Rattle.psi_report_reader.proofs.ReadLemmas.{text_is_read}
 use Rattle.psi_report_reader.proofs.PowerLemmas.{one-bit, no-bit}
 use Rattle.psi_report_reader.proofs.SmallLemmas.{IsMost, IsMostAt, told-fit}
 use Rattle.psi_report_reader.proofs.WorthLemmas.{held-few, worth-few, all-left, all-right}
-use Rattle.psi_report_reader.proofs.OrderLemmas.{by_order}
 
 -- ---- horizons
 
@@ -42,14 +42,8 @@ ones-pow k =
     let whole : 1 * 2 ^ k + 0 ≡ 2 ^ k = omega arith in
     ap ones (sym whole) ∙ ones_cat k 1 0 (pow_pos k) ∙ (let first = one-bit in let last = no-bit in omega arith)
 
-pow-most : (k : ℕ) → k ≤ 22 → 2 ^ k ≤ 4194304
-pow-most k few = by_order k 22
-    (λ same. rw same (omega arith))
-    (λ less. (let below : 2 ^ k < 2 ^ 22 = pow-lt less in omega arith))
-    (λ more. absurd (omega arith))
-
 pub horizon-few : (t : ℕ) → IsHorizon t → t ≤ 4194304
-horizon-few t is = rw is.power (pow-most is.exponent is.few)
+horizon-few t is = rw is.power (let most : 2 ^ is.exponent ≤ 2 ^ 22 = pow-le-pow_right (omega arith) is.few in omega arith)
 
 horizon-is : (t : ℕ) → IsHorizon t → is_horizon t ≡ true
 horizon-is t is =
@@ -130,12 +124,6 @@ module _ (net : Network) (outcomes : List Outcome) (are : AreOf net outcomes) wh
 
 -- ---- what is told of them can be read
 
-customers-most : (z : ℤ) → is_customers z ≡ true → IsMost 2097120000000000 z
-customers-most z is = grind (arith, ints)
-
-worth-most : (z : ℤ) → is_reward_value z ≡ true → IsMost 2097120000000000 z
-worth-most z is = leb-true (unsigned_abs z) 2097120000000000 is
-
 most-at : (p : ℤ → Bool) → ((z : ℤ) → p z ≡ true → IsMost 2097120000000000 z) → (states : List (List ℕ)) (qs : List Quantity) → ArePassing p states qs
     → All (λ name. is_name name ≡ true) (map (λ q. q.name) qs) → All (IsMostAt 2097120000000000 states) qs
 most-at p most states [] passing names = All-nil (IsMostAt 2097120000000000 states)
@@ -150,9 +138,9 @@ samples-fit net outcomes are few =
     let rewards = rewards-shown net outcomes are in
     told-fit 2097120000000000 (2 ^ 64) (omega arith) (omega arith) net outcomes few (omega arith)
     (All-weaker IsHorizon (λ t. t < 2 ^ 64) (λ t is. (let most = horizon-few t is in omega arith)) (met_horizons outcomes) (met-are net outcomes are.samples).0)
-    (most-at is_customers customers-most (met_states outcomes) (queue_quantities net) queues.passing
+    (most-at is_customers (λ z is. grind (arith, ints)) (met_states outcomes) (queue_quantities net) queues.passing
     (subst (All (λ name. is_name name ≡ true)) (sym (names-queues 0 net.queues)) are.network.queue_names.each))
-    (most-at is_reward_value worth-most (met_states outcomes) (reward_quantities net) rewards.passing
+    (most-at is_reward_value (λ z is. leb-true (unsigned_abs z) 2097120000000000 is) (met_states outcomes) (reward_quantities net) rewards.passing
     (subst (All (λ name. is_name name ≡ true)) (sym (names-rewards net.rewards)) are.network.reward_names.each))
 
 pub samples_read : SamplesAreRead

@@ -1,5 +1,5 @@
 -- The report of samples of a network that a file may describe is short.
-use Rattle.std.specs.Prelude.{◌≡◌, ℕ, suc, ◌+◌, ◌*◌, ◌^◌, ◌<◌, ◌≤◌, ℤ, List, [], ◌∷◌, map, length, All}
+use Rattle.std.specs.Prelude.{◌≡◌, ℕ, suc, ◌+◌, ◌*◌, ◌^◌, ◌<◌, ◌≤◌, List, [], ◌∷◌, length, All}
 use Rattle.std.specs.List.{flat_map}
 use Rattle.std.proofs.Common.{ap, arith}
 use Rattle.std.proofs.Math.Nat.{pow-le-pow_right}
@@ -11,7 +11,7 @@ use Rattle.psi_report.specs.Samples.{IsHorizon, met_states, met_horizons}
 use Rattle.psi_report.specs.Distinct.{distinct}
 use Rattle.psi_report.specs.Quantities.{Quantity, queue_quantities, reward_quantities}
 use Rattle.psi_report.specs.Text.{rows_text, number_rows, contents_rows, text_of}
-use Rattle.psi_report.specs.Report.{Trio, queue_trio, reward_trio, quantity_figures, figures_of, horizon_count, contents_of}
+use Rattle.psi_report.specs.Report.{Trio, queue_trio, reward_trio, quantity_figures, horizon_count, contents_of}
 use Rattle.psi_report.specs.declared.figure.HorizonCount.{HorizonCount}
 use Rattle.psi_report.specs.Contents.{Contents}
 use Rattle.psi_report_reader.specs.Reading.{IsReport}
@@ -43,13 +43,11 @@ text-length c is = (let long = simp (length-append, length-map) at (rows-length 
 
 -- ---- figures
 
-values-few : (trio : Trio) (name : List ℕ) (zs : List ℤ) → length (figures_of trio name zs) ≤ 3
-values-few trio name [] = omega arith
-values-few trio name (z ∷ zs) = omega arith
-
 figures-few : (trio : Trio) (states : List (List ℕ)) (qs : List Quantity) → length (flat_map (quantity_figures trio states) qs) ≤ 3 * length qs
 figures-few trio states [] = omega arith
-figures-few trio states (q ∷ qs) = simp length-append (omega (arith, values-few trio q.name (map q.value states), figures-few trio states qs))
+figures-few trio states (q ∷ qs) =
+    let here : length (quantity_figures trio states q) ≤ 3 = grind arith in
+    simp length-append (omega (arith, figures-few trio states qs))
 
 -- ---- horizons
 

@@ -17,7 +17,7 @@ use Rattle.psi_report.specs.declared.figure.Figure.{Figure}
 use Rattle.psi_report.specs.Report.{figure}
 use Rattle.psi_report_reader.specs.Reached.{is_of_queue}
 use Rattle.psi_report_reader.specs.Samples.{AreNames}
-use Rattle.psi_report_reader.specs.Sound.{may_follow, is_sum, may_begin, same_sum, most_of, is_new, flaw_behind, figures_flaw}
+use Rattle.psi_report_reader.specs.Sound.{may_follow, is_sum, same_sum, most_of, is_new, flaw_behind, figures_flaw}
 use Rattle.psi_report_reader.specs.Merging.{sums_of}
 use Rattle.psi_report_reader.specs.Lines.{ReportsShowNetworks}
 use Rattle.psi_report_reader.proofs.FieldLemmas.{FitsFigure}
@@ -36,7 +36,7 @@ kept-push : (i : Item) (before : List Figure) (f : Figure) → (is_sum f.item �
 kept-push i before f new named kept = elim (cases_Bool (same_sum f.item i)) [
   | inl own ↦ (
       let same : f.item ≡ i = same-sums f.item i own in
-      let fresh = rw same at (new-out before f (new (sums-of f.item i own))) in
+      let fresh = rw same at (new-out before f (new (grind arith))) in
       let long = length-append (names i before) (f.name ∷ []) in
       rw (names-append, own) (record {
         are = record {
@@ -47,9 +47,6 @@ kept-push i before f new named kept = elim (cases_Bool (same_sum f.item i)) [
       }))
   | inr other ↦ rw (names-append, other, append-nil (names i before)) kept
 ]
-  where
-    sums-of : (i j : Item) → same_sum i j ≡ true → is_sum i ≡ true
-    sums-of i j same = grind arith
 
 kept-behind : (i : Item) (n : ℕ) (before : List Figure) (e : Figure) (fs : List Figure) → All FitsFigure fs → flaw_behind n before e fs ≡ None → AreKept (most_of i) (names i before)
     → AreKept (most_of i) (names i (before ++ fs))
@@ -107,15 +104,12 @@ pub record HaveNames (fs : List Figure) : Type 0 where
   pub rewards : AreKept 64 (names RewardSum fs)
   pub some : 1 ≤ length (names Sum fs)
 
-begins : (i : Item) → may_begin i ≡ true → i ≡ Sum
-begins i is = grind arith
-
 pub names-shown : (n : ℕ) (fs : List Figure) → All FitsFigure fs → figures_flaw n fs ≡ None → HaveNames fs
 names-shown n [] fits right = absurd cc
 names-shown n (f ∷ fs) fits right =
     let stands = first-stands n f fs right in
     let own : FitsFigure f = All-head FitsFigure f fs fits in
-    let sum = begins f.item stands.begins in
+    let sum : f.item ≡ Sum = grind (arith, stands.begins) in
     let kept : (i : Item) → AreKept (most_of i) (names i (f ∷ fs)) = λ i.
     kept-behind i n (f ∷ []) f fs (All-tail FitsFigure f fs fits) stands.rest
     (kept-push i [] f (λ is. stands.new) own.0 (record { are = record { each = All-nil (λ name. is_name name ≡ true); differ = tt }; few = omega arith })) in
@@ -175,6 +169,5 @@ reports_show c is none =
         rewards = rewards-are (caps_of net) (rw (length-map, length-map) shown.some) rewards;
         reward_names = subst AreNames (sym (map-twice (λ (r : NamedReward). r.name) reward_of rewards ∙ map-id rewards)) shown.rewards.are;
       };
-      same = shown.same ∙ sym (ap (λ (front : List Shown). front ++ map by_reward net.rewards) (map-twice by_queue queue_of queues)
-          ∙ ap (λ (back : List Shown). map queue_shown queues ++ back) (map-twice by_reward reward_of rewards));
+      same = cc (shown.same, map-twice by_queue queue_of queues, map-twice by_reward reward_of rewards);
     }

@@ -2,7 +2,7 @@
 use Rattle.std.specs.Prelude.{◌≡◌, ℕ, ◌<◌, List, [], ◌∷◌, ◌++◌, map, length, filter, not, true, ◌&&◌, count_by, refl}
 use Rattle.std.specs.List.{list_all}
 use Rattle.std.specs.Str.{bytes_eq}
-use Rattle.std.proofs.Common.{ap, sym, ◌∙◌, inl, inr, arith}
+use Rattle.std.proofs.Common.{ap, ◌∙◌, inr, arith}
 use Rattle.std.proofs.lemmas.Bool.{lt-ltb}
 use Rattle.std.proofs.lemmas.Bool.Decides.{nat_tests}
 use Rattle.std.proofs.lemmas.List.{map-append, length-map}
@@ -55,10 +55,5 @@ new-in fs f out few =
 
 pub distinct-push : (xs : List (List ℕ)) (x : List ℕ) → IsDistinct xs → (In x xs → ⊥) → IsDistinct (xs ++ x ∷ [])
 distinct-push [] x differ out = ((λ there. there), tt)
-distinct-push (y ∷ xs) x differ out = (
-  (λ there. elim (In-append y xs (x ∷ []) there) [
-    | inl before ↦ differ.0 before
-    | inr last ↦ elim last [ inl is ↦ out (inl (sym is)) | inr none ↦ none ]
-  ]),
-  distinct-push xs x differ.1 (λ there. out (inr there)),
-)
+distinct-push (y ∷ xs) x differ out =
+    ((λ there. grind (arith, In-append y xs (x ∷ []))), distinct-push xs x differ.1 (λ there. out (inr there)))

@@ -22,7 +22,6 @@ use Rattle.psi_report_reader.specs.Samples.{AreOf}
 use Rattle.psi_report_reader.specs.Sound.{is_greatest, varies, varying_behind, varying_reward}
 use Rattle.psi_report_reader.proofs.SampleLemmas.{met-are}
 use Rattle.psi_report_reader.proofs.WorthLemmas.{least-has, greatest-has}
-use Rattle.psi_report_reader.proofs.OrderLemmas.{by_order}
 
 int-same : (y z : ℤ) → y ≡ z → int_eq y z ≡ true
 int-same y z same = (Decides-int_eq y z).1 same
@@ -50,14 +49,8 @@ one-least f x xs all =
 abbrev AreSame : ℕ → List ℕ → List ℕ → Type 0
 AreSame i x s = (j : ℕ) → j < i → slice_index s j ≡ slice_index x j
 
-same-more : (i : ℕ) (x s : List ℕ) → AreSame i x s → pos (slice_index s i) ≡ pos (slice_index x i) → AreSame (i + 1) x s
-same-more i x s same here j less = by_order j i
-    (λ at. rw at (omega (arith, ints)))
-    (λ before. same j before)
-    (λ past. absurd (omega arith))
-
 all-more : (i : ℕ) (x : List ℕ) (xs : List (List ℕ)) → All (AreSame i x) xs → All (λ s. pos (slice_index s i) ≡ pos (slice_index x i)) xs → All (AreSame (i + 1) x) xs
-all-more i x xs all here j d less = same-more i x (slice_index_or xs j d) (all j d less) (here j d less)
+all-more i x xs all here k d less j small = grind (arith, ints, all k d less j, here k d less)
 
 -- ---- figures
 
@@ -106,9 +99,6 @@ all-first caps x xs long below same i d less =
     let count = (below i d less).same_length in
     same_number_lists (slice_index_or xs i d) x (count ∙ sym long) (λ j small. same i d less j (omega arith))
 
-all-none : (x : List ℕ) (xs : List (List ℕ)) → All (AreSame 0 x) xs
-all-none x xs i d less j few = absurd (omega arith)
-
 -- the figures of no samples
 sums-steady : (rs : List Quantity) (k : ℕ) (e : Figure) → varying_behind k e (flat_map (quantity_figures reward_trio []) rs) ≡ None
 sums-steady [] k e = refl
@@ -135,7 +125,7 @@ steady caps queues rs (x ∷ xs) long below k e =
     let own : IsBelow x caps = All-head (λ s. IsBelow s caps) x xs below in
     let rest : All (λ s. IsBelow s caps) xs = All-tail (λ s. IsBelow s caps) x xs below in
     let count : 0 + length queues ≡ length caps = omega arith in
-    queues-steady x xs (flat_map (quantity_figures reward_trio (x ∷ xs)) rs) 0 queues k e (all-none x xs)
+    queues-steady x xs (flat_map (quantity_figures reward_trio (x ∷ xs)) rs) 0 queues k e (λ i d less j few. absurd (omega arith))
     (λ same. rewards-steady x xs (all-first caps x xs own.same_length rest (subst (λ (n : ℕ). All (AreSame n x) xs) count same)) rs)
 
 pub samples-steady : (net : Network) (outcomes : List Outcome) → AreOf net outcomes

@@ -1,8 +1,8 @@
 -- How much a reward makes of a state at most.
-use Rattle.std.specs.Prelude.{◌≡◌, ℕ, suc, ◌*◌, ◌≤◌, ℤ, pos, ◌+ℤ◌, List, [], ◌∷◌, ◌++◌, length, map, nat_lt, slice_index, slice_index_or, All, unsigned_abs, int_lt, Bool, true, false, None}
+use Rattle.std.specs.Prelude.{◌≡◌, ℕ, suc, ◌*◌, ◌≤◌, ℤ, pos, ◌+ℤ◌, List, [], ◌∷◌, ◌++◌, length, map, nat_lt, slice_index, slice_index_or, All, unsigned_abs, int_lt, true, false}
 use Rattle.std.specs.List.{flat_map}
-use Rattle.std.proofs.Common.{inl, inr, arith}
-use Rattle.std.proofs.lemmas.Bool.{cases_lt, cond_both, le-leb}
+use Rattle.std.proofs.Common.{arith}
+use Rattle.std.proofs.lemmas.Bool.{cond_both, le-leb}
 use Rattle.std.proofs.lemmas.Int.{ints, unsigned_abs-mul}
 use Rattle.std.proofs.lemmas.List.{length-map, get_or_past}
 use Rattle.std.proofs.lemmas.List.Elements.{All-nil, All-cons, All-head, All-tail, All-map}
@@ -17,17 +17,14 @@ use Rattle.psi_reward.specs.declared.kinds.RewardKind.TheVariants.{Linear, Table
 use Rattle.psi_reward.specs.Held.{held}
 use Rattle.psi_reward.specs.Sums.{weighted, entry, added}
 use Rattle.psi_reward.specs.Ranges.{least, greatest}
-use Rattle.psi_reward.specs.Refusing.{queues_of, IsSmall, first_refusal, is_none_listed, has_lengths}
+use Rattle.psi_reward.specs.Refusing.{queues_of, IsSmall}
 use Rattle.psi_reward.specs.Worth.{worth_of}
 use Rattle.psi_net_model.specs.Valid.{IsReward}
 use Rattle.psi_report_reader.specs.Sound.{is_reward_value}
 
 -- a number of a state of these capacities
 pub held-few : (caps x : List ℕ) (i : ℕ) → AreCapacities caps → IsBelow x caps → slice_index x i ≤ 65535
-held-few caps x i are below = elim (cases_lt i (length x)) [
-  | inl less ↦ (let here = below.each i less in let same = below.same_length in let most = are.most i (omega arith) in omega arith)
-  | inr past ↦ (let none = get_or_past x i 0 past in omega arith)
-]
+held-few caps x i are below = grind (arith, below.each i, below.same_length, are.most i, get_or_past x i 0)
 
 -- the least and the greatest of values have what the values have
 pub least-has : (P : ℤ → Type 0) (z : ℤ) (zs : List ℤ) → All P (z ∷ zs) → P (least (z ∷ zs))
@@ -55,10 +52,7 @@ weighted-few weight v small few =
     omega arith
 
 entry-few : (row : List ℤ) (v : ℕ) → All IsSmall row → IsOne (entry row v)
-entry-few row v small = elim (cases_lt v (length row)) [
-  | inl less ↦ (let one : unsigned_abs (entry row v) ≤ 1000000000 = small v (pos 0) less in omega arith)
-  | inr past ↦ (let none = get_or_past row v (pos 0) past in rw none (omega arith))
-]
+entry-few row v small = grind (arith, small v (pos 0), get_or_past row v (pos 0))
 
 sum-few : (y z : ℤ) (n : ℕ) → IsOne y → unsigned_abs z ≤ n * 65535000000000 → unsigned_abs (y +ℤ z) ≤ suc n * 65535000000000
 sum-few y z n one rest = omega (arith, ints)
@@ -98,12 +92,9 @@ greatest-few [] few = omega (arith, ints)
 greatest-few (v ∷ vs) few = (let one : unsigned_abs (greatest (map pos (v ∷ vs))) ≤ 65535 = greatest-has (λ z. unsigned_abs z ≤ 65535) (pos v) (map pos vs) (All-map (λ z. unsigned_abs z ≤ 65535) pos (v ∷ vs) few) in omega arith)
 
 -- no queue is listed twice, so no more than there are
-once-listed : (none : Bool) (repeat fits : Bool) → first_refusal none repeat fits ≡ None → repeat ≡ false
-once-listed none repeat fits is = grind arith
-
 few-queues : (caps : List ℕ) (kind : RewardKind) → AreCapacities caps → IsReward caps kind → length (queues_of kind) ≤ 32
 few-queues caps kind are is =
-    let once = once-listed (is_none_listed (queues_of kind)) (repeats (queues_of kind)) (has_lengths caps kind) is.accepted in
+    let once : repeats (queues_of kind) ≡ false = grind (arith, is.accepted) in
     let count : length (queues_of kind) ≤ length caps = few_places (length caps) (length (queues_of kind)) (λ i. slice_index (queues_of kind) i) (λ i less. is.queues i 0 less)
     (λ i j first second same. apart-from_repeats (queues_of kind) i j once first second same) in
     omega arith

@@ -1,21 +1,18 @@
 -- No samples have a report with the lines by which a line of another is wrong.
-use Rattle.std.specs.Prelude.{◌≡◌, ℕ, zero, suc, ◌+◌, ◌-◌, ◌≤◌, List, [], ◌∷◌, ◌++◌, map, length, drop, codes, decimal, All, ◌||◌, nat_lt, cond, Option, Some, None, refl}
+use Rattle.std.specs.Prelude.{◌≡◌, ℕ, zero, suc, ◌+◌, ◌-◌, ◌≤◌, List, [], ◌∷◌, ◌++◌, map, length, drop, codes, decimal, All, nat_lt, cond, Option, Some, None, refl}
 use Rattle.std.specs.List.{slice_get}
-use Rattle.std.specs.Str.{bytes_eq}
 use Rattle.std.proofs.Common.{ap, sym, ◌∙◌, append_assoc, inl, inr, arith}
 use Rattle.std.proofs.lemmas.Bool.{cases_Bool}
 use Rattle.std.proofs.lemmas.List.{length-map}
 use Rattle.std.proofs.lemmas.List.Elements.{All-head, All-tail}
 use Rattle.std.proofs.Math.Seq.{drop-append-add}
-use Rattle.psi_report.specs.Text.{number_rows, item_text, figure_row, count_row, contents_rows}
-use Rattle.psi_report.specs.declared.figure.Item.{Item}
-use Rattle.psi_report.specs.declared.figure.Item.TheVariants.{Sum, RewardSum}
+use Rattle.psi_report.specs.Text.{number_rows, figure_row, count_row, contents_rows}
 use Rattle.psi_report.specs.declared.figure.HorizonCount.{HorizonCount}
 use Rattle.psi_report.specs.declared.figure.Figure.{Figure}
 use Rattle.psi_report.specs.Contents.{Contents}
 use Rattle.psi_report.specs.Report.{contents_of}
 use Rattle.psi_report_reader.specs.Reading.{IsReport}
-use Rattle.psi_report_reader.specs.Sound.{is_sum, horizons_flaw, first_flaw, line_at, figures_line, rows_line, flaw_of}
+use Rattle.psi_report_reader.specs.Sound.{horizons_flaw, first_flaw, line_at, figures_line, rows_line, flaw_of}
 use Rattle.psi_report_reader.specs.Lines.{IsNumbered, begins_with_sum, lines_judged, WrongLinesAreNone}
 use Rattle.psi_report_reader.proofs.SampleLemmas.{samples-fit}
 use Rattle.psi_report_reader.proofs.SoundLemmas.{report_sound}
@@ -41,9 +38,7 @@ figures-alike m [] [] first second alike j less = refl
 figures-alike m [] (g ∷ gs) first second alike j less = (let e = alike 0 (omega arith) in let row : figure_row g ≡ [] ∷ [] = cc in absurd (figure-last g row))
 figures-alike m (f ∷ fs) [] first second alike j less = (let e = alike 0 (omega arith) in let row : figure_row f ≡ [] ∷ [] = cc in absurd (figure-last f row))
 figures-alike m (f ∷ fs) (g ∷ gs) first second alike zero less =
-    let e = alike 0 less in
-    let row : figure_row f ≡ figure_row g = cc in
-    ap Some (figure-same f g (All-head FitsFigure f fs first) (All-head FitsFigure g gs second) row)
+    ap Some (figure-same f g (All-head FitsFigure f fs first) (All-head FitsFigure g gs second) (let e = alike 0 less in cc))
 figures-alike m (f ∷ fs) (g ∷ gs) first second alike (suc j) less =
     figures-alike (m - 1) fs gs (All-tail FitsFigure f fs first) (All-tail FitsFigure g gs second) (λ i small. alike (suc i) (omega arith)) j (omega arith)
 
@@ -68,10 +63,7 @@ tails-alike (suc m) (c ∷ cs) (d ∷ ds) fs gs first second own other alike =
     record { horizons = each rest.horizons; figures = λ j less. rest.figures j (omega arith) }
   where
     each : Alike m cs ds → Alike (suc m) (c ∷ cs) (d ∷ ds)
-    each rest zero less =
-        let e = alike 0 less in
-        let row : count_row c ≡ count_row d = cc in
-        ap Some (count-same c d (All-head FitsCount c cs first) (All-head FitsCount d ds second) row)
+    each rest zero less = ap Some (count-same c d (All-head FitsCount c cs first) (All-head FitsCount d ds second) (let e = alike 0 less in cc))
     each rest (suc j) less = rest j (omega arith)
 
 all-rows : (c : Contents) → contents_rows c ++ last_line ≡ (codes "item" ∷ codes "name" ∷ codes "value" ∷ []) ∷ (number_rows c.samples c.met ++ tail_rows c.horizons c.figures)
@@ -104,18 +96,12 @@ tell-alike n c d is other least alike =
 
 -- ---- by how many lines a line is judged
 
-sum-row : (f : Figure) (rows : Rows) → begins_with_sum (figure_row f ∷ rows) ≡ is_sum f.item
-unfolding figure_row
-sum-row f rows = sum-item f.item
-  where
-    sum-item : (item : Item) → (bytes_eq (item_text item) (item_text Sum) || bytes_eq (item_text item) (item_text RewardSum)) ≡ is_sum item
-    sum-item item = grind arith
-
 -- a figure is judged by itself, and a sum by two more
 figure-lines : (n : ℕ) (fs : List Figure) (i : ℕ) → judged (figure_walk n) i fs ≡ suc i + cond {A = ℕ} (begins_with_sum (drop i (map figure_row fs))) 2 0
+unfolding figure_row
 figure-lines n [] zero = refl
 figure-lines n [] (suc i) = omega arith
-figure-lines n (f ∷ fs) zero = rw (sum-row f (map figure_row fs)) (omega arith)
+figure-lines n (f ∷ fs) zero = grind arith
 figure-lines n (f ∷ fs) (suc i) = (let rest = figure-lines n fs i in omega arith)
 
 judged-least : (c : Contents) (line : ℕ) → line ≤ lines_judged c line

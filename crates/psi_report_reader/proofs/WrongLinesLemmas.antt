@@ -7,9 +7,10 @@ use Rattle.psi_report.specs.declared.figure.Item.{Item}
 use Rattle.psi_report.specs.declared.figure.Item.TheVariants.{RewardGreatest}
 use Rattle.psi_report.specs.declared.figure.HorizonCount.{HorizonCount}
 use Rattle.psi_report.specs.declared.figure.Figure.{Figure}
-use Rattle.psi_report_reader.specs.Sound.{is_next, horizons_flaw, is_sum, is_alike, agrees_behind, may_begin, sum_stands, may_stand, may_end, flaw_behind, figures_flaw, varies, if_reward, varying_behind, varying_reward, first_of, first_flaw}
+use Rattle.psi_report_reader.specs.Sound.{is_next, horizons_flaw, is_sum, is_alike, agrees_behind, may_begin, sum_stands, may_stand, may_end, flaw_behind, figures_flaw, varies, varying_behind, varying_reward, first_of, first_flaw}
 use Rattle.psi_report_reader.specs.Merging.{difference}
 use Rattle.psi_report_reader.proofs.GroupLemmas.{begin-sum}
+use Rattle.psi_report_reader.proofs.RightLemmas.{none-first}
 use Rattle.psi_report_reader.proofs.WalkLemmas.{Alike, Walk, walked, judged, judged-own, walked-range, walked-wrong}
 
 -- ---- horizons
@@ -63,34 +64,14 @@ figures-walked n [] = refl
 figures-walked n (f ∷ fs) = ap (λ (o : Option ℕ). cond {A = Option ℕ} (may_begin f.item && sum_stands n [] f fs) o (Some 0)) (behind-walked n (f ∷ []) f fs)
 
 agrees-same : (n : ℕ) (f : Figure) (fs gs : List Figure) → Alike 2 fs gs → agrees_behind n f fs ≡ agrees_behind n f gs
-agrees-same n f [] [] alike = refl
-agrees-same n f [] (g ∷ gs) alike = (let e = alike 0 (omega arith) in absurd cc)
-agrees-same n f (h ∷ fs) [] alike = (let e = alike 0 (omega arith) in absurd cc)
-agrees-same n f (h ∷ []) (g ∷ []) alike = refl
-agrees-same n f (h ∷ []) (g ∷ i ∷ gs) alike = (let e = alike 1 (omega arith) in absurd cc)
-agrees-same n f (h ∷ j ∷ fs) (g ∷ []) alike = (let e = alike 1 (omega arith) in absurd cc)
-agrees-same n f (h ∷ j ∷ fs) (g ∷ i ∷ gs) alike =
-    let low : h ≡ g = (let e = alike 0 (omega arith) in cc) in
-    let high : j ≡ i = (let e = alike 1 (omega arith) in cc) in
-    rw (low, high) refl
+agrees-same n f fs gs alike = grind (arith, alike 0 (omega arith), alike 1 (omega arith))
 
 figures-near : (n : ℕ) (before : List Figure) (last : Option Figure) (f : Figure) (fs gs : List Figure) → Alike (cond {A = ℕ} (is_sum f.item) 2 0) fs gs
     → figure_may n before last f fs ≡ figure_may n before last f gs
 figures-near n before last f fs gs alike = elim (cases_Bool (is_sum f.item)) [
-  | inl sum ↦ (let same = agrees-same n f fs gs (rw sum at alike) in both last same)
-  | inr isnt ↦ other last isnt
+  | inl sum ↦ grind (arith, agrees-same n f fs gs (rw sum at alike))
+  | inr isnt ↦ grind (arith, begin-sum f.item)
 ]
-  where
-    both : (last : Option Figure) → agrees_behind n f fs ≡ agrees_behind n f gs → figure_may n before last f fs ≡ figure_may n before last f gs
-    both None same = rw same refl
-    both (Some e) same = rw same refl
-
-    other : (last : Option Figure) → is_sum f.item ≡ false → figure_may n before last f fs ≡ figure_may n before last f gs
-    other (Some e) isnt = rw isnt refl
-    other None isnt = elim (cases_Bool (may_begin f.item)) [
-      | inl begins ↦ (let sum = begin-sum f.item begins in absurd cc)
-      | inr never ↦ rw never refl
-    ]
 
 -- ---- rewards where no queue varies
 
@@ -106,12 +87,9 @@ steady (Some e) f = not (varies e f)
 abbrev varying_walk : Walk (Option Figure) Figure
 varying_walk = record { may = λ s f fs. steady s f; next = λ s f. Some f; ends = λ s. true; told = λ f. is_reward f.item; seen = λ f. 0 }
 
-reward-told : (i : Item) (k : ℕ) → if_reward i k ≡ cond {A = Option ℕ} (is_reward i) (Some k) None
-reward-told i k = grind arith
-
 varying-walked : (k : ℕ) (e : Figure) (fs : List Figure) → varying_behind k e fs ≡ walked varying_walk k (Some e) fs
 varying-walked k e [] = refl
-varying-walked k e (f ∷ fs) = grind (arith, reward-told f.item k, varying-walked (k + 1) f fs)
+varying-walked k e (f ∷ fs) = grind (arith, varying-walked (k + 1) f fs)
 
 reward-walked : (fs : List Figure) → varying_reward fs ≡ walked varying_walk 0 None fs
 reward-walked [] = refl
@@ -120,14 +98,7 @@ reward-walked (f ∷ fs) = varying-walked 1 f fs
 -- ---- both
 
 first-is : (j k : Option ℕ) (p : ℕ) → first_of j k ≡ Some p → (j ≡ Some p) ⊎ (k ≡ Some p)
-first-is None k p is = inr is
-first-is (Some j) None p is = inl is
-first-is (Some j) (Some k) p is = grind arith
-
-none-first : (j k : Option ℕ) → first_of j k ≡ None → (j ≡ None) × (k ≡ None)
-none-first None k is = (refl, is)
-none-first (Some j) None is = absurd cc
-none-first (Some j) (Some k) is = absurd cc
+first-is j k p is = grind arith
 
 pub first-range : (n : ℕ) (fs : List Figure) (p : ℕ) → first_flaw n fs ≡ Some p → p ≤ length fs
 first-range n fs p is = elim (first-is (figures_flaw n fs) (varying_reward fs) p is) [
