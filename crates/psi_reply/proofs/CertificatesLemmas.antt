@@ -1,13 +1,14 @@
 -- The log of a run of a network, which the network accepts.
-use Rattle.std.specs.Prelude.{◌≡◌, ℕ, zero, suc, ◌-◌, ◌%◌, ◌^◌, ◌<◌, ◌≤◌, List, ◌∷◌, length, map, Some, Result, Ok, refl}
+use Rattle.std.specs.Prelude.{◌≡◌, ℕ, zero, suc, ◌-◌, ◌^◌, ◌<◌, ◌≤◌, List, ◌∷◌, map, Some, Ok, refl}
 use Rattle.std.proofs.Common.{ap, ◌∙◌, arith}
+use Rattle.std.proofs.lemmas.Grind.{common_steps}
 use Rattle.psi_state.specs.State.{numbers_from}
 use Rattle.psi_past.specs.SeedWord.{seed_word}
-use Rattle.psi_rate.specs.Rates.{total, least_power, event_of}
+use Rattle.psi_rate.specs.Rates.{event_of}
 use Rattle.psi_rate.specs.Composition.{SystemParts, Functions, AreClosed, function_at}
 use Rattle.psi_rate.proofs.RatesLemmas.{event_at-below}
 use Rattle.psi_rate.proofs.PowersLemmas.{pow-order}
-use Rattle.psi_region.specs.Region.{Area, start, step, IsArea}
+use Rattle.psi_region.specs.Region.{Area, start, IsArea}
 use Rattle.psi_region.proofs.RegionLemmas.{start-area, step-area}
 use Rattle.psi_horizon.specs.Runs.{region_after, ending_at}
 use Rattle.psi_horizon.specs.Agreeing.{Agree}
@@ -15,7 +16,6 @@ use Rattle.psi_horizon.proofs.AgreeingLemmas.{step-agree}
 use Rattle.psi_log_format.specs.declared.header.Header.{Header}
 use Rattle.psi_log_format.specs.Log.{Entry, Certificate, IsLog}
 use Rattle.psi_log_format.specs.Text.{IsLogOf}
-use Rattle.psi_log_words.specs.Refusal.{Refusal}
 use Rattle.psi_log.proofs.ReadLemmas.{read_again}
 use Rattle.psi_log_writer.specs.Recorded.{region_of, entry_after, recorded, header_of, log_of}
 use Rattle.psi_log_writer.proofs.AcceptedLemmas.{recorded-log, recorded-judged}
@@ -42,9 +42,7 @@ module _ (split : ℕ) (caps : List ℕ) (f g : Functions) (closed : AreClosed c
 
   after-agree : (horizon done : ℕ) → region_after split f caps horizon done ≡ region_after split g caps horizon done
   after-agree horizon zero = refl
-  after-agree horizon (suc done) =
-      step-agree split caps (f (horizon - done)) (g (horizon - done)) (region_after split f caps horizon done) (agree (horizon - done)) (after-area horizon done)
-      ∙ ap (λ (a : Area). step split (g (horizon - done)) a) (after-agree horizon done)
+  after-agree horizon (suc done) = grind (arith, common_steps, step-agree, after-area, (after-agree horizon done))
 
   entries-agree : (events : ℕ → ℕ) (horizon first count : ℕ) → map (entry_after split f caps events horizon) (numbers_from first count) ≡ map (entry_after split g caps events horizon) (numbers_from first count)
   entries-agree events horizon first zero = refl
@@ -82,12 +80,7 @@ module _ (n : Network) (seed stream : ℕ) (kept : IsNetwork n) (small : seed < 
 
   few-events : (t : ℕ) → events_by_time n seed stream t ≤ 1024
   unfolding events_by_time event_of
-  few-events t =
-      few-of (event_of (rates_of n) (seed_word seed stream (t - 1))) (length (rates_of n))
-      (event_at-below (rates_of n) (seed_word seed stream (t - 1) % least_power (total (rates_of n)))) kept.rates.few
-    where
-      few-of : (e count : ℕ) → e ≤ count → count ≤ 1024 → e ≤ 1024
-      few-of e count below few = omega arith
+  few-events t = grind (arith, common_steps, event_at-below)
 
   pub certificate_log : IsLog (certificate n seed stream horizon state)
   unfolding certificate
@@ -106,8 +99,7 @@ module _ (n : Network) (seed stream : ℕ) (kept : IsNetwork n) (small : seed < 
   certificate-told = refl
 
   certificate-answered : judged_log n (Ok (certificate n seed stream horizon state)) ≡ text_reply status.Done (accepted_text horizon state)
-  certificate-answered =
-      ap (λ (r : Result (Unit {0}) Refusal). verdict_reply (verdict_of (certificate n seed stream horizon state) r)) certificate-kept ∙ certificate-told
+  certificate-answered = grind (arith, common_steps, certificate-kept, certificate-told)
 
   -- so a replay of its text tells the horizon and the state
   pub certificate_replayed : (text : List ℕ) → IsLogOf text (certificate n seed stream horizon state) → replay_reply n text ≡ text_reply status.Done (accepted_text horizon state)

@@ -1,8 +1,9 @@
 -- The log of a sample.
 use Rattle.std.specs.Prelude.{◌≡◌, ℕ, ◌^◌, ◌<◌, ◌≤◌, List, length, Bool, true, false, nat_le, if◌then◌else◌, Option, Some, refl}
-use Rattle.std.proofs.Common.{inl, inr, ap, sym, ◌∙◌, subst, arith}
-use Rattle.std.proofs.lemmas.Bool.{cases_lt, le-leb, leb-true}
+use Rattle.std.proofs.Common.{inl, sym, ◌∙◌, arith}
+use Rattle.std.proofs.lemmas.Bool.{le-leb, leb-true}
 use Rattle.std.proofs.lemmas.List.{length-map}
+use Rattle.std.proofs.lemmas.Grind.{common_steps}
 use Rattle.psi_io.specs.Sink.{appended}
 use Rattle.psi_io.proofs.SinkLemmas.{appended-nothing}
 use Rattle.psi_state.specs.declared.Outcome.{Outcome}
@@ -12,7 +13,6 @@ use Rattle.psi_rate.specs.Composition.{SystemParts}
 use Rattle.psi_rate.specs.Doubling.{IsFirst}
 use Rattle.psi_rate.proofs.PowersLemmas.{pow-order}
 use Rattle.psi_horizon.specs.Runs.{ending_at}
-use Rattle.psi_log_format.specs.Log.{Certificate}
 use Rattle.psi_log_format.specs.Text.{log_text, IsLogOf}
 use Rattle.psi_log_writer.specs.Recorded.{log_of}
 use Rattle.psi_net_model.specs.Network.{Network, caps_of}
@@ -34,10 +34,7 @@ pub certified_by : {E : Type 0} (function : E → List ℕ → List ℕ) (system
     → IsNetwork n → IsSystemOf function n system → queues ≡ length (caps_of n) → o ≡ sampled n seed stream → o ≡ Met horizon state
     → log_reply (log_text (log_of function system (seed_word seed stream) (record { version = 2; queues = queues; seed = seed; stream = stream; horizon = horizon }) state))
     ≡ certify_reply n seed stream (sampled n seed stream)
-certified_by function system n seed stream horizon state queues o kept of count is met =
-    ap (λ q. log_reply (log_text (log_of function system (seed_word seed stream) (record { version = 2; queues = q; seed = seed; stream = stream; horizon = horizon }) state))) count
-    ∙ ap (λ (c : Certificate). log_reply (log_text c)) (log-by function system n seed stream horizon state kept of)
-    ∙ ap (λ (p : Outcome). certify_reply n seed stream p) (sym met ∙ is)
+certified_by function system n seed stream horizon state queues o kept of count is met = grind (arith, common_steps, log-by)
 
 -- what a sample needs of its log: the horizon is within the limit, and a header has as many queues as there are
 pub first_within : {A : Type 0} (run : ℕ → Option A) (limit t : ℕ) (a : A) → IsFirst run limit t a → t ≤ 2 ^ limit
@@ -70,10 +67,7 @@ module _ (n : Network) (seed stream : ℕ) (kept : IsNetwork n) (small : seed < 
   fits = horizon-fits drawn.least.exponent n.limit horizon drawn.least.within drawn.least.power
 
   past : (count : ℕ) → nat_le count 33554432 ≡ false → 33554432 < count
-  past count fails = elim (cases_lt 33554432 count) [
-    | inl more ↦ more
-    | inr few ↦ (let holds = le-leb count 33554432 (omega arith) in absurd cc)
-  ]
+  past count fails = grind (arith, common_steps, le-leb)
 
   logged-as : (before after : Option (List ℕ)) (text : List ℕ) (fitting : Bool) → text ≡ log_text (certificate n seed stream horizon state) → nat_le (length text) 33554432 ≡ fitting
       → after ≡ appended before (chosen text fitting).out → IsWrittenOf before after (chosen text fitting).status n seed stream (Met horizon state)
@@ -87,27 +81,15 @@ module _ (n : Network) (seed stream : ℕ) (kept : IsNetwork n) (small : seed < 
         replayed = certificate_replayed n seed stream kept small less horizon state ends fits.0 fits.1 text is;
         status = refl;
       })
-  logged-as before after text false written fitting grew = inr (record {
-    text = grew ∙ appended-nothing before;
-    longer = subst (λ (t : List ℕ). 33554432 < length t) written (past (length text) fitting);
-    status = refl;
-  })
+  logged-as before after text false written fitting grew = grind (arith, common_steps, appended-nothing, past)
 
 -- what is written of an outcome means what it says
 written-of : (n : Network) (seed stream : ℕ) → IsNetwork n → seed < 2 ^ 64 → stream < 2 ^ 64 → (o : Outcome) → IsDrawn n seed stream o → (before after : Option (List ℕ))
     → after ≡ appended before (certify_reply n seed stream o).out → IsWrittenOf before after (certify_reply n seed stream o).status n seed stream o
-written-of n seed stream kept small less (Met horizon state) drawn before after grew =
-    let text = log_text (certificate n seed stream horizon state) in
-    logged-as n seed stream kept small less horizon state drawn before after text (nat_le (length text) 33554432) refl refl grew
+written-of n seed stream kept small less (Met horizon state) drawn before after grew = grind (arith, common_steps, logged-as)
 written-of n seed stream kept small less (NotMet limit) drawn before after grew = record { text = grew; status = refl }
 
 pub certified_printed : (before after : Option (List ℕ)) (n : Network) (seed stream : ℕ) → IsNetwork n → seed < 2 ^ 64 → stream < 2 ^ 64
     → after ≡ appended before (certify_reply n seed stream (sampled n seed stream)).out
     → IsCertified before after (certify_reply n seed stream (sampled n seed stream)).status n seed stream
-certified_printed before after n seed stream kept small less grew =
-    let drawn = sampled-drawn n seed stream kept in
-    record {
-      outcome = sampled n seed stream;
-      drawn = drawn;
-      written = written-of n seed stream kept small less (sampled n seed stream) drawn before after grew;
-    }
+certified_printed before after n seed stream kept small less grew = grind (arith, common_steps, sampled-drawn, written-of)

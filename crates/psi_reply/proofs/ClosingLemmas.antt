@@ -1,13 +1,14 @@
 -- Samples of a closed network.
-use Rattle.std.specs.Prelude.{◌≡◌, ℕ, zero, suc, ◌+◌, ◌<◌, ◌≤◌, List, [], ◌∷◌, ◌++◌, length, take, map, All, Bool, true, false, not, nat_lt, nat_le, cond, if◌then◌else◌, Option, Some, None, option_map, slice_get, slice_index_or, refl}
+use Rattle.std.specs.Prelude.{◌≡◌, ℕ, zero, suc, ◌+◌, ◌<◌, ◌≤◌, List, [], ◌∷◌, ◌++◌, length, take, map, All, Bool, not, nat_lt, cond, Option, Some, None, option_map, slice_get, slice_index_or, refl}
 use Rattle.std.specs.List.{position_or_len}
 use Rattle.std.specs.Option.{is_some, option_and_then}
 use Rattle.std.proofs.Common.{ap, sym, ◌∙◌, subst, arith, inl, inr}
 use Rattle.std.proofs.Math.Path.{fun_ext}
-use Rattle.std.proofs.lemmas.Bool.{cond-true, cond-false, cases_lt}
+use Rattle.std.proofs.lemmas.Bool.{cond-true, cond-false}
 use Rattle.std.proofs.lemmas.Option.{none-some, slice_get-map, slice_get_within, get_or_from_slice_get}
 use Rattle.std.proofs.lemmas.List.Elements.{All-tail}
 use Rattle.std.proofs.lemmas.List.Sums.{prefix_len-le-length}
+use Rattle.std.proofs.lemmas.Grind.{common_steps}
 use Rattle.psi_io.specs.Sink.{appended}
 use Rattle.psi_state.specs.declared.Outcome.{Outcome}
 use Rattle.psi_state.specs.declared.Outcome.TheVariants.{Met, NotMet}
@@ -30,14 +31,11 @@ use Rattle.psi_net_model.specs.Network.{Network, caps_of, rates_of}
 use Rattle.psi_net_model.specs.Valid.{IsNetwork, IsAccepted}
 use Rattle.psi_net_model.specs.declared.entries.NamedEvent.{NamedEvent}
 use Rattle.psi_net_model.specs.declared.entries.Queue.{Queue}
-use Rattle.psi_command.specs.declared.status.Status.TheVariants.{NoSuchTotal}
-use Rattle.psi_reply.specs.Lines.{no_total_line}
 use Rattle.psi_reply.specs.Texts.{IsWithinLimit}
 use Rattle.psi_report.specs.Samples.{IsSampleOf}
 use Rattle.psi_reply.specs.Sample.{functions_by_time}
 use Rattle.psi_reply.specs.Closed.{first_other, AreMovesOf, closed_endings, closed_sampled, IsClosedSampled}
-use Rattle.psi_program.specs.Reply.{line_reply}
-use Rattle.psi_reply.specs.Reply.{outcome_reply, total_reply, closed_reply}
+use Rattle.psi_reply.specs.Reply.{total_reply, closed_reply}
 
 -- ---- the moves that events are
 
@@ -119,16 +117,11 @@ moves-from (event ∷ events) none = by_case (move_at event) refl (moves-from ev
 
 -- the place of the first that passes, where there is none
 at-end : (n long : ℕ) → n ≤ long → cond (nat_lt n long) (Some n) None ≡ None → n ≡ long
-at-end n long most none = elim (cases_lt n long) [
-  | inl below ↦ absurd (none-some n (sym none ∙ cond-true (nat_lt n long) (Some n) None (grind arith)))
-  | inr above ↦ omega arith
-]
+at-end n long most none = grind (arith, common_steps, none-some, cond-true)
 
 pub moves-of_none : (net : Network) → first_other net ≡ None → (moves : List Move) × AreMovesOf net.events moves
 unfolding first_other
-moves-of_none net none =
-    moves-from net.events
-    (at-end (position_or_len is_other net.events) (length net.events) (prefix_len-le-length (λ event. not (is_other event)) net.events) none)
+moves-of_none net none = grind (arith, common_steps, moves-from, at-end, prefix_len-le-length)
 
 -- ---- what events do that are moves
 
@@ -204,48 +197,24 @@ pub sampled_of : (net : Network) (seed stream total : ℕ) (moves : List Move) (
     → outcome ≡ outcome_within (closed_ending (caps_of net) total (closed_functions (caps_of net) moves (rates_of net) (seed_word seed stream))) net.limit
     → outcome ≡ closed_sampled net seed stream total
 unfolding closed_sampled closed_endings
-sampled_of net seed stream total moves outcome kept are is =
-    is ∙ ap (λ (f : Functions). outcome_within (closed_ending (caps_of net) total f) net.limit) (functions-of_moves net seed stream moves kept are)
+sampled_of net seed stream total moves outcome kept are is = grind (arith, common_steps, functions-of_moves)
 
 -- a sample that is met has a state within the capacities, and its horizon is a power of two of at most 2^22
 pub closed-counts : (net : Network) (total : ℕ) (f : Functions) (outcome : Outcome) → IsNetwork net → IsClosedSample (caps_of net) total f net.limit outcome → IsSampleOf net outcome
-closed-counts net total f (Met horizon state) kept drawn =
-    let first = drawn.least in
-    let few : first.exponent ≤ net.limit = first.within in
-    let most : net.limit ≤ 22 = kept.limit in
-    (record { exponent = first.exponent; few = omega arith; power = first.power }, drawn.within.within)
+closed-counts net total f (Met horizon state) kept drawn = grind (arith, common_steps)
 closed-counts net total f (NotMet l) kept drawn = tt
 
 -- and one that isn't met tells a limit of at most 22
 pub closed-within : (net : Network) (total : ℕ) (f : Functions) (outcome : Outcome) → IsNetwork net → IsClosedSample (caps_of net) total f net.limit outcome → IsWithinLimit outcome
 closed-within net total f (Met horizon state) kept drawn = tt
-closed-within net total f (NotMet l) kept drawn =
-    let told : l ≡ net.limit = drawn.least.0 in
-    let most : net.limit ≤ 22 = kept.limit in
-    omega arith
+closed-within net total f (NotMet l) kept drawn = grind (arith, common_steps)
 
 -- ---- what is printed
 
 -- on a network whose events are moves
 total-printed : (before after : Option (List ℕ)) (net : Network) (seed stream total : ℕ) → IsNetwork net → first_other net ≡ None
     → after ≡ appended before (total_reply net seed stream total).out → IsClosedSampled before after (total_reply net seed stream total).status net seed stream total
-total-printed before after net seed stream total kept none grew =
-    by_room (nat_le total (customers (caps_of net))) refl grew
-  where
-    by_room : (b : Bool) → nat_le total (customers (caps_of net)) ≡ b
-        → after ≡ appended before (if b then outcome_reply (closed_sampled net seed stream total) else line_reply NoSuchTotal no_total_line).out
-        → IsClosedSampled before after (if b then outcome_reply (closed_sampled net seed stream total) else line_reply NoSuchTotal no_total_line).status net seed stream total
-    by_room true is grew =
-        let fits : total ≤ customers (caps_of net) = grind arith in
-        inl (record {
-          moves = none;
-          fits = fits;
-          outcome = closed_sampled net seed stream total;
-          drawn = closed-drawn net seed stream total kept none fits;
-          status = refl;
-          text = grew;
-        })
-    by_room false is grew = inr (inr (record { moves = none; over = grind arith; status = refl }))
+total-printed before after net seed stream total kept none grew = grind (arith, common_steps, closed-drawn)
 
 -- what is printed on a network is a sample of the closed network, unless it isn't one, or can't hold so many customers
 pub closed_printed : (before after : Option (List ℕ)) (n : Network) (seed stream total : ℕ) (other : Option ℕ) → first_other n ≡ other → IsNetwork n

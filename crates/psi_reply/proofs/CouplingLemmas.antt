@@ -1,7 +1,8 @@
 -- The least coupling of a network, and the first value of a reward.
-use Rattle.std.specs.Prelude.{◌≡◌, ℕ, zero, suc, ◌+◌, if◌then◌else◌, List, [], ◌∷◌, take, Option, Some, None, option_map, slice_get, true, false, refl}
+use Rattle.std.specs.Prelude.{◌≡◌, ℕ, zero, suc, ◌+◌, List, [], ◌∷◌, take, Option, Some, None, option_map, slice_get, true, false, refl}
 use Rattle.std.specs.Str.{bytes_eq}
-use Rattle.std.proofs.Common.{ℤ, ap, ◌∙◌, arith}
+use Rattle.std.proofs.Common.{ℤ, arith}
+use Rattle.std.proofs.lemmas.Grind.{common_steps}
 use Rattle.psi_io.specs.Sink.{appended}
 use Rattle.psi_past.specs.SeedWord.{seed_word}
 use Rattle.psi_reward.specs.declared.kinds.RewardKind.{RewardKind}
@@ -51,20 +52,7 @@ coupled-state split caps f h (coupled.NotAt l) closed is = (tt, tt)
 pub coupling_printed : (before after : Option (List ℕ)) (n : Network) (seed stream : ℕ) → IsNetwork n
     → after ≡ appended before (coupling_text (coupling n seed stream)) → IsCouplingOf before after (coupling_status (coupling n seed stream)) n seed stream
 unfolding endings coupling
-coupling_printed before after n seed stream kept grew =
-    let f = functions_by_time n seed stream in
-    let closed = functions_by_time-closed n seed stream kept in
-    let least = coupled_within-is (ending_at n.split f (caps_of n)) n.limit in
-    let state = coupled-state n.split (caps_of n) f n.limit (coupling n seed stream) closed least in
-    record {
-      coupled = coupling n seed stream;
-      least = least;
-      reached = state.0;
-      later = coupled-decides n.split (caps_of n) f n.limit (coupling n seed stream) closed least;
-      within = state.1;
-      status = refl;
-      text = grew;
-    }
+coupling_printed before after n seed stream kept grew = grind (arith, common_steps, functions_by_time-closed, coupled_within-is, coupled-state, coupled-decides)
 
 -- ---- the value of a reward
 
@@ -73,10 +61,7 @@ pub named-found : (name : List ℕ) (rs : List NamedReward) (i : ℕ) (own : Lis
     → option_map (λ (r : NamedReward). r.name) (slice_get rs i) ≡ Some own → option_map (λ (r : NamedReward). r.kind) (slice_get rs i) ≡ Some kind
     → bytes_eq own name ≡ true → kind_named name rs ≡ Some kind
 named-found name [] i own kind none named kinds same = absurd cc
-named-found name (r ∷ rs) zero own kind none named kinds same =
-    let e : r.name ≡ own = cc in
-    let k : r.kind ≡ kind = cc in
-    rw (e, same) (ap Some k)
+named-found name (r ∷ rs) zero own kind none named kinds same = grind (arith, common_steps)
 named-found name (r ∷ rs) (suc i) own kind none named kinds same = grind (arith, named-found name rs i own kind)
 
 -- one reward more has another name
@@ -84,9 +69,7 @@ pub named-more : (name : List ℕ) (rs : List NamedReward) (i : ℕ) (own : List
     → option_map (λ (r : NamedReward). r.name) (slice_get rs i) ≡ Some own → bytes_eq own name ≡ false → kind_named name (take (i + 1) rs) ≡ None
 named-more name [] i own none named other = absurd cc
 named-more name (r ∷ rs) zero own none named other = (let e : r.name ≡ own = cc in rw (e, other) refl)
-named-more name (r ∷ rs) (suc i) own none named other =
-    let more : suc i + 1 ≡ suc (i + 1) = omega arith in
-    rw more (grind (arith, named-more name rs i own))
+named-more name (r ∷ rs) (suc i) own none named other = grind (arith, common_steps, (named-more name rs i own))
 
 -- the first value of a system that is the network's is that of the network
 pub valued_by : {E : Type 0} (function : E → List ℕ → List ℕ) (system : SystemParts E) (n : Network) (seed stream : ℕ) (kind : RewardKind) (v : Valued)
@@ -107,18 +90,7 @@ valued-state worth split caps f h (valued.NotAt l) closed is = tt
 value-printed : (before after : Option (List ℕ)) (n : Network) (seed stream : ℕ) (kind : RewardKind) → IsNetwork n
     → after ≡ appended before (value_text (valuation n seed stream kind)) → IsValueOf before after (value_status (valuation n seed stream kind)) n seed stream kind
 unfolding values valuation
-value-printed before after n seed stream kind kept grew =
-    let f = functions_by_time n seed stream in
-    let closed = functions_by_time-closed n seed stream kept in
-    let first = valued_within-is (value_at (worth_of kind) n.split f (caps_of n)) n.limit in
-    record {
-      valued = valuation n seed stream kind;
-      first = first;
-      reached = valued-state (worth_of kind) n.split (caps_of n) f n.limit (valuation n seed stream kind) closed first;
-      later = valued-decides (worth_of kind) n.split (caps_of n) f n.limit (valuation n seed stream kind) closed first;
-      status = refl;
-      text = grew;
-    }
+value-printed before after n seed stream kind kept grew = grind (arith, common_steps, functions_by_time-closed, valued_within-is, valued-state, valued-decides)
 
 -- what is printed of a network's reward is its value, where there is such a reward
 pub reward_printed : (before after : Option (List ℕ)) (n : Network) (seed stream : ℕ) (kind : Option RewardKind) → IsNetwork n

@@ -5,6 +5,7 @@ use Rattle.std.proofs.Common.{ap, sym, ◌∙◌, arith}
 use Rattle.std.proofs.lemmas.List.{take_more, flat_map_more}
 use Rattle.std.proofs.lemmas.List.Folds.{list_all_more}
 use Rattle.std.proofs.lemmas.Option.{slice_get-map, slice_get_within, get_or_from_slice_get}
+use Rattle.std.proofs.lemmas.Grind.{common_steps}
 
 -- a place of a list has an entry
 pub entry_at : {A : Type 0} (xs : List A) (i : ℕ) → i < length xs → (x : A) × (slice_get xs i ≡ Some x)
@@ -14,9 +15,7 @@ entry_at (x ∷ xs) (suc i) small = entry_at xs i (omega arith)
 
 -- what is read of the entry is the entry's
 pub field_of : {A B : Type 0} (field : A → B) (xs : List A) (i : ℕ) (x : A) (read : B) → slice_get xs i ≡ Some x → option_map field (slice_get xs i) ≡ Some read → read ≡ field x
-field_of field xs i x read at is =
-    let own : option_map field (slice_get xs i) ≡ Some (field x) = ap (option_map field) at in
-    cc
+field_of field xs i x read at is = grind (arith, common_steps)
 
 -- lists that are the same of each entry are so at a place
 pub same_at : {A B C : Type 0} (f : A → C) (g : B → C) (xs : List A) (ys : List B) (i : ℕ) (x : A) (y : B) → map f xs ≡ map g ys → slice_get xs i ≡ Some x → slice_get ys i ≡ Some y → f x ≡ g y

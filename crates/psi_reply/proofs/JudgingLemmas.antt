@@ -1,7 +1,8 @@
 -- The rules of a log, for a network's events: functions that do the same with each state give the same verdict.
-use Rattle.std.specs.Prelude.{◌≡◌, ℕ, ◌+◌, ◌-◌, ◌^◌, List, [], ◌∷◌, length, map, Bool, true, false, ◌==◌, nat_le, Result, Ok, Err, refl}
+use Rattle.std.specs.Prelude.{◌≡◌, ℕ, ◌+◌, ◌-◌, List, [], ◌∷◌, map, Bool, true, false, Result, Ok, Err, refl}
 use Rattle.std.specs.List.{list_all}
-use Rattle.std.proofs.Common.{inl, inr, ap, ◌∙◌, subst}
+use Rattle.std.proofs.Common.{arith, inl, inr, ap, ◌∙◌, subst}
+use Rattle.std.proofs.lemmas.Grind.{common_steps}
 use Rattle.psi_state.specs.Members.{In}
 use Rattle.psi_past.specs.SeedWord.{seed_word}
 use Rattle.psi_rate.specs.Rates.{event_of}
@@ -12,8 +13,7 @@ use Rattle.psi_log_words.specs.Refusal.{Refusal, ◌>>=◌, holds_or}
 use Rattle.psi_net_model.specs.Network.{Network, caps_of, rates_of}
 use Rattle.psi_net_model.specs.Valid.{IsNetwork}
 use Rattle.psi_replay.specs.declared.answers.Verdict.{Verdict}
-use Rattle.psi_replay.specs.declared.causes.RuleCause.TheVariants.{Header, StepNumber, WrongEvent, OutsideBox, NotCovered, SplitTooLarge}
-use Rattle.psi_replay.specs.Verdict.{rejected, states_of, has, covers, is_within, is_small, holds_all, judge_step, judge_steps, judge_end, judged, event_numbers, verdict_of}
+use Rattle.psi_replay.specs.Verdict.{covers, is_within, judge_step, judge_steps, judged, event_numbers, verdict_of}
 use Rattle.psi_replay.proofs.RegionLemmas.{within_each}
 use Rattle.psi_replay.proofs.AcceptedLemmas.{next_rule, judged_reached, judged_within}
 use Rattle.psi_reply.specs.Sample.{functions_by_time}
@@ -53,29 +53,17 @@ then-agree (Err refusal) h k same = refl
 
 module _ (caps : List ℕ) (limit : ℕ) (events : ℕ → ℕ) (f g : Functions) where
   covers-agree : (t : ℕ) (before after : LogRegion) → Agree caps (f t) (g t) → is_within caps before ≡ true → covers (f t) before after ≡ covers (g t) before after
-  covers-agree t before after agree within =
-      all-agree (λ (x : List ℕ). has (states_of after) (f t x)) (λ (x : List ℕ). has (states_of after) (g t x)) (states_of before)
-      (λ x member. ap (λ (y : List ℕ). has (states_of after) y) (agree.each x (within_each caps before x within member)))
+  covers-agree t before after agree within = grind (arith, common_steps, all-agree, within_each)
 
   step-agree : (n t : ℕ) (before : LogRegion) (e : Entry) → Agree caps (f t) (g t) → is_within caps before ≡ true
       → judge_step caps limit events f n t before e ≡ judge_step caps limit events g n t before e
   unfolding judge_step
-  step-agree n t before e agree within =
-      let last : Bool → Result (Unit {0}) Refusal = λ covered. holds_or (rejected n StepNumber) (e.step.number == t) >>= (λ numbered.
-      holds_or (rejected n WrongEvent) (e.step.event == events t) >>= (λ drawn. holds_or (rejected n OutsideBox) (is_within caps e.region) >>= (λ within.
-      holds_or (rejected n SplitTooLarge) (is_small before e.region) >>= (λ small. holds_or (rejected n NotCovered) covered)))) in
-      ap last (covers-agree t before e.region agree within)
+  step-agree n t before e agree within = grind (arith, common_steps, covers-agree)
 
   -- the region after a step that breaks no rule is within the capacities
   step-within : (n t : ℕ) (before : LogRegion) (e : Entry) (u : Unit {0}) → judge_step caps limit events f n t before e ≡ Ok u → is_within caps e.region ≡ true
   unfolding judge_step
-  step-within n t before e u is =
-      let small : Unit {0} → Result (Unit {0}) Refusal = λ _. holds_or (rejected n SplitTooLarge) (is_small before e.region) >>= (λ _. holds_or (rejected n NotCovered) (covers (f t) before e.region)) in
-      let within : Unit {0} → Result (Unit {0}) Refusal = λ _. holds_or (rejected n OutsideBox) (is_within caps e.region) >>= small in
-      let drawn : Unit {0} → Result (Unit {0}) Refusal = λ _. holds_or (rejected n WrongEvent) (e.step.event == events t) >>= within in
-      let first = next_rule (rejected n StepNumber) (e.step.number == t) drawn u is in
-      let second = next_rule (rejected n WrongEvent) (e.step.event == events t) within u first.1 in
-      (next_rule (rejected n OutsideBox) (is_within caps e.region) small u second.1).0
+  step-within n t before e u is = grind (arith, common_steps, next_rule)
 
   steps-agree : (n t : ℕ) (before : LogRegion) (es : List Entry) → ((k : ℕ) → Agree caps (f k) (g k)) → is_within caps before ≡ true
       → judge_steps caps limit events f n t before es ≡ judge_steps caps limit events g n t before es
@@ -89,18 +77,7 @@ module _ (caps : List ℕ) (limit : ℕ) (events : ℕ → ℕ) (f g : Functions
 
   judged-agree : (c : Certificate) → ((k : ℕ) → Agree caps (f k) (g k)) → judged caps limit events f c ≡ judged caps limit events g c
   unfolding judged
-  judged-agree c agree =
-      let t = c.header.horizon in
-      let ended : LogRegion → Result (Unit {0}) Refusal = λ last. judge_end (7 + t) last c.final in
-      let steps : Functions → Unit {0} → Result (Unit {0}) Refusal = λ h _. judge_steps caps limit events h 7 t c.begin c.entries >>= ended in
-      let whole : Functions → Unit {0} → Result (Unit {0}) Refusal = λ h _. holds_or (rejected 6 NotCovered) (holds_all caps c.begin) >>= steps h in
-      let inside : Functions → Unit {0} → Result (Unit {0}) Refusal = λ h _. holds_or (rejected 6 OutsideBox) (is_within caps c.begin) >>= whole h in
-      let horizon : Functions → Unit {0} → Result (Unit {0}) Refusal = λ h _. holds_or (rejected 5 Header) (nat_le t (2 ^ limit)) >>= inside h in
-      rule-agree (rejected 2 Header) (c.header.queues == length caps) (horizon f) (horizon g) (λ _.
-      rule-agree (rejected 5 Header) (nat_le t (2 ^ limit)) (inside f) (inside g) (λ _.
-      rule-agree (rejected 6 OutsideBox) (is_within caps c.begin) (whole f) (whole g) (λ within.
-      rule-agree (rejected 6 NotCovered) (holds_all caps c.begin) (steps f) (steps g) (λ _.
-      ap (λ (r : Result LogRegion Refusal). r >>= ended) (steps-agree 7 t c.begin c.entries agree within)))))
+  judged-agree c agree = grind (arith, common_steps, rule-agree, steps-agree)
 
 -- the verdict of a system that is the network's is that of the network
 pub judged_by : {E : Type 0} (function : E → List ℕ → List ℕ) (system : SystemParts E) (net : Network) (c : Certificate) (v : Verdict) → IsNetwork net → IsSystemOf function net system

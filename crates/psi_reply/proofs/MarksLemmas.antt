@@ -1,8 +1,8 @@
 -- The mark of an event that does what a kind does is right for the kind.
 use Rattle.std.specs.Prelude.{◌≡◌, ℕ, zero, suc, ◌<◌, List, [], ◌∷◌, length, map, Option, Some, None, slice_get, slice_index_or}
-use Rattle.std.proofs.Common.{ap, sym, ◌∙◌, subst}
+use Rattle.std.proofs.Common.{arith, ap, sym, ◌∙◌, subst}
 use Rattle.std.proofs.lemmas.Option.{slice_get_within, get_or_from_slice_get}
-use Rattle.psi_state.specs.State.{IsBelow}
+use Rattle.std.proofs.lemmas.Grind.{common_steps}
 use Rattle.psi_state.proofs.BoxesLemmas.{below-through}
 use Rattle.psi_event.specs.Law.{ShowsUpset}
 use Rattle.psi_rate.specs.Composition.{SystemParts}
@@ -18,25 +18,16 @@ pub does-at : {E : Type 0} (function : E → List ℕ → List ℕ) (caps : List
     → EachDoes caps (map function made) events → slice_get made i ≡ Some m → slice_get events i ≡ Some e → Does caps (function m) e.kind
 does-at function caps [] events i m e each first second = absurd cc
 does-at function caps (n ∷ made) [] i m e each first second = absurd cc
-does-at function caps (n ∷ made) (g ∷ events) zero m e each first second =
-    let made_is : n ≡ m = cc in
-    let event_is : g ≡ e = cc in
-    subst (λ (v : NamedEvent). Does caps (function m) v.kind) event_is (subst (λ v. Does caps (function v) g.kind) made_is each.0)
+does-at function caps (n ∷ made) (g ∷ events) zero m e each first second = grind (arith, common_steps)
 does-at function caps (n ∷ made) (g ∷ events) (suc i) m e each first second = does-at function caps made events i m e each.1 first second
 
 -- functions that are the same on the states within the capacities have the same mark
 pub shows-does : (caps : List ℕ) (f : List ℕ → List ℕ) (kind : Kind) (mark : Option (List ℕ × List ℕ)) → Does caps f kind → ShowsUpset caps f mark → ShowsUpset caps (do_kind caps kind) mark
 shows-does caps f kind None does shown = record {
   each = λ x y within ordered.
-      subst (λ (z : List ℕ). IsBelow z (do_kind caps kind y)) (does.each x (below-through x y caps ordered within))
-      (subst (λ (z : List ℕ). IsBelow (f x) z) (does.each y within) (shown.each x y within ordered));
+      grind (arith, common_steps, below-through);
 }
-shows-does caps f kind (Some pair) does shown = record {
-  within = shown.within;
-  ordered = shown.ordered;
-  upset = λ kept. shown.upset (subst (λ (z : List ℕ). IsBelow z (f pair.1)) (sym (does.each pair.0 (below-through pair.0 pair.1 caps shown.ordered shown.within)))
-      (subst (λ (z : List ℕ). IsBelow (do_kind caps kind pair.0) z) (sym (does.each pair.1 shown.within)) kept));
-}
+shows-does caps f kind (Some pair) does shown = grind (arith, common_steps, below-through)
 
 -- so the mark of an event of a system that is made of a network is right for the network's event
 pub mark-right : {E : Type 0} (capacities : E → List ℕ) (function : E → List ℕ → List ℕ) (caps : List ℕ) (system : SystemParts E) (events : List NamedEvent) (i : ℕ) (m : E) (e d : NamedEvent)

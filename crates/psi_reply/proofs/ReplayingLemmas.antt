@@ -1,6 +1,7 @@
 -- The verdict on a log, and what is told of it.
 use Rattle.std.specs.Prelude.{◌≡◌, ℕ, List, [], Option, Result, Ok, Err, IsErr, refl}
-use Rattle.std.proofs.Common.{ap, inl, inr, sym, ◌∙◌, subst}
+use Rattle.std.proofs.Common.{arith, ap, inl, inr, sym, ◌∙◌, subst}
+use Rattle.std.proofs.lemmas.Grind.{common_steps}
 use Rattle.psi_io.specs.Sink.{appended}
 use Rattle.psi_io.proofs.SinkLemmas.{appended-nothing}
 use Rattle.psi_log_format.specs.Log.{Certificate}
@@ -21,7 +22,7 @@ use Rattle.psi_net_model.specs.Valid.{IsNetwork}
 use Rattle.psi_command.specs.declared.status.Status.TheVariants as status
 use Rattle.psi_reply.specs.Replay.{judgement, IsReplayed}
 use Rattle.psi_reply.specs.Networks.{IsSystemOf}
-use Rattle.psi_reply.specs.Reply.{verdict_reply, judged_log, replay_reply}
+use Rattle.psi_reply.specs.Reply.{verdict_reply, replay_reply}
 use Rattle.psi_reply.proofs.JudgingLemmas.{judged_certifies, judged_by}
 
 -- what is told of a log that was read and judged so is the network's verdict
@@ -41,29 +42,15 @@ verdict_told net bytes c (Err refusal) network reads judges before after grew =
 -- and so it is with a text that is no log
 pub refusal_told : (net : Network) (bytes : List ℕ) (refusal : Refusal) → read bytes ≡ Err refusal → (before after : Option (List ℕ)) → after ≡ appended before []
     → IsReplayed before after status.LogRefused net bytes
-refusal_told net bytes refusal reads before after grew = inr (record {
-  cause = inl (subst (λ (r : Result Certificate Refusal). IsErr r) (sym reads) refl);
-  status = refl;
-  text = grew ∙ appended-nothing before;
-})
+refusal_told net bytes refusal reads before after grew = grind (arith, common_steps, appended-nothing)
 
 -- what is told of the verdict on a text
 pub verdict_replied : (net : Network) (bytes : List ℕ) (v : Verdict) → replayed (judgement net) bytes ≡ Ok v → replay_reply net bytes ≡ verdict_reply v
-verdict_replied net bytes v is =
-    let log = bind_ok (read bytes) (λ (c : Certificate). Ok (verdict_of c (judgement net c))) v is in
-    ap (λ (r : Result Certificate Refusal). judged_log net r) log.1 ∙ ap (λ (w : Verdict). verdict_reply w) (ok_same (verdict_of log.0 (judgement net log.0)) v log.2)
+verdict_replied net bytes v is = grind (arith, common_steps, bind_ok, ok_same)
 
 pub refusal_replied : (net : Network) (bytes : List ℕ) (line cause : ℕ) → replayed (judgement net) bytes ≡ Err (record { line = line; cause = cause })
     → replay_reply net bytes ≡ line_reply status.LogRefused (log_refused_line line cause)
-refusal_replied net bytes line cause is = go (read bytes) is
-  where
-    go : (r : Result Certificate Refusal) → (r >>= (λ (c : Certificate). Ok (verdict_of c (judgement net c)))) ≡ Err (record { line = line; cause = cause })
-        → judged_log net r ≡ line_reply status.LogRefused (log_refused_line line cause)
-    go (Ok c) is = absurd cc
-    go (Err refusal) is = ap (λ (s : Refusal). judged_log net (Err s)) (same refusal is)
-      where
-        same : (refusal : Refusal) → ◌≡◌ {A = Result Verdict Refusal} (Err refusal) (Err (record { line = line; cause = cause })) → refusal ≡ record { line = line; cause = cause }
-        same refusal is = cc
+refusal_replied net bytes line cause is = grind (arith, common_steps)
 
 -- the verdict of a system that is the network's is that of the network, and so is each refusal
 pub replayed_by : {E : Type 0} (function : E → List ℕ → List ℕ) (system : SystemParts E) (net : Network) (bytes : List ℕ) (result : Result Verdict LogError) → IsNetwork net → IsSystemOf function net system
@@ -73,9 +60,4 @@ replayed_by function system net bytes (Ok v) network of gives =
     let own = judged_by function system net log.0 v network of (sym (ok_same (verdict_of log.0 (judged_under function system log.0)) v log.2)) in
     ap (λ (r : Result Certificate Refusal). r >>= (λ (c : Certificate). Ok (verdict_of c (judgement net c)))) log.1 ∙ ap (λ (w : Verdict). Ok w) (sym own)
 replayed_by function system net bytes (Err OutOfMemory) network of gives = tt
-replayed_by function system net bytes (Err (Refused line cause)) network of gives = go (read bytes) gives
-  where
-    go : (r : Result Certificate Refusal) → (r >>= (λ (c : Certificate). Ok (verdict_of c (judged_under function system c)))) ≡ Err (record { line = line; cause = cause })
-        → (r >>= (λ (c : Certificate). Ok (verdict_of c (judgement net c)))) ≡ Err (record { line = line; cause = cause })
-    go (Ok c) is = absurd cc
-    go (Err refusal) is = cc
+replayed_by function system net bytes (Err (Refused line cause)) network of gives = grind (arith, common_steps)

@@ -1,6 +1,6 @@
 -- Each reply is one that its command can have.
 use Rattle.std.proofs.Common.{arith}
-use Rattle.std.specs.Prelude.{ℕ, List, Option, if◌then◌else◌, Result}
+use Rattle.std.specs.Prelude.{ℕ, List, Option, Result}
 use Rattle.psi_state.specs.declared.Outcome.{Outcome}
 use Rattle.psi_net_model.specs.Network.{Network}
 use Rattle.psi_command.specs.Command.{Command, reward, exact, closed, certify, replay}
@@ -8,7 +8,6 @@ use Rattle.psi_reply.specs.Texts.{outcome_text}
 use Rattle.psi_reply.specs.Sample.{outcome_status}
 use Rattle.psi_program.specs.Reply.{text_reply, line_reply}
 use Rattle.psi_reply.specs.Reply.{IsReply, value_reply, survey_reply, closed_reply, certify_reply, verdict_reply, judged_log, refused_reply}
-use Rattle.psi_closed_arcs.specs.Walks.{customers}
 use Rattle.psi_exact.specs.declared.answers.Meeting.{Meeting}
 use Rattle.psi_net_document.specs.declared.refusals.NetRefusal.{NetRefusal}
 use Rattle.psi_command.specs.declared.status.Status.TheVariants as status
@@ -18,8 +17,6 @@ use Rattle.psi_replay.specs.declared.answers.Verdict.{Verdict}
 use Rattle.psi_reward.specs.declared.kinds.RewardKind.{RewardKind}
 use Rattle.psi_couple.specs.declared.answers.Coupled.{Coupled}
 use Rattle.psi_couple.specs.declared.answers.Valued.{Valued}
-use Rattle.psi_couple.specs.declared.answers.Coupled.TheVariants as coupled
-use Rattle.psi_couple.specs.declared.answers.Valued.TheVariants as valued
 use Rattle.psi_reply.specs.Couple.{coupling_status}
 use Rattle.psi_reply.specs.Couplings.{coupling_text}
 use Rattle.psi_reply.specs.Reward.{value_status}

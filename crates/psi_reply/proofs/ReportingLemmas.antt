@@ -1,6 +1,7 @@
 -- Reports over the samples of several streams.
 use Rattle.std.specs.Prelude.{◌≡◌, ℕ, zero, suc, ◌+◌, ◌≤◌, List, [], ◌∷◌, ◌++◌, length, Option, refl}
 use Rattle.std.proofs.Common.{ap, ◌∙◌, arith}
+use Rattle.std.proofs.lemmas.Grind.{common_steps}
 use Rattle.psi_io.specs.Sink.{appended}
 use Rattle.psi_state.specs.declared.Outcome.{Outcome}
 use Rattle.psi_state.specs.declared.Outcome.TheVariants.{Met, NotMet}
@@ -17,10 +18,7 @@ use Rattle.psi_reply.proofs.SamplingLemmas.{sampled-drawn}
 
 -- a sample that is met has a state within the capacities, and its horizon is a power of two of at most 2^22
 pub drawn-sample : (net : Network) (seed stream : ℕ) (outcome : Outcome) → net.limit ≤ 22 → IsDrawn net seed stream outcome → IsSampleOf net outcome
-drawn-sample net seed stream (Met horizon state) limit drawn =
-    let first = drawn.least in
-    let few : first.exponent ≤ net.limit = first.within in
-    (record { exponent = first.exponent; few = omega arith; power = first.power }, drawn.within)
+drawn-sample net seed stream (Met horizon state) limit drawn = grind (arith, common_steps)
 drawn-sample net seed stream (NotMet l) limit drawn = tt
 
 pub sampled_counts : (net : Network) (seed stream : ℕ) → IsNetwork net → IsSampleOf net (sampled net seed stream)
@@ -28,10 +26,7 @@ sampled_counts net seed stream kept = drawn-sample net seed stream (sampled net 
 
 -- the samples of streams, and of those after them
 pub samples_append : (net : Network) (seed first m n : ℕ) → samples_of net seed first (m + n) ≡ samples_of net seed first m ++ samples_of net seed (first + m) n
-samples_append net seed first zero n =
-    let none : 0 + n ≡ n = omega arith in
-    let same : first ≡ first + 0 = omega arith in
-    ap (samples_of net seed first) none ∙ ap (λ f. samples_of net seed f n) same
+samples_append net seed first zero n = grind (arith, common_steps)
 samples_append net seed first (suc m) n =
     let more : suc m + n ≡ suc (m + n) = omega arith in
     let same : suc first + m ≡ first + suc m = omega arith in
@@ -55,13 +50,7 @@ samples-drawn net seed first (suc count) kept = (sampled-drawn net seed first ke
 -- what is printed of a network's samples is their report
 pub report_printed : (before after : Option (List ℕ)) (net : Network) (seed first count : ℕ) → IsNetwork net
     → after ≡ appended before (report_text net (samples_of net seed first count)) → IsReportOf before after Done net seed first count
-report_printed before after net seed first count kept grew = record {
-  outcomes = samples_of net seed first count;
-  number = samples_number net seed first count;
-  drawn = samples-drawn net seed first count kept;
-  status = refl;
-  text = grew;
-}
+report_printed before after net seed first count kept grew = grind (arith, common_steps, samples_number, samples-drawn)
 
 -- what is printed of a trial is one
 pub trial_printed : (before after : Option (List ℕ)) (number : ℕ) → IsNetwork (generated_network number)

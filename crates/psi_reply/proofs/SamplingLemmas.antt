@@ -1,7 +1,8 @@
 -- The sample of a network.
-use Rattle.std.specs.Prelude.{◌≡◌, ℕ, zero, suc, ◌<◌, List, [], ◌∷◌, length, map, slice_index_or, All, Option, refl}
-use Rattle.std.proofs.Common.{ap, sym, arith}
+use Rattle.std.specs.Prelude.{◌≡◌, ℕ, List, [], ◌∷◌, map, slice_index_or, All, Option, refl}
+use Rattle.std.proofs.Common.{arith}
 use Rattle.std.proofs.lemmas.List.Elements.{All-map}
+use Rattle.std.proofs.lemmas.Grind.{common_steps}
 use Rattle.psi_state.specs.declared.Outcome.{Outcome}
 use Rattle.psi_past.specs.SeedWord.{seed_word}
 use Rattle.psi_event.specs.Law.{IsClosed}
@@ -13,7 +14,7 @@ use Rattle.psi_horizon.specs.Runs.{ending_at}
 use Rattle.psi_horizon.specs.Agreeing.{Agree, AreAlike}
 use Rattle.psi_horizon.proofs.AgreeingLemmas.{agree-back, alike-closed_at, function_at-agree, outcome_within-agree}
 use Rattle.psi_horizon.proofs.SampleLemmas.{sample-is}
-use Rattle.psi_kinds.specs.Kinds.{Does, do_kind}
+use Rattle.psi_kinds.specs.Kinds.{do_kind}
 use Rattle.psi_kinds.proofs.ClosingLemmas.{kind-closed}
 use Rattle.psi_net_model.specs.Network.{Network, caps_of, rates_of, functions_of}
 use Rattle.psi_net_model.specs.Valid.{IsNetwork, IsAccepted}
@@ -34,15 +35,7 @@ pub each-alike : (caps : List ℕ) (fs : List (List ℕ → List ℕ)) (events :
 each-alike caps [] [] does = record { same_length = refl; each = λ k small. absurd (omega arith) }
 each-alike caps [] (event ∷ events) does = absurd does
 each-alike caps (f ∷ fs) [] does = absurd does
-each-alike caps (f ∷ fs) (event ∷ events) does =
-    let rest = each-alike caps fs events does.1 in
-    record { same_length = ap suc rest.same_length; each = λ k small. one caps f fs event events does.0 rest k small }
-  where
-    one : (caps : List ℕ) (f : List ℕ → List ℕ) (fs : List (List ℕ → List ℕ)) (event : NamedEvent) (events : List NamedEvent) → Does caps f event.kind
-        → AreAlike caps (done_by caps events) fs → (k : ℕ) → k < suc (length (done_by caps events))
-        → Agree caps (slice_index_or (do_kind caps event.kind ∷ done_by caps events) k (λ x. x)) (slice_index_or (f ∷ fs) k (λ x. x))
-    one caps f fs event events does rest zero small = record { each = λ x within. sym (does.each x within) }
-    one caps f fs event events does rest (suc k) small = rest.each k (omega arith)
+each-alike caps (f ∷ fs) (event ∷ events) does = grind (arith, common_steps, (each-alike caps fs events does.1))
 
 -- each event of a network makes states of states
 done-closed : (n : Network) → IsNetwork n → All (λ f. IsClosed (caps_of n) f) (functions_of n)
@@ -99,12 +92,9 @@ sampled_by function system n seed stream o kept of is =
 -- the sample is that of coupling from the past
 pub sampled-drawn : (n : Network) (seed stream : ℕ) → IsNetwork n → IsDrawn n seed stream (sampled n seed stream)
 unfolding functions_by_time sampled
-sampled-drawn n seed stream kept =
-    sample-is (caps_of n) (functions_of n) (rates_of n) n.limit n.split (seed_word seed stream) (sampled n seed stream)
-    (functions_by_time-closed n seed stream kept) (outcome_within-is (ending_at n.split (functions_by_time n seed stream) (caps_of n)) n.limit)
+sampled-drawn n seed stream kept = grind (arith, common_steps, sample-is, functions_by_time-closed, outcome_within-is)
 
 -- what is printed of a network's sample is a sample's text
 pub sampled_printed : (before after : Option (List ℕ)) (n : Network) (seed stream : ℕ) → IsNetwork n
     → after ≡ appended before (outcome_text (sampled n seed stream)) → IsSampled before after (outcome_status (sampled n seed stream)) n seed stream
-sampled_printed before after n seed stream kept grew =
-    record { outcome = sampled n seed stream; drawn = sampled-drawn n seed stream kept; status = refl; text = grew }
+sampled_printed before after n seed stream kept grew = grind (arith, common_steps, sampled-drawn)

@@ -1,9 +1,10 @@
 -- The composed map of all states of a network.
 use Rattle.std.specs.Prelude.{◌≡◌, ℕ, zero, suc, ◌^◌, ◌<◌, ◌≤◌, List, [], ◌∷◌, map, length, All, Option, refl}
-use Rattle.std.proofs.Common.{ap, sym, ◌∙◌, subst, inl, inr}
-use Rattle.std.proofs.lemmas.Bool.{cases_lt, le-leb, lt-leb}
+use Rattle.std.proofs.Common.{arith, ap, sym, ◌∙◌, subst}
+use Rattle.std.proofs.lemmas.Bool.{le-leb, lt-leb}
+use Rattle.std.proofs.lemmas.Grind.{common_steps}
 use Rattle.psi_io.specs.Sink.{appended}
-use Rattle.psi_state.specs.State.{IsBelow, all_states, numbers_from}
+use Rattle.psi_state.specs.State.{IsBelow, numbers_from}
 use Rattle.psi_state.specs.Sets.{single}
 use Rattle.psi_state.proofs.BoxesLemmas.{In-of_all_states}
 use Rattle.psi_state.proofs.AscendingLemmas.{image-agree}
@@ -37,7 +38,7 @@ use Rattle.psi_reply.specs.Networks.{IsSystemOf}
 use Rattle.psi_reply.specs.Couple.{endings}
 use Rattle.psi_reply.specs.Exact.{meetings, meeting, sizes, state_count, meeting_status, exact_text, HasMetBy, AreAlike, IsSurveyOf, IsSurveyed, region}
 use Rattle.psi_program.specs.Reply.{text_reply, line_reply}
-use Rattle.psi_reply.specs.Reply.{Reply, survey_reply}
+use Rattle.psi_reply.specs.Reply.{survey_reply}
 use Rattle.psi_reply.proofs.SamplingLemmas.{functions_by_time-closed, of_network}
 
 -- ---- the survey of a system that is the network's
@@ -46,14 +47,12 @@ use Rattle.psi_reply.proofs.SamplingLemmas.{functions_by_time-closed, of_network
 compose-agree : (caps : List ℕ) (f g : ℕ → List ℕ → List ℕ) → AreClosed caps f → ((k : ℕ) → Agree caps (f k) (g k))
     → (t : ℕ) (x : List ℕ) → IsBelow x caps → compose f t x ≡ compose g t x
 compose-agree caps f g closed agree zero x within = refl
-compose-agree caps f g closed agree (suc t) x within =
-    compose-agree caps f g closed agree t (f (suc t) x) ((closed.each (suc t)).each x within) ∙ ap (compose g t) ((agree (suc t)).each x within)
+compose-agree caps f g closed agree (suc t) x within = grind (arith, common_steps, (compose-agree caps f g closed agree t (f (suc t) x) ((closed.each (suc t)).each x within)))
 
 -- so they leave the same states of all
 image_at-agree : (caps : List ℕ) (f g : ℕ → List ℕ → List ℕ) → AreClosed caps f → ((k : ℕ) → Agree caps (f k) (g k))
     → (t : ℕ) → image_at f caps t ≡ image_at g caps t
-image_at-agree caps f g closed agree t =
-    image-agree (compose f t) (compose g t) (all_states caps) (λ x member. compose-agree caps f g closed agree t x (In-of_all_states caps x member))
+image_at-agree caps f g closed agree t = grind (arith, common_steps, image-agree, compose-agree, In-of_all_states)
 
 -- the same numbers of them
 sizes-agree : (caps : List ℕ) (f g : ℕ → List ℕ → List ℕ) → AreClosed caps f → ((k : ℕ) → Agree caps (f k) (g k))
@@ -166,19 +165,9 @@ pub surveyed_reply : (n : Network) (seed stream h states : ℕ) (told : List ℕ
     → state_count n ≤ 65536 → states ≡ state_count n → told ≡ sizes n seed stream h → met ≡ meeting n seed stream h → own ≡ region n seed stream h
     → status ≡ meeting_status met → text ≡ survey_text states told met own → text_reply status text ≡ survey_reply n seed stream h
 unfolding exact_text
-surveyed_reply n seed stream h states told met own status text few count same meets couples is made =
-    let whole : text ≡ exact_text n seed stream h = rw (count, same, meets, couples) at made in
-    ap (λ (s : Status). text_reply s text) (is ∙ ap meeting_status meets)
-    ∙ ap (λ (t : List ℕ). text_reply (meeting_status (meeting n seed stream h)) t) whole
-    ∙ survey_few n seed stream h few
+surveyed_reply n seed stream h states told met own status text few count same meets couples is made = grind (arith, common_steps, survey_few)
 
 -- what is printed of a network's composed map is told of it, unless there are too many states
 pub exact_printed : (before after : Option (List ℕ)) (n : Network) (seed stream h : ℕ) → IsNetwork n
     → after ≡ appended before (survey_reply n seed stream h).out → IsSurveyed before after (survey_reply n seed stream h).status n seed stream h
-exact_printed before after n seed stream h kept grew =
-    elim (cases_lt 65536 (state_count n)) [
-      | inl many ↦ inr (record { many = many; status = ap (λ (r : Reply). r.status) (sym (survey_many n seed stream h many)) })
-      | inr few ↦ (let same = survey_few n seed stream h few in
-          inl (subst (λ (r : Reply). IsSurveyOf before after r.status n seed stream h) same
-          (surveyed before after n seed stream h kept few (grew ∙ ap (λ (r : Reply). appended before r.out) (sym same)))))
-    ]
+exact_printed before after n seed stream h kept grew = grind (arith, common_steps, survey_many, survey_few, surveyed)
