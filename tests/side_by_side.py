@@ -1,8 +1,8 @@
 """How tests run side by side, in the processes of pytest-xdist.
 
-Tests that are marked `quiet` measure a time. They run first, one after the other in one process, and no other
-test begins before they have ended. The slow tests come next, since a long one that begins late is waited for.
-Those that are marked `release` run one after the other in one process.
+Tests that are marked `quiet` measure a time, or have to end within one. They run first, one after the other in
+one process, and no other test begins before they have ended. The slow tests come next, since a long one that
+begins late is waited for. Those that are marked `release` run one after the other in one process.
 """
 
 import pathlib

@@ -336,6 +336,8 @@ def test_a_phone_shows_all(browser: "WebDriver", opened: Open, pages: Pages, emu
         assert all(0 <= middle <= 390 for middle in middles)
 
 
+# The browser has to print within ten seconds, which it may not on a busy machine.
+@pytest.mark.quiet
 @pytest.mark.parametrize("name", ["first", "tandem-blocking", "longest-queue-split", "hyperexponential-service"])
 def test_the_page_prints(
     browser: "WebDriver", opened: Open, pages: Pages, tmp_path: pathlib.Path, emulated: Emulate, name: str
