@@ -8,14 +8,16 @@ from typing import NoReturn
 TOP = pathlib.Path(__file__).resolve().parent.parent
 
 
-def run(faults: Callable[[], Iterable[str]], write: Callable[[], object] | None = None) -> NoReturn:
+def run(
+    faults: Callable[[], Iterable[str]], write: Callable[[], object] | None = None, option: str = "--check"
+) -> NoReturn:
     """Ends a check with the status 1 where it finds faults, which are printed, and 2 for other arguments than
-    `--check`. A check that writes a page does so first, unless `--check` is given."""
+    its option. A check that writes a page does so first: unless `--check` is given, or where `--write` is."""
     words = sys.argv[1:]
-    if words and (write is None or words != ["--check"]):
-        print(f"usage: python3 {sys.argv[0]}{' [--check]' * bool(write)}", file=sys.stderr)
+    if words and (write is None or words != [option]):
+        print(f"usage: python3 {sys.argv[0]}{f' [{option}]' * bool(write)}", file=sys.stderr)
         sys.exit(2)
-    if write and not words:
+    if write and bool(words) == (option == "--write"):
         write()
     found = [*faults()]
     print("".join(f"{fault}\n" for fault in found) + f"{len(found)} faults")

@@ -18,8 +18,7 @@ from collections.abc import Iterator
 
 import pytest
 
-from generate import case_files
-from generate.case_files import Case
+from generate.case_files import Case, case_named
 from psi_tools.model.networks import Network
 from tests import merges
 from tests.refusing import Call, Refusing
@@ -71,8 +70,7 @@ def ring() -> bytes:
 def cases(line: str) -> list[Case]:
     """The cases that a line of the tables names."""
     file, names = line.split(": ")
-    named = {case.name: case for case in case_files.cases(file)}
-    return [named[name] for name in names.split(" ")]
+    return [case_named(file, name) for name in names.split(" ")]
 
 
 def calls(refusing: Refusing, folder: pathlib.Path, command: str) -> Iterator[Call]:

@@ -5,7 +5,6 @@ lines here, with a comma after its last entry; strings may have the escapes \\e 
 """
 
 import re
-from collections.abc import Iterator
 from typing import Any, NoReturn
 
 BARE = re.compile(r"[A-Za-z0-9_-]+")
@@ -95,13 +94,13 @@ class Reader:
             self.at = found.end()
         return found
 
-    def skip(self) -> None:
-        """Passes blanks, ends of lines and comments."""
+    def skip(self, *, lines: bool) -> None:
+        """Passes blanks and, where asked, ends of lines and comments."""
         while True:
             self.take(BLANK)
-            if self.peek() == "#":
+            if self.peek() == "#" and lines:
                 self.comment()
-            if not self.end_of_line():
+            if not (lines and self.end_of_line()):
                 return
 
     def end_of_line(self) -> bool:
@@ -126,7 +125,7 @@ class Reader:
         root = Table(1, "header")
         here = root
         while True:
-            self.skip()
+            self.skip(lines=True)
             if self.at == len(self.text):
                 return root
             if self.peek() == "[":
@@ -149,21 +148,16 @@ class Reader:
         if self.peek(1 + is_array) != "]" * (1 + is_array):
             self.fail(f"the header doesn't end with {']' * (1 + is_array)}")
         self.at += 1 + is_array
-        return self.headed(self.below(root, keys[:-1], line, "implied"), keys[-1], line, is_array)
-
-    def below(self, begin: Table, keys: list[str], line: int, kind: str) -> Table:
-        """The table below a table that keys lead to; those that aren't there are made, and are of a kind."""
-        table: Any = begin
-        for key in keys:
+        table: Any = root
+        for key in keys[:-1]:
             if key not in table:
-                table[key], table.places[key] = Table(line, kind), line
+                table[key], table.places[key] = Table(line, "implied"), line
             table = table[key]
-            if type(table) is Array and table.of_tables and kind == "implied":
+            if type(table) is Array and table.of_tables:
                 table = table[-1]
-            if type(table) is not Table or table.kind == "braces" or kind == "dotted" and table.kind != kind:
+            if type(table) is not Table or table.kind == "braces":
                 raise TomlError(line, f"{key} is no table that can be extended")
-        found: Table = table
-        return found
+        return self.headed(table, keys[-1], line, is_array)
 
     def headed(self, table: Table, key: str, line: int, is_array: bool) -> Table:
         """The table of a header in the table that it belongs to."""
@@ -219,7 +213,12 @@ class Reader:
         self.at += 1
         self.take(BLANK)
         value = self.value()
-        table = self.below(table, keys[:-1], line, "dotted")
+        for key in keys[:-1]:
+            if key not in table:
+                table[key], table.places[key] = Table(line, "dotted"), line
+            table = table[key]
+            if type(table) is not Table or table.kind not in ("dotted",):
+                raise TomlError(line, f"{key} is no table that can be extended")
         if keys[-1] in table:
             raise TomlError(line, f"{keys[-1]} is given a second time")
         table[keys[-1]], table.places[keys[-1]] = value, line
@@ -263,31 +262,35 @@ class Reader:
 
     def array(self) -> Array:
         found = Array(self.line())
-        for _ in self.items("an array", "]"):
+        self.at += 1
+        while True:
+            self.skip(lines=True)
+            if self.peek() == "]":
+                self.at += 1
+                return found
             found.places.append(self.line())
             found.append(self.value())
-        return found
+            self.skip(lines=True)
+            if self.peek() == ",":
+                self.at += 1
+            elif self.peek() != "]":
+                self.fail("in an array `,` or `]` is expected here")
 
     def braces(self) -> Table:
         found = Table(self.line(), "dotted")
-        for _ in self.items("a table in braces", "}"):
-            self.pair(found)
-        seal(found)
-        return found
-
-    def items(self, what: str, close: str) -> Iterator[None]:
-        """Stops at each item between brackets, for the caller to pass it."""
         self.at += 1
-        self.skip()
-        while self.peek() != close:
-            yield
-            self.skip()
+        while True:
+            self.skip(lines=True)
+            if self.peek() == "}":
+                self.at += 1
+                seal(found)
+                return found
+            self.pair(found)
+            self.skip(lines=True)
             if self.peek() == ",":
                 self.at += 1
-                self.skip()
-            elif self.peek() != close:
-                self.fail(f"in {what} `,` or `{close}` is expected here")
-        self.at += 1
+            elif self.peek() != "}":
+                self.fail("in a table in braces `,` or `}` is expected here")
 
     def string(self) -> str:
         """A text in quotes of any of the four forms."""

@@ -3,21 +3,30 @@
 import collections
 import dataclasses
 
-from psi_tools.io.tables import Record
-from psi_tools.stats.batches import REWARD, Batches, record
-from psi_tools.stats.intervals import Mean
+from psi_tools.stats.batches import REWARD, Batches, interval_or_none
+
+
+@dataclasses.dataclass
+class Spread:
+    """A queue or a reward: the mean over the samples that are met, and the extremes; none of them
+    where no sample is. The interval of the mean is there where batches give one."""
+
+    name: str
+    mean: float | None
+    least: int | None
+    greatest: int | None
+    interval: tuple[float, float] | None = None
 
 
 @dataclasses.dataclass
 class Report:
-    """A report: how many samples are met at each horizon, and a row of means for each queue and reward, whose ends are
-    there where batches give an interval."""
+    """A report: how many samples are met at each horizon, and each queue and reward."""
 
     samples: int
     uncoupled: int
     horizons: dict[int, int]
-    queues: list[Record]
-    rewards: list[Record]
+    queues: list[Spread]
+    rewards: list[Spread]
 
 
 def report_of(batches: Batches, has_intervals: bool = False) -> Report:
@@ -26,8 +35,9 @@ def report_of(batches: Batches, has_intervals: bool = False) -> Report:
     for some in batches.horizons:
         horizons.update(some)
     met = sum(batches.met)
-    spreads: dict[str, list[Record]] = {"": [], REWARD: []}
+    spreads: dict[str, list[Spread]] = {"": [], REWARD: []}
     for row in batches.rows:
-        mean = batches.mean(row) if has_intervals else Mean(sum(row.sums) / met if met else None, None)
-        spreads[row.kind].append(record(f"{row.kind}mean", row.name, mean, row.least, row.greatest))
+        mean = sum(row.sums) / met if met else None
+        interval = interval_or_none(batches, row) if has_intervals else None
+        spreads[row.kind].append(Spread(row.name, mean, row.least, row.greatest, interval))
     return Report(sum(batches.samples), batches.uncoupled, dict(sorted(horizons.items())), *spreads.values())
