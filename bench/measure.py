@@ -18,8 +18,14 @@ ITEM = re.compile(r"^([\w-]+),([\w-]+),(\d+)$", re.M)
 # Instructions that a program for x86-64-v3 has in number, and one for x86-64 nowhere.
 THIRD_LEVEL = re.compile(r"\b(?:shlx|shrx|sarx|rorx|mulx)\b")
 JOBS = len(os.sched_getaffinity(0))
+# Every method has one thread, since others that wait for work take processor time, too; and Python
+# makes its tables alike in each run.
+ENVIRONMENT = {"OPENBLAS_NUM_THREADS": "1", "OMP_NUM_THREADS": "1", "PYTHONHASHSEED": "0"}
 # How many runs show how much memory one takes.
 RUNS = 5
+# A least time is settled once two more runs are within this factor and this many seconds of it, or once
+# all runs together took this many seconds.
+NEAR, GRAIN, ENOUGH = 1.04, 0.001, 60.0
 
 
 @dataclasses.dataclass
@@ -32,8 +38,8 @@ class Run:
 
 def run(words: list[str]) -> Run:
     """Runs a program, which has to end with 0 and to print little to standard error."""
-    pipe = subprocess.PIPE
-    with subprocess.Popen(words, stdin=subprocess.DEVNULL, stdout=pipe, stderr=pipe, text=True) as one:
+    pipe, alike = subprocess.PIPE, os.environ | ENVIRONMENT
+    with subprocess.Popen(words, stdin=subprocess.DEVNULL, stdout=pipe, stderr=pipe, text=True, env=alike) as one:
         assert one.stdout is not None and one.stderr is not None
         out, line = one.stdout.read(), one.stderr.read()
         _, end, used = os.wait4(one.pid, 0)
@@ -43,14 +49,30 @@ def run(words: list[str]) -> Run:
     return Run(out, used.ru_utime + used.ru_stime)
 
 
-def least_seconds(calls: dict[str, list[list[str]]], known: dict[str, float]) -> dict[str, float]:
-    """The least processor time of each list of calls, of those that are known and of two more runs of
-    all lists in turn. What else the machine does slows all down, but not each time alike."""
-    found = dict.fromkeys(calls, float("inf")) | known
-    for _ in range(2):
-        for name, lists in calls.items():
-            found[name] = min(found[name], sum(run(words).seconds for words in lists))
-    return found
+@dataclasses.dataclass
+class Times:
+    """The processor times, in seconds, of a run that is repeated. What else the machine does slows each
+    run, but no two alike, so the least is what the run takes."""
+
+    taken: list[float] = dataclasses.field(default_factory=list)
+
+    @property
+    def least(self) -> float:
+        """The least of the times."""
+        return min(self.taken)
+
+    def is_settled(self, fewest: int) -> bool:
+        """Whether the run was repeated often enough, which is this many times at least."""
+        near = [seconds for seconds in self.taken if seconds <= NEAR * self.least + GRAIN]
+        return sum(self.taken) >= ENOUGH or (len(self.taken) >= fewest and len(near) >= 3)
+
+
+def time_again(calls: dict[str, list[list[str]]], times: dict[str, Times], fewest: int) -> None:
+    """Takes once more the time of each list of calls that is not settled."""
+    for name, lists in calls.items():
+        known = times.setdefault(name, Times())
+        if not known.is_settled(fewest):
+            known.taken.append(sum(run(words).seconds for words in lists))
 
 
 def instructions(words: list[str]) -> int | None:

@@ -6,7 +6,8 @@ import textwrap
 
 import texts
 from networks import Case
-from rivals import ENOUGH, Bias, Found
+from measure import ENOUGH, NEAR
+from rivals import Bias, Found
 
 METHODS = "paths", "chain", "simpy", "scipy", "octave"
 CALLED = {
@@ -210,14 +211,14 @@ def where_right(comparisons: list[Comparison]) -> str:
     return "\n".join(items)
 
 
-def page(found: Measured, rounds: int, batches: int, paths: int, most: int) -> str:
+def page(found: Measured, rounds: tuple[int, int], batches: int, paths: int, most: int) -> str:
     """The whole page."""
     start = min(one.start for one in found.samplings) * 1_000
     rows = [sampling_row(one) for one in found.samplings]
     head = ["network", "steps a sample", "samples a second", "ns a step", "instructions a step", "MB"]
     parts = [
         "# Performance\n",
-        wrapped(texts.HEAD.format(rounds=rounds, enough=ENOUGH)),
+        wrapped(texts.HEAD.format(fewest=rounds[0], most=rounds[1], near=NEAR - 1, enough=ENOUGH)),
         "## PSI beside other methods\n",
         wrapped(texts.COMPARED.format(batches=batches, most=most)),
         time_table(found.comparisons),

@@ -20,7 +20,7 @@ from collections.abc import Callable
 
 import solve
 from events import events_of, text_of
-from measure import Run, run, sums_of
+from measure import Run, Times, run, sums_of
 from networks import SQUARED, WATCHED, Case, one_queue
 
 TARGET, SEED = 0.01, 1
@@ -28,8 +28,6 @@ TARGET, SEED = 0.01, 1
 BATCHES, T_QUANTILE, Z_QUANTILE = 20, 2.093, 1.96
 # How many paths there are, and Student's t for 29 degrees of freedom.
 PATHS, PATHS_QUANTILE = 30, 2.045
-# The seconds in all from which on a run is not repeated.
-ENOUGH = 30
 HERE = pathlib.Path(__file__).resolve().parent
 PYTHON = "/usr/bin/python3" if os.access("/usr/bin/python3", os.X_OK) else sys.executable
 
@@ -64,23 +62,27 @@ class Found:
 
 
 class Least:
-    """The least times of each method on each network, over runs that are repeated."""
+    """The least times of each method on each network, over runs that are repeated this often or more."""
 
-    def __init__(self) -> None:
+    def __init__(self, fewest: int) -> None:
+        self.fewest = fewest
         self.found: dict[tuple[str, str], Found | None] = {}
-        self.spent: dict[tuple[str, str], float] = {}
+        self.times: dict[tuple[str, str], Times] = {}
 
     def of(self, network: str, method: str, measure: Callable[[], Found | None]) -> Found | None:
-        """Measures a method on a network again, unless its runs took long enough, and returns what it
-        found, with the least start and the least time so far."""
-        key, known = (network, method), self.found.get((network, method))
-        if self.spent.get(key, 0) >= ENOUGH:
+        """Measures a method on a network again, unless its time is settled or it has no answer, and
+        returns what it found, with the least start and the least time so far."""
+        key = network, method
+        known = self.found.get(key)
+        if key in self.found and (known is None or self.times[key].is_settled(self.fewest)):
             return known
         found = self.found[key] = measure()
         if found:
-            self.spent[key] = self.spent.get(key, 0) + found.measured
+            times = self.times.setdefault(key, Times())
+            times.taken.append(found.measured)
+            found.measured = times.least
         if found and known:
-            found.start, found.measured = min(found.start, known.start), min(found.measured, known.measured)
+            found.start = min(found.start, known.start)
         return found
 
 

@@ -6,8 +6,10 @@ the same answer. Read it before you choose a method. `bench/run` measures everyt
 page.
 
 Compare ratios, not seconds. The machine may have been busy, as its load at the end of this page
-shows. So each time is the least processor time of {rounds} runs or more, in which all networks and
-all methods take turns. A method whose runs took {enough} seconds in all is not run again.
+shows. So each time is the least processor time of {fewest} runs or more, in which all networks and
+all methods take turns. A run is repeated until its time is settled: until two more runs come within
+{near:.0%} of the least, or until its runs took {enough:.0f} seconds in all. After {most} runs there is no
+other.
 
 Instructions are counted by callgrind, and hardly depend on what else runs.
 """

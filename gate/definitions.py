@@ -102,10 +102,6 @@ class File:
                 self.passed_on[other or name] = (module, name)
 
 
-def words_of(item: Item) -> list[str]:
-    return item.text[0].split()
-
-
 class Spec(File):
     """A file of specs/."""
 
@@ -124,7 +120,7 @@ class Spec(File):
             if item and (indent > item.indent or indent == item.indent and self.is_equation(line)):
                 item.text.append(line)
                 maker = re.match(r" *(\w+) :", line)
-                if maker and indent == item.indent + 2 and words_of(item)[:2] == ["pub", "data"]:
+                if maker and indent == item.indent + 2 and item.text[0].split()[:2] == ["pub", "data"]:
                     item.makers.add(maker.group(1))
                 continue
             item = None

@@ -5,8 +5,8 @@ prints each with its place and with what to write instead. The last line has the
 status is 1 where it is not 0.
 
 Only prose counts: blocks and pieces of code, quotations, and the targets of links are left out,
-since they show what a program prints or what stands elsewhere. Each entry of WORDS has a sentence
-that it has to find; one that does not find it is reported as well.
+since they show what a program prints or what stands elsewhere. The pages and the words are listed in
+gate/house_words.txt. Each word has a sentence that it has to find; one that does not is reported as well.
 """
 
 import bisect
@@ -17,58 +17,11 @@ from collections.abc import Iterator
 
 from gate import TOP, run
 
-# The pages, each with the line before which its part ends; none where all of it counts.
-PAGES = (
-    ("README.md", None),
-    ("SECURITY.md", None),
-    ("CHANGELOG.md", "## 0.1.0"),
-    ("PERFORMANCE.md", None),
-    ("docs/START.md", None),
-    ("docs/NOT-SUPPORTED.md", None),
-    ("docs/RELEASING.md", None),
-    ("docs/TOUR.md", "## 2. "),
-    ("docs/TOOLS.md", "## psi-means"),
-    ("examples/README.md", None),
-    ("docs/course/README.md", None),
-    ("docs/course/exercises.md", None),
-    ("docs/course/solutions.md", None),
-    ("docs/course/sheet.md", None),
-)
-
+LISTED = [line.split("\t") for line in (TOP / "gate/house_words.txt").read_text().splitlines() if line[:1] != "#"]
+# The pages, each with the line before which its part ends, if not all of it counts.
+PAGES = [(name, next(iter(end), None)) for kind, name, *end in LISTED if kind == "page"]
 # What to avoid, what to write instead, and a sentence that has it.
-WORDS = (
-    (r"(?<!Little's )\blaws?\b", "distribution; stationary distribution", "the law of the network"),
-    (r"\bmet\b|\bmeeting\b", "coalesced", "until all states have met"),
-    (r"(?<!random )\bwords?\b", "random word; argument; token", "the words of this call"),
-    (r"\bwant of memory\b|\bgrowths? of memory\b", "out of memory", "it ends for want of memory"),
-    (r"\btakes? (?:no |its )?memory\b|\btakes none\b", "allocates", "a step takes no memory"),
-    (r"\bbehind\b", "after", "it stands behind the name"),
-    (r"\b(?:line|one|step|row|report|call|section) before\b", "preceding", "it needs the one before"),
-    (r"\banew\b", "again", "all is proved anew"),
-    (r"\b(?:tells?|told|telling|says?|said)\b", "reports, prints, returns, means", "a line tells it"),
-    (r"\bcom(?:es?|ing) of\b|\bcame of\b", "results from; happens when", "what comes of a read"),
-    (r"\bso many\b|\bas many as there are\b", "that many; N", "it has no row for so many"),
-    (r"\bin(?:to)? the place of\b", "instead of", "it stands in the place of the other"),
-    (r"\ba front of\b|\bits front\b", "a prefix of", "a front of the text"),
-    (r"\b(?:ask|asks|asked|asking) of\b", "call; query", "what is asked of a network"),
-    (r"\bmarks?\b", "monotone or not", "the mark of an event"),
-    (r"\brooms?\b", "capacity; space", "a desk with room for ten"),
-    (r"\bhad from\b", "available from", "it is had from a file"),
-    (r"\bas ever\b", "as usual; unchanged", "the status is as ever"),
-    (r"\bby the same words\b", "under common random numbers", "two designs by the same words"),
-    (
-        r"\b(?:means|laws|it) with (?:their )?intervals\b",
-        "with 95 % confidence intervals",
-        "it prints means with their intervals",
-    ),
-    (
-        r"\b(?:lost|blocked)\b|\bloss(?:es)?\b(?! probabilit)",
-        "loss or blocking probability",
-        "how many customers are lost",
-    ),
-    (r"\bhow full\b", "occupancy; queue length", "it shows how full the buffer is"),
-)
-
+WORDS = [words for kind, *words in LISTED if kind == "word"]
 CODE = re.compile(r"^ *```.*?^ *```$|<!--.*?-->|^>[^\n]*$|^ {4}[^\n]*$", re.M | re.S)
 INLINE = re.compile(r"`[^`]*`|\]\([^)]*\)")
 

@@ -49,7 +49,8 @@ class File:
             if "use Rattle." in line:
                 self.bring_in(line)
             elif self.path.suffix == ".rt":
-                self.bring_in_paths(line)
+                for crate, folder, module, name in PATH.findall(line):
+                    self.known[name] = (self.crate if crate == "crate" else crate, f"{folder}.{module}", name)
                 self.words[None] |= set(TOKEN.findall(line.replace("::", " ")))
             elif line:
                 indent = len(line) - len(line.lstrip())
@@ -69,11 +70,6 @@ class File:
         for name in (names or "").split(","):
             there, _, here = name.strip().partition(" as ")
             self.known[here or there] = (crate, module, there)
-
-    def bring_in_paths(self, line: str) -> None:
-        for crate, folder, module, name in PATH.findall(line):
-            crate = self.crate if crate == "crate" else crate
-            self.known[name] = (crate, f"{folder}.{module}", name)
 
     def owner(self, line: str, number: int, before: str | None) -> str | None:
         """In whose text a line at the level of declarations stands."""
@@ -113,16 +109,10 @@ def files_of_crates() -> dict[tuple[str, str], File]:
     return files
 
 
-def documented() -> set[str]:
-    """The names that guides have between backticks."""
-    names = set()
-    for path in [*TOP.glob("*.md"), *TOP.glob("docs/*.md")]:
-        names |= set(re.findall(r"`([^`\s]+)`", path.read_text()))
-    return names
-
-
 def needed(files: dict[tuple[str, str], File]) -> set[Name]:
-    guides = documented()
+    # A guide has the names of lemmas between backticks.
+    pages = (path.read_text() for path in [*TOP.glob("*.md"), *TOP.glob("docs/*.md")])
+    guides = {name for text in pages for name in re.findall(r"`([^`\s]+)`", text)}
     reached = set()
     new = {
         (*key, owner)

@@ -5,9 +5,13 @@ each once, as it stands in the sources. A definition is found by the `use` lines
 that can't be found is an error, and then nothing is written. What the names of the kit mean is told
 in gate/kit_names.txt; the parts and their sections are told in gate/statement.txt.
 
---check   writes nothing, and ends with 1 where the page isn't what would be written
+The entries of docs/DEFINITIONS.md that have a definition of the page are marked as such: a ◆ stands
+before their first word, and before no other.
+
+--check   writes nothing, and ends with 1 where the page isn't what would be written, or a mark is wrong
 """
 
+import collections
 import contextlib
 import dataclasses
 import pathlib
@@ -19,7 +23,12 @@ from gate.definitions import CRATES, File, Item, Missing, Source, Sources, uses
 
 # The definitions that were shown, by their files and names.
 Shown = dict[tuple[pathlib.Path, str], Item]
-PAGE = TOP / "docs" / "STATEMENT.md"
+PAGE, DEFINITIONS = TOP / "docs" / "STATEMENT.md", TOP / "docs" / "DEFINITIONS.md"
+# The blocks of the page, what they define, and the entries and sections of docs/DEFINITIONS.md.
+BLOCK = re.compile(r"^\[`(\w+)`: ([\w/.]+)\]\(.*?\n\n```\n(.*?)^```$", re.M | re.S)
+DEFINED = re.compile(r"^ *(?:\w+ )*pub (?:data |record |enum |struct |trait )?([^\s:({<]+)", re.M)
+ENTRY = re.compile(r"^- (?:◆ )?(\*\*.*?)(?=^- |^#|^$|\Z)", re.M | re.S)
+SECTION = re.compile(r"^## .*$", re.M)
 
 
 def clause(sources: Sources, path: str, function: str, label: str = "") -> Item:
@@ -82,10 +91,6 @@ class Part:
         self.left: dict[str, str] = {}
         self.cut: dict[str, list[str]] = {}
 
-    def last_words(self) -> list[str]:
-        """The words of its last section, or its own where it has none."""
-        return self.sections[-1].words if self.sections else self.words
-
 
 def outline() -> tuple[list[str], list[Part]]:
     """The parts of the page, as gate/statement.txt tells them."""
@@ -114,7 +119,8 @@ def outline() -> tuple[list[str], list[Part]]:
         elif key == "paths":
             parts[-1].sections[-1].paths = rest.split()
         else:
-            words = parts[-1].last_words() if parts else head
+            # Those of the last section, or of the part where it has none.
+            words = (parts[-1].sections or parts)[-1].words if parts else head
             words += [line] if line or words and words[-1] else []
     return head, parts
 
@@ -255,31 +261,63 @@ def ending(sources: Sources, counts: list[tuple[str, list[Item]]]) -> list[str]:
     return lines + ["parts counts in both, and once in all."]
 
 
-def kit_names() -> dict[str, str]:
-    """What the names of the kit mean, by their names."""
-    text = (TOP / "gate" / "kit_names.txt").read_text(encoding="utf-8")
-    return dict(line.split("\t") for line in text.splitlines())
-
-
 def made() -> str:
     """The page, as it is written."""
-    return "\n".join(page(Sources(kit_names()))).strip("\n") + "\n"
+    names = (TOP / "gate" / "kit_names.txt").read_text(encoding="utf-8").splitlines()
+    return "\n".join(page(Sources(dict(line.split("\t") for line in names)))).strip("\n") + "\n"
+
+
+def stated() -> dict[str, set[str]]:
+    """The names that the statement shows, by their files below crates/."""
+    names: dict[str, set[str]] = collections.defaultdict(set)
+    for crate, file, text in BLOCK.findall(PAGE.read_text()):
+        names[f"{crate}/{file}"].update(DEFINED.findall(text))
+    return names
+
+
+def is_stated(entry: str, crates: list[str], names: dict[str, set[str]]) -> bool:
+    """Whether an entry of a section on these crates has a definition that the statement shows."""
+    files: list[str] = []
+    for word in re.findall(r"`([^`]+)`", entry):
+        if word.endswith((".antt", ".rt")):
+            named = [path for path in names if path.endswith(f"/{word}") or path == word]
+            files = [path for path in named if path == word or path.split("/")[0] in crates]
+        elif any(word in names[path] for path in files):
+            return True
+        elif word.startswith("psi_"):
+            crates = [*crates, word.split("/")[0]]
+    return False
+
+
+def marked() -> str:
+    """The page with its marks."""
+    names, text = stated(), DEFINITIONS.read_text()
+    heads = [(head.start(), head[0]) for head in SECTION.finditer(text)]
+
+    def mark(entry: re.Match[str]) -> str:
+        head = max(found for found in heads if found[0] < entry.start())[1]
+        crates = re.findall(r"\bpsi\w*", head + entry[1])
+        return f"- {'◆ ' if is_stated(entry[1], crates, names) else ''}{entry[1]}"
+
+    return ENTRY.sub(mark, text)
 
 
 def faults() -> list[str]:
-    """What is wrong with the page."""
+    """What is wrong with the page, and the entries whose mark is wrong."""
     try:
-        if PAGE.is_file() and PAGE.read_text(encoding="utf-8") == made():
-            return []
+        is_made = PAGE.is_file() and PAGE.read_text(encoding="utf-8") == made()
     except Missing as missing:
         return [str(missing)]
-    return ["docs/STATEMENT.md isn't what the sources say: run `python3 -m gate.make_statement`"]
+    found = [] if is_made else ["docs/STATEMENT.md isn't what the sources say: run `python3 -m gate.make_statement`"]
+    lines = zip(marked().splitlines(), DEFINITIONS.read_text().splitlines())
+    return found + [f"the mark is wrong: {own}" for new, own in lines if own != new]
 
 
 def write() -> None:
-    """Writes the page, where the sources have all that it shows."""
+    """Writes the page, where the sources have all that it shows, and the marks."""
     with contextlib.suppress(Missing):
         PAGE.write_text(made(), encoding="utf-8")
+    DEFINITIONS.write_text(marked())
 
 
 if __name__ == "__main__":

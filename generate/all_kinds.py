@@ -14,7 +14,7 @@ from generate.case_text import case, write
 from generate.small_networks import Entry
 from generate.toml_text import table
 from oracle import plain
-from oracle.plain_network import Network, box, is_below
+from oracle.plain_network import Event, Network, State, box, is_below
 
 CAPACITIES = [(1,), (3,), (4,), (1, 2), (2, 2), (4, 2), (1, 2, 1)]
 NAMES = "abc"
@@ -104,15 +104,12 @@ def kinds(caps: dict[str, int]) -> Iterator[Entry]:
             yield {"kind": "negative", **keys, "on": on, "amount": amount}
 
 
-def prove_marks(net: Network) -> None:
-    """Each event's mark is right: its pair breaks the order; without one all states keep it."""
-    states = box((0,) * len(net.caps), net.caps)
-    for event in net.events:
-        pair = event.upset()
-        pairs = [pair] if pair else itertools.product(states, repeat=2)
-        for x, y in pairs:
-            keeps = not is_below(x, y) or is_below(event.after(x), event.after(y))
-            assert keeps == (pair is None), (event.name, x, y)
+def is_marked(event: Event, after: dict[State, State]) -> bool:
+    """Whether an event's mark is that of its images: a pair that breaks the order, if any does."""
+    pair = event.upset()
+    pairs = [pair] if pair else itertools.product(after, repeat=2)
+    keeps = (is_below(after[x], after[y]) for x, y in pairs if is_below(x, y))
+    return all(keeps) == (pair is None)
 
 
 def cases() -> Iterator[bytes]:
@@ -129,7 +126,8 @@ def cases() -> Iterator[bytes]:
                 for i, keys in enumerate(entries[front : front + TOGETHER])
             )
             net = Network(tomllib.loads(text))
-            prove_marks(net)
+            states = box((0,) * len(net.caps), net.caps)
+            assert all(is_marked(event, {x: event.after(x) for x in states}) for event in net.events), text
             name = f"kinds-{'-'.join(map(str, sizes))}-from-{front}"
             files = {"net.toml": text.encode()}
             out = plain.description(net).encode()

@@ -98,11 +98,3 @@ def cases_of(data: bytes) -> Iterator[Case]:
 def cases(file: str) -> Iterator[Case]:
     """The cases of a file of crates/psi_test_cases/data, one by one."""
     return cases_of((DATA / file).read_bytes())
-
-
-def case_named(file: str, name: str) -> Case:
-    """The case of this name in a file of crates/psi_test_cases/data."""
-    for case in cases(file):
-        if case.name == name:
-            return case
-    raise KeyError(f"{file} has no case {name}")

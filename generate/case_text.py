@@ -50,13 +50,6 @@ def _text(data: bytes) -> list[bytes]:
     return lines + _plain(data[at:])
 
 
-def _word(word: str) -> list[bytes]:
-    data = word.encode()
-    if b"\n" in data:
-        return [b"word", *_text(data)]
-    return [b"word " + data] if data else [b"word"]
-
-
 def case(
     name: str,
     words: Iterable[str],
@@ -69,7 +62,7 @@ def case(
     """The bytes of a case. `files` are bytes by name; `limits` are those of the form, as `room`."""
     lines = [b"case " + name.encode()]
     for word in words:
-        lines += _word(word)
+        lines += [b"word", *_text(word.encode())] if "\n" in word else [f"word {word}".encode() if word else b"word"]
     for file, data in files.items():
         lines += [b"file " + file.encode(), *_text(data)]
     lines += [b"%s %d" % (key.encode(), number) for key, number in limits.items()]

@@ -4,8 +4,8 @@ Writes the files of the program psi_test_sweep, which compares what events make 
 of all boxes with tables of it: data/ with networks and their tables, args, stdout and status.
 
 The networks have one to four queues with room for a few customers, and events of every kind: some
-have a few of each kind, one has routes by tables that are drawn, and the others have all events of
-all_kinds.py at some capacities. What an event makes of a state is what the plain program answers
+were written by hand and stand in data/, one has routes by tables that are drawn, and the others have
+all events of all_kinds.py at some capacities. What an event makes of a state is what the plain program answers
 (plain_network.py), which was written from the definitions and shares nothing with the proved one. A
 small network has tables that are wrong in one place each; what has to be printed of these is worked
 out here.
@@ -23,116 +23,11 @@ from generate.toml_text import lists
 from oracle.plain import text_of
 from oracle.plain_network import Event, Network, State, box, is_below
 
-# The capacities, the servers and the events of a network.
-Described = tuple[dict[str, int], dict[str, int], list[Entry]]
-
-
-def guarded(**numbers: tuple[int, ...]) -> Entry:
-    """A guarded event by the numbers of the part of each queue."""
-    return {"kind": "guarded", "part": [all_kinds.part(queue, own) for queue, own in numbers.items()]}
-
-
-# Two queues, the first with two servers.
-TWO: Described = (
-    {"a": 2, "b": 3},
-    {"a": 2, "b": 1},
-    [
-        {"kind": "arrival", "to": ["b", "a"]},
-        {"kind": "service", "from": "a", "to": ["b"], "full": "lost"},
-        {"kind": "service", "from": "a", "to": ["b"], "full": "stay"},
-        {"kind": "service", "from": "a", "full": "stay"},
-        {"kind": "index", "to": ["a", "b"], "table": [[5, 0], [3, 3, 1]]},
-        {"kind": "index", "to": ["b", "a"], "table": [[2, 1, 0], [1, 1]], "size": 2},
-        {"kind": "batch", "to": ["a", "b"], "size": 2},
-        {"kind": "negative", "on": "b", "amount": 2},
-        {"kind": "negative", "from": "a", "on": "b"},
-        {"kind": "fork", "to": ["a", "b"]},
-        {"kind": "fork", "from": "a", "to": ["b"]},
-        {"kind": "join", "from": ["b"], "to": "a"},
-        {"kind": "join", "from": ["a", "b"]},
-        guarded(b=(1, 2, 2, 0, 2)),
-        guarded(a=(0, 2, -2, 1, 2)),
-        guarded(b=(0, 2, 1, 2, 3), a=(1, 2, -1, 0, 2)),
-        guarded(a=(0, 1, 0, 2, 2), b=(1, 3, -3, 1, 3)),
-    ],
-)
-
-# Three queues, the last with two servers.
-THREE: Described = (
-    {"a": 1, "b": 1, "c": 2},
-    {"a": 1, "b": 1, "c": 2},
-    [
-        {"kind": "arrival", "to": ["c", "a", "b"]},
-        {"kind": "service", "from": "c", "to": ["b", "a"], "full": "lost"},
-        {"kind": "service", "from": "c", "to": ["b", "a"], "full": "stay"},
-        {"kind": "index", "from": "c", "to": ["a", "b"], "table": [[1], [0]], "full": "stay"},
-        {"kind": "index", "from": "a", "to": ["b", "c"], "table": [[2], [3, 1]], "full": "lost"},
-        {"kind": "index", "to": ["b", "c", "a"], "table": [[1], [0, 2], [1]]},
-        {"kind": "negative", "from": "c", "on": "a", "amount": 65535},
-        {"kind": "fork", "from": "c", "to": ["a", "b"]},
-        {"kind": "join", "from": ["a", "b"], "to": "c"},
-        guarded(c=(0, 1, 2, 0, 2), a=(0, 0, 1, 0, 1), b=(1, 1, -1, 0, 1)),
-        guarded(a=(0, 1, 65535, 0, 1), b=(0, 1, -65535, 0, 1), c=(1, 2, -1, 1, 1)),
-    ],
-)
-
-# Two queues, the first with three servers, of which each counts on all lower ones.
-SERVERS: Described = (
-    {"a": 3, "b": 2},
-    {"a": 3, "b": 1},
-    [
-        {"kind": "service", "from": "a", "to": ["b"], "full": "stay"},
-        {"kind": "index", "from": "a", "to": ["b"], "table": [[1, 0]], "full": "lost"},
-        {"kind": "batch", "to": ["b", "a"], "size": 2},
-        {"kind": "index", "to": ["a", "b"], "table": [[2, 0, 2], [1, 1]]},
-        {"kind": "negative", "from": "b", "on": "a", "amount": 2},
-        guarded(a=(2, 3, -65535, 1, 3), b=(0, 1, 65535, 0, 1)),
-    ],
-)
-
-# Four queues, the last with two servers, and events that name three or four of them.
-FOUR: Described = (
-    {"a": 1, "b": 1, "c": 1, "d": 2},
-    {"a": 1, "b": 1, "c": 1, "d": 2},
-    [
-        {"kind": "arrival", "to": ["d", "b", "a", "c"]},
-        {"kind": "service", "from": "d", "to": ["c", "a", "b"], "full": "lost"},
-        {"kind": "service", "from": "d", "to": ["a", "c", "b"], "full": "stay"},
-        {"kind": "service", "from": "b", "to": ["a", "d", "c"], "full": "stay"},
-        {"kind": "index", "to": ["a", "b", "c", "d"], "table": [[2], [1], [2], [0, 3]]},
-        {"kind": "index", "to": ["d", "c", "b", "a"], "table": [[1, 1], [1], [1], [1]]},
-        {"kind": "index", "from": "d", "to": ["b", "c", "a"], "table": [[4], [0], [4]]},
-        {"kind": "index", "from": "c", "to": ["d", "a", "b"], "table": [[5, 2], [3], [3]]},
-        {"kind": "negative", "from": "d", "on": "c"},
-        {"kind": "negative", "from": "a", "on": "d", "amount": 2},
-        {"kind": "fork", "to": ["d", "a", "c"]},
-        {"kind": "fork", "from": "d", "to": ["b", "a", "c"]},
-        {"kind": "join", "from": ["d", "a", "b"], "to": "c"},
-        {"kind": "join", "from": ["a", "b", "c", "d"]},
-        guarded(d=(1, 2, -1, 0, 2), a=(0, 0, 1, 0, 1), c=(0, 1, -1, 0, 1), b=(0, 0, 0, 1, 1)),
-        guarded(b=(0, 1, 0, 0, 0), d=(0, 1, 2, 1, 2), a=(1, 1, -1, 0, 1)),
-        guarded(c=(0, 1, 1, 0, 1), a=(0, 1, 1, 0, 1), b=(0, 1, -1, 0, 1), d=(2, 2, -2, 0, 2)),
-    ],
-)
-
-
-# Small events that are worked out by hand: one that moves a queue to a floor above its guard and
-# one to a ceiling below it, a negative customer and a fork, and routes by tables that rise and by
-# one that falls.
-WORKED_ONE: Described = {"a": 5}, {"a": 1}, [guarded(a=(0, 2, 0, 5, 5)), guarded(a=(3, 5, 0, 0, 1))]
-WORKED_BITS: Described = (
-    {"a": 1, "b": 1},
-    {"a": 1, "b": 1},
-    [{"kind": "negative", "from": "a", "on": "b"}, {"kind": "fork", "to": ["a", "b"]}],
-)
-WORKED_KEYS: Described = (
-    {"a": 2, "b": 2},
-    {"a": 1, "b": 1},
-    [
-        {"kind": "index", "to": ["a", "b"], "table": [[0, 1], [0, 1]]},
-        {"kind": "index", "to": ["a", "b"], "table": [[5, 0], [3, 3]]},
-    ],
-)
+# Where the networks stand that were written by hand: with a few events of each kind, also of several servers and of
+# three or four targets, and small ones that are worked out, as a move to a floor above its guard or to a ceiling below
+# it, a negative customer and a fork, and routes by tables that rise and by one that falls.
+DATA = pathlib.Path(__file__).resolve().parent.parent / "crates/psi_test_sweep/data"
+BY_HAND = "two-queues", "three-queues", "three-servers", "four-queues", "worked-one", "worked-bits", "worked-keys"
 
 
 def drawn_routes(caps: dict[str, int], count: int) -> Iterator[Entry]:
@@ -147,33 +42,17 @@ def drawn_routes(caps: dict[str, int], count: int) -> Iterator[Entry]:
         yield {"kind": "index", **keys, "to": to, "table": table, "full": full}
 
 
-# The network of the wrong tables.
-SMALL: Described = (
-    {"a": 1, "b": 2},
-    {"a": 1, "b": 2},
-    [
-        {"kind": "arrival", "to": ["a", "b"]},
-        {"kind": "negative", "from": "a", "on": "b"},
-        {"kind": "service", "from": "b"},
-    ],
-)
-
-
-def networks() -> Iterator[tuple[str, Described]]:
-    """The networks by their names."""
-    yield from (("two-queues", TWO), ("three-queues", THREE), ("three-servers", SERVERS))
-    yield "four-queues", FOUR
-    yield "worked-one", WORKED_ONE
-    yield "worked-bits", WORKED_BITS
-    yield "worked-keys", WORKED_KEYS
+def networks() -> Iterator[tuple[str, str]]:
+    """The files of the networks by their names."""
+    yield from ((name, (DATA / f"{name}.toml").read_text()) for name in BY_HAND)
     caps = {"a": 6, "b": 4, "c": 1}
-    yield "drawn-routes", (caps, dict.fromkeys(caps, 1), list(drawn_routes(caps, 24)))
+    yield "drawn-routes", file_of(caps, dict.fromkeys(caps, 1), drawn_routes(caps, 24))
     for sizes in all_kinds.CAPACITIES:
         caps = dict(zip(all_kinds.NAMES, sizes))
-        yield f"kinds-{'-'.join(map(str, sizes))}", (caps, caps, list(all_kinds.kinds(caps)))
+        yield f"kinds-{'-'.join(map(str, sizes))}", file_of(caps, caps, all_kinds.kinds(caps))
 
 
-def file_of(caps: dict[str, int], servers: dict[str, int], entries: list[Entry]) -> str:
+def file_of(caps: dict[str, int], servers: dict[str, int], entries: Iterable[Entry]) -> str:
     """The file of a network."""
     queues = [{"name": q, "capacity": cap, "servers": servers[q]} for q, cap in caps.items()]
     events = [{"name": f"e{i}", "rate": 1, **entry} for i, entry in enumerate(entries)]
@@ -231,7 +110,7 @@ class Sweep:
             after = dict(zip(self.states, images))
             self.compare_states(place, event, after)
             self.compare_boxes(place, event, after)
-            self.count("marks", is_marked(event, after), f"{place}: another mark")
+            self.count("marks", all_kinds.is_marked(event, after), f"{place}: another mark")
         self.counts["events"] += len(self.lines) == before
 
     def count(self, what: str, agrees: bool, line: str) -> None:
@@ -254,14 +133,6 @@ class Sweep:
                 self.count("boxes", agrees, f"{place}: another envelope {ends}")
 
 
-def is_marked(event: Event, after: dict[State, State]) -> bool:
-    """Whether an event's mark is that of its images: a pair that breaks the order, if any does."""
-    pair = event.upset()
-    pairs = [pair] if pair else itertools.product(after, repeat=2)
-    keeps = (is_below(after[x], after[y]) for x, y in pairs if is_below(x, y))
-    return all(keeps) == (pair is None)
-
-
 def put(folder: pathlib.Path, name: str, text: str) -> str:
     (folder / name).write_text(text)
     return name
@@ -272,8 +143,7 @@ def write_right(data: pathlib.Path) -> tuple[list[str], list[str]]:
     names: list[str] = []
     lines: list[str] = []
     agreeing = 0
-    for name, network in networks():
-        text = file_of(*network)
+    for name, text in networks():
         net = Network(tomllib.loads(text))
         table = Table(put(data, f"{name}.toml", text), net)
         names.append(put(data, f"{name}.table", table.text()))
@@ -285,7 +155,7 @@ def write_right(data: pathlib.Path) -> tuple[list[str], list[str]]:
 
 def write_wrong(data: pathlib.Path) -> tuple[list[str], list[str]]:
     """Writes tables that are wrong in one place each; their names, and what is printed of them."""
-    text = file_of(*SMALL)
+    text = (DATA / "wrong.toml").read_text()
     net = Network(tomllib.loads(text))
     file = put(data, "wrong.toml", text)
     names: list[str] = []

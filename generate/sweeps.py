@@ -20,7 +20,7 @@ with the proved one.
 import functools
 import itertools
 import tomllib
-from collections.abc import Iterator, Sequence
+from collections.abc import Iterable, Iterator, Sequence
 from typing import Any
 
 from generate import all_kinds
@@ -30,6 +30,8 @@ from generate.toml_text import lists
 from oracle import plain
 from oracle.plain_network import Network
 
+# The capacities, the servers, an event among others, and the split numbers.
+Listed = tuple[dict[str, int], dict[str, int], Entry, list[Entry], Sequence[int]]
 BOXES, SETS = 1, 4096
 LIMIT = 4
 CAPACITIES_DRAWN = 4
@@ -149,47 +151,36 @@ def distinguishing(seed: int, net: Network, others: list[Network]) -> Iterator[t
         yield 0, plain.sample(net, seed, 0)
 
 
-class Sweep:
+def cases_of(name: str, dice: Dice, is_described: bool, listed: Iterable[Listed]) -> Iterator[bytes]:
     """The cases of a list of events, numbered; those of `check` where it is described."""
-
-    def __init__(self, name: str, dice: Dice, is_described: bool) -> None:
-        self.name, self.dice, self.is_described, self.count = name, dice, is_described, 0
-
-    def cases(
-        self, caps: dict[str, int], servers: dict[str, int], entry: Entry, entries: list[Entry], splits: Sequence[int]
-    ) -> Iterator[bytes]:
-        """The cases of one event among others."""
-        moving = movers(self.dice, caps)
-        name = f"sweep-{self.name}-{self.count:03}"
+    for number, (caps, servers, entry, entries, splits) in enumerate(listed):
+        moving = movers(dice, caps)
         for split in splits:
             text = lists(network(caps, servers, split, [entry, *moving]))
             net = runnable(tomllib.loads(text))
             others = [runnable(network(caps, servers, split, [other, *moving])) for other in entries if other != entry]
-            files = {"net.toml": text.encode()}
-            if self.is_described and split == splits[0]:
-                yield case(name, ["check", "net.toml"], files, 0, plain.description(net).encode())
-            for stream, (status, out) in distinguishing(self.count, net, others):
+            files, front = {"net.toml": text.encode()}, f"sweep-{name}-{number:03}"
+            if is_described and split == splits[0]:
+                yield case(front, ["check", "net.toml"], files, 0, plain.description(net).encode())
+            for stream, (status, out) in distinguishing(number, net, others):
                 mode = "boxes" if split == BOXES else "sets"
-                words = ["sample", "net.toml", str(self.count), str(stream)]
-                yield case(f"{name}-{mode}-{stream}", words, files, status, out.encode())
-        self.count += 1
+                words = ["sample", "net.toml", str(number), str(stream)]
+                yield case(f"{front}-{mode}-{stream}", words, files, status, out.encode())
 
 
 def cases() -> Iterator[bytes]:
     """The cases of all three lists."""
-    dice = Dice(0)
-    sweep, entries = Sweep("guarded", dice, True), list(guarded())
-    for entry in entries:
-        yield from sweep.cases({"a": 2, "b": 2}, {"a": 1, "b": 1}, entry, entries, (BOXES, SETS))
-    sweep = Sweep("routes", dice, True)
-    for caps, entry in drawn_routes(dice):
-        servers = {queue: caps[queue] if queue == "a" else 1 for queue in caps}
-        yield from sweep.cases(caps, servers, entry, list(routes(caps)), [dice.pick((BOXES, SETS))])
-    sweep = Sweep("kinds", dice, False)
-    for sizes in all_kinds.CAPACITIES:
-        caps = dict(zip(all_kinds.NAMES, sizes))
-        for entry, entries in drawn_kinds(dice, caps):
-            yield from sweep.cases(caps, caps, entry, entries, (BOXES, SETS))
+    dice, entries, both = Dice(0), list(guarded()), (BOXES, SETS)
+    two = ({"a": 2, "b": 2}, {"a": 1, "b": 1})
+    yield from cases_of("guarded", dice, True, ((*two, entry, entries, both) for entry in entries))
+    drawn: Iterator[Listed] = (
+        (caps, {queue: caps[queue] if queue == "a" else 1 for queue in caps}, entry, [*routes(caps)], [dice.pick(both)])
+        for caps, entry in drawn_routes(dice)
+    )
+    yield from cases_of("routes", dice, True, drawn)
+    sizes = (dict(zip(all_kinds.NAMES, sizes)) for sizes in all_kinds.CAPACITIES)
+    kinds: Iterator[Listed] = ((caps, caps, *pair, both) for caps in sizes for pair in drawn_kinds(dice, caps))
+    yield from cases_of("kinds", dice, False, kinds)
 
 
 if __name__ == "__main__":

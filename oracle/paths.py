@@ -5,7 +5,6 @@ after the other, and every state is added up. It was written from docs/FORMATS.m
 plain program's words, events and samples, and prints the table of the sums and counts as CSV.
 """
 
-import dataclasses
 import sys
 import tomllib
 from collections.abc import Iterator, Sequence
@@ -17,22 +16,6 @@ from oracle.plain_network import Network, State
 FIRST_PLACE = 2**22
 
 
-@dataclasses.dataclass
-class Path:
-    """What is added up along a path: the customers of each queue and the value of each reward, over all of
-    its states; and of each event how often it was chosen, and how often it changed the state."""
-
-    queues: list[int]
-    rewards: list[int]
-    chosen: list[int]
-    moved: list[int]
-
-    def numbers(self) -> list[int]:
-        """The numbers of a row but for its first three."""
-        counts = [number for both in zip(self.chosen, self.moved) for number in both]
-        return [*self.queues, *self.rewards, *counts]
-
-
 def states_of(net: Network, words: Words, state: State, steps: int) -> Iterator[tuple[int | None, State]]:
     """The number of the event of each time from 1 on, none where it is idle, and the state after it."""
     for time in range(1, steps + 1):
@@ -42,23 +25,18 @@ def states_of(net: Network, words: Words, state: State, steps: int) -> Iterator[
         yield (None if event is None else net.events.index(event)), state
 
 
-def path_of(net: Network, words: Words, state: State, steps: int) -> Path:
-    """The path that begins in a state."""
-    path = Path([0] * len(net.caps), [0] * len(net.rewards), [0] * len(net.events), [0] * len(net.events))
-    add(path, net, state)
+def sums_of(net: Network, words: Words, state: State, steps: int) -> list[int]:
+    """The numbers of the row of the path that begins in a state, but for its first three: the sums of the customers of
+    each queue and of the value of each reward, over all of its states; and of each event how often it was chosen, and
+    how often it changed the state."""
+    states, chosen, moved = [state], [0] * len(net.events), [0] * len(net.events)
     for event, after in states_of(net, words, state, steps):
-        add(path, net, after)
         if event is not None:
-            path.chosen[event] += 1
-            path.moved[event] += after != state
-        state = after
-    return path
-
-
-def add(path: Path, net: Network, state: State) -> None:
-    """Adds a state of a path."""
-    path.queues = [total + number for total, number in zip(path.queues, state)]
-    path.rewards = [total + reward.value(state) for total, reward in zip(path.rewards, net.rewards)]
+            chosen[event] += 1
+            moved[event] += after != states[-1]
+        states.append(after)
+    rewards = [sum(map(reward.value, states)) for reward in net.rewards]
+    return [*map(sum, zip(*states)), *rewards, *(number for both in zip(chosen, moved) for number in both)]
 
 
 def header(net: Network) -> list[str]:
@@ -76,7 +54,7 @@ def row(net: Network, seed: int, stream: int, drawn: Outcome, steps: int) -> lis
     if drawn is None:
         return [stream, *("" for _ in header(net)[1:])]
     horizon, state = drawn
-    return [stream, horizon, steps, *path_of(net, Words(seed, stream), state, steps).numbers()]
+    return [stream, horizon, steps, *sums_of(net, Words(seed, stream), state, steps)]
 
 
 def table(net: Network, seed: int, streams: Sequence[int], outcomes: Sequence[Outcome], steps: int) -> str:

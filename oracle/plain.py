@@ -211,21 +211,17 @@ def sample(net: Network, seed: int, stream: int) -> tuple[int, str]:
     return outcome_text(net, outcome(net, seed, stream))
 
 
-def outcome_text(net: Network, drawn: Outcome) -> tuple[int, str]:
+def outcome_text(net: Network, drawn: Outcome, word: str = "met") -> tuple[int, str]:
     """The status and the text of an outcome."""
     if drawn is None:
         return 1, f"not coupled within {2**net.limit}\n"
     horizon, state = drawn
-    return 0, f"met {horizon}\nstate {text_of(state)}\n"
+    return 0, f"{word} {horizon}\nstate {text_of(state)}\n"
 
 
 def couple(net: Network, seed: int, stream: int) -> tuple[int, str]:
     """The status and the text of a coupling."""
-    found = coupling(net, seed, stream, net.limit)
-    if found is None:
-        return 1, f"not coupled within {2**net.limit}\n"
-    horizon, state = found
-    return 0, f"coupled {horizon}\nstate {text_of(state)}\n"
+    return outcome_text(net, coupling(net, seed, stream, net.limit), "coupled")
 
 
 def value(net: Network, seed: int, stream: int, name: str) -> tuple[int, str]:

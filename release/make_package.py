@@ -38,6 +38,8 @@ from psi_tools.cli.entry import NAMES
 from release import man_pages
 
 TOP = pathlib.Path(__file__).resolve().parent.parent
+# What the package has beside what stands elsewhere, some of it with places for what is known when it is made.
+FILES = TOP / "release/package_files"
 # The built program, in a checkout and in the folder of the package's library. What stands on the
 # PATH there is the script tools/command/installed.
 BUILT = "crates/psi/out/psi"
@@ -65,54 +67,6 @@ DEPENDS = (
     "parallel",
     "graphviz",
 )
-CONTROL = """Package: {name}
-Version: {version}
-Architecture: amd64
-Maintainer: {by}
-Installed-Size: {size}
-Depends: {depends}
-Suggests: slurm-client, openssh-client
-Conflicts: psi
-Section: science
-Priority: optional
-Description: perfect samples of finite queueing networks
- PSI draws independent samples from the stationary distribution of a finite
- Markovian queueing network. It uses coupling from the past, so there is no
- warm-up to guess and no initialization bias. Each function of the program is
- proved to meet its contract.
- .
- It models blocking, overflow, index routing, batches, negative customers,
- forks, joins, resets and closed networks, and writes and checks certificates.
- psi-many draws many samples on many processors and machines, and psi-plot
- draws pictures of what was sampled. psi-means, psi-law and psi-sweep print
- means, distributions and comparisons of designs with confidence intervals;
- psi-where and psi-why find what is wrong with a network, and psi-new writes
- one. Python has the module psi.
-"""
-CHANGES = """{name} ({version}) unstable; urgency=medium
-
-  * What changed is in changelog.gz.
-
- -- {by}  {stamp}
-"""
-# Python keeps there what it has compiled of the tools.
-PRERM = f"""#!/bin/sh
-set -e
-find /usr/lib/{NAME} -type d -name __pycache__ -prune -exec rm -rf {{}} +
-"""
-COPYRIGHT = """Format: https://www.debian.org/doc/packaging-manuals/copyright-format/1.0/
-Upstream-Name: PSI
-
-Files: *
-Copyright: 2026 The PSI authors
-License: Apache-2.0 or Expat
-
-License: Apache-2.0
- On Debian systems, the full text of the Apache License, Version 2.0 is in
- /usr/share/common-licenses/Apache-2.0.
-
-License: Expat
-"""
 
 
 def printed_by(*words: str) -> str:
@@ -194,24 +148,26 @@ def fill_library(root: pathlib.Path, programs: dict[str, pathlib.Path]) -> None:
 
 def fill_documents(root: pathlib.Path, version: str, second: int) -> None:
     """The documents, the gallery, the licences, man pages and completion."""
-    share, files = root / "usr/share", TOP / "release/package_files"
+    share = root / "usr/share"
     doc, day = share / "doc" / NAME, time.strftime("%Y-%m-%d", time.gmtime(second))
     for name in (file for document in (*DOCUMENTS, "examples") for file in tracked(document)):
         copy(TOP / name, doc / name)
-    copy(files / "README.Debian", doc / "README.Debian")
+    copy(FILES / "README.Debian", doc / "README.Debian")
     pack(doc / "changelog.gz", (TOP / "CHANGELOG.md").read_text())
     stamp = email.utils.formatdate(second)
-    changes = CHANGES.format(name=NAME, version=version, by=maintainer(), stamp=stamp)
+    changes = (FILES / "changelog.Debian").read_text().format(name=NAME, version=version, by=maintainer(), stamp=stamp)
     pack(doc / "changelog.Debian.gz", changes)
     mit = (TOP / "LICENSE-MIT").read_text().splitlines()[4:]
-    placed(doc / "copyright").write_text(COPYRIGHT + "".join(f" {line or '.'}\n" for line in mit))
+    placed(doc / "copyright").write_text(
+        (FILES / "copyright").read_text() + "".join(f" {line or '.'}\n" for line in mit)
+    )
     for name, text in man_pages.pages(TOP, day):
         pack(share / f"man/man{name[-1]}" / f"{name}.gz", text)
     for file in tracked("release/package_files/lintian-overrides"):
         copy(TOP / file, share / "lintian/overrides" / NAME)
-    copy(files / "completion.bash", share / "bash-completion/completions/psi")
-    copy(files / "completion.zsh", share / "zsh/vendor-completions/_psi")
-    copy(files / "completion.fish", share / "fish/vendor_completions.d/psi.fish")
+    copy(FILES / "completion.bash", share / "bash-completion/completions/psi")
+    copy(FILES / "completion.zsh", share / "zsh/vendor-completions/_psi")
+    copy(FILES / "completion.fish", share / "fish/vendor_completions.d/psi.fish")
     for name in NAMES:
         placed(share / f"bash-completion/completions/psi-{name}").write_text(completion("bash", name))
         placed(share / f"zsh/vendor-completions/_psi-{name}").write_text(completion("zsh", name))
@@ -232,10 +188,9 @@ def fill_control(root: pathlib.Path, version: str, program: pathlib.Path) -> Non
     fields["depends"] = ", ".join([f"libc6 (>= {glibc_of(program)})", *DEPENDS])
     names = [str(file.relative_to(root)) for file in files]
     sums = subprocess.check_output(["md5sum", *names], cwd=root, text=True)
-    placed(root / "DEBIAN/control").write_text(CONTROL.format(**fields))
+    placed(root / "DEBIAN/control").write_text((FILES / "control").read_text().format(**fields))
     (root / "DEBIAN/md5sums").write_text(sums)
-    (root / "DEBIAN/prerm").write_text(PRERM)
-    (root / "DEBIAN/prerm").chmod(0o755)
+    copy(FILES / "prerm", root / "DEBIAN/prerm", 0o755)
 
 
 def make_package(
@@ -265,7 +220,7 @@ def make_archive(
     archive = folder / f"{top}-linux-x86-64-glibc-{glibc}.tar.xz"
     usr = room / NAME / "usr"
     shutil.rmtree(usr / "lib/python3")
-    copy(TOP / "release/package_files/Dockerfile", usr / "Dockerfile")
+    copy(FILES / "Dockerfile", usr / "Dockerfile")
     for name in ("README.md", "LICENSE-APACHE", "LICENSE-MIT"):
         copy(TOP / name, usr / name)
     link(usr / "share/doc" / NAME / "examples", usr / "examples")

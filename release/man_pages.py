@@ -289,20 +289,16 @@ def statuses_text() -> str:
 
 def source_of(text: str) -> str:
     """A page's source with what its lines stand for."""
-    made = {"options": options_text, "kinds": kinds_text}
-    alone: dict[str, Callable[[], str]] = {
-        "files": lambda: FILES,
-        "status": lambda: STATUS,
-        "synopsis": synopsis_text,
-        "commands": commands_text,
-        "statuses": statuses_text,
+    made: dict[str, Callable[[str], str]] = {
+        "options": options_text,
+        "kinds": kinds_text,
+        "files": lambda _: FILES,
+        "status": lambda _: STATUS,
+        "synopsis": lambda _: synopsis_text(),
+        "commands": lambda _: commands_text(),
+        "statuses": lambda _: statuses_text(),
     }
-
-    def stands_for(found: re.Match[str]) -> str:
-        name, command = found.groups()
-        return made[name](command) if command else alone[name]()
-
-    return re.sub(r"^@(\w+)(?: (\w+))?$", stands_for, text, flags=re.M)
+    return re.sub(r"^@(\w+)(?: (\w+))?$", lambda found: made[found[1]](found[2]), text, flags=re.M)
 
 
 def page(name: str, section: str, about: str, date: str, body: str) -> str:

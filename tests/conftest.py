@@ -9,6 +9,7 @@ from typing import Any
 
 import pytest
 
+from tests import side_by_side
 from tests.support import TOP, Expectations, program_path
 
 
@@ -61,6 +62,10 @@ def pytest_runtest_setup(item: pytest.Item) -> None:
     absent = [name for name in marker.args if not shutil.which(name, path=path)] if marker else []
     if absent:
         pytest.skip(f"it wants {', '.join(absent)}")
+
+
+def pytest_configure(config: pytest.Config) -> None:
+    side_by_side.register(config)
 
 
 def pytest_addoption(parser: pytest.Parser) -> None:

@@ -44,7 +44,7 @@ from psi_tools.model.designs import aligned, designs_of
 from psi_tools.draw.reports import reports_of
 from psi_tools.draw.streams import blocks_of
 from psi_tools.io.reports import Report
-from psi_tools.stats.intervals import Mean, Span, difference_of_batches
+from psi_tools.stats.intervals import Mean, Span, Sums, difference_of_batches
 from psi_tools.stats.spans import Row, Spans
 from psi_tools.model.networks import Network
 from psi_tools.draw.program import Program
@@ -175,9 +175,9 @@ def difference(draw: numpy.random.Generator, name: str, plus: float, minus: floa
 
 def difference_of(one: Batches, other: Batches) -> Mean:
     """The difference of the last rows of two designs, as psi-sweep tells it."""
-    rows = one.rows[-1], other.rows[-1]
-    spans = one.spans[rows[0].kind, rows[0].name], other.spans[rows[1].kind, rows[1].name]
-    return difference_of_batches(rows[0].sums, rows[1].sums, one.met, other.met, 0.95, spans, (one.lost, other.lost))
+    rows = [(own, own.rows[-1]) for own in (one, other)]
+    first, second = (Sums(row.sums, own.met, own.spans[row.kind, row.name], own.lost) for own, row in rows)
+    return difference_of_batches(first, second, 0.95)
 
 
 def uncoupled(draw: numpy.random.Generator) -> list[Tally]:

@@ -28,7 +28,8 @@ REFUSED = (
     (["check", "/dev/stdin"], 3, b"psi: network refused 4 MissingKey top 0 queue", b"version = 1\n"),
     (["replay", NET, "/dev/stdin"], 4, b"psi: log refused 1 NotLog line 1", b"no log\n"),
 )
-pytestmark = pytest.mark.needs("rt")
+# One `rt` at a time.
+pytestmark = [pytest.mark.needs("rt"), pytest.mark.xdist_group("rt")]
 
 
 def first_answer(words: list[str], data: bytes = b"") -> tuple[int, bytes, list[bytes]]:

@@ -7,17 +7,7 @@ from collections.abc import Iterator
 
 import pytest
 
-from gate import (
-    crates,
-    definition_kinds,
-    edges,
-    graph,
-    house_words,
-    lemma_files,
-    make_statement,
-    memory_calls,
-    versions,
-)
+from gate import crates, house_words, make_statement, memory_calls, versions
 from tests.support import TOP
 
 # What shares nothing with the program and the tools, by the rule that it imports nothing of ours.
@@ -29,7 +19,7 @@ APART = [
 OURS = {"bench", "gate", "generate", "psi", "psi_tools", "release", "tests", "tools"}
 
 
-PARTS = crates, edges, graph, lemma_files, make_statement, definition_kinds, house_words, memory_calls, versions
+PARTS = crates, make_statement, house_words, memory_calls, versions
 
 
 @pytest.mark.parametrize("part", PARTS, ids=[part.__name__ for part in PARTS])

@@ -18,7 +18,8 @@ from collections.abc import Iterator
 
 import pytest
 
-from generate.case_files import Case, case_named
+from generate import case_files
+from generate.case_files import Case
 from psi_tools.model.networks import Network
 from tests import merges
 from tests.refusing import Call, Refusing
@@ -70,7 +71,8 @@ def ring() -> bytes:
 def cases(line: str) -> list[Case]:
     """The cases that a line of the tables names."""
     file, names = line.split(": ")
-    return [case_named(file, name) for name in names.split(" ")]
+    named = {case.name: case for case in case_files.cases(file)}
+    return [named[name] for name in names.split(" ")]
 
 
 def calls(refusing: Refusing, folder: pathlib.Path, command: str) -> Iterator[Call]:

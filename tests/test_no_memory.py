@@ -15,6 +15,7 @@ SECONDS = 1_800
 
 @pytest.mark.slow
 @pytest.mark.needs("rt")
+@pytest.mark.xdist_group("rt")
 def test_no_call_takes_memory() -> None:
     data = [word for name in FILES for word in ("--data", f"{name}.toml=data/{name}.toml")]
     words = ["rt", "try", *data, "--fail-alloc", "1000", "--cases", "words"]

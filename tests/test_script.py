@@ -227,6 +227,7 @@ def processor_time(words: Sequence[object], folder: pathlib.Path) -> float:
     return (after.ru_utime + after.ru_stime - before.ru_utime - before.ru_stime) * 1000
 
 
+@pytest.mark.quiet
 def test_time(installed: pathlib.Path, program: str, tmp_path: pathlib.Path) -> None:
     """How much longer a call takes by the installed script: the median of differences, in processor
     time, since other work may run beside; where it is too long it is measured again."""

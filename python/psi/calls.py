@@ -33,9 +33,9 @@ class ProgressBar(Bar):
     def show(self, done: int) -> None:
         if self.bar is not None:
             self.bar.total = self.whole
-            self.bar.update(self.before + done - self.bar.n)
+            self.bar.update(done - self.bar.n)
 
-    def end(self) -> None:
+    def __exit__(self, *fault: object) -> None:
         if self.bar is not None:
             self.bar.close()
 
@@ -69,15 +69,12 @@ def stream_of(seed: int, stream: int) -> tuple[int, int]:
 def drawn(program: Program, data: bytes, seed: int, first: int, count: int) -> Sequence[Report]:
     """The reports of the blocks of some streams."""
     blocks = blocks_of(first, count, size_of(count))
-    bar = ProgressBar(len(blocks), "blocks")
-    try:
+    with ProgressBar(len(blocks), "blocks") as bar:
         return reports_of(program, data, seed, blocks, bar.show)
-    finally:
-        bar.end()
 
 
-def warn_uncoupled(uncoupled: int, many: int, more: str = "the others are biased") -> None:
+def warn_uncoupled(uncoupled: int, many: int, more: str = "the others are biased", stacklevel: int = 3) -> None:
     """Warns where streams are not coupled."""
     if uncoupled:
         message = f"{uncoupled:,} of {many:,} streams weren't coupled; {more}"
-        warnings.warn(message, Uncoupled, stacklevel=3)
+        warnings.warn(message, Uncoupled, stacklevel=stacklevel)

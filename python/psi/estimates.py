@@ -15,9 +15,8 @@ from psi_tools.draw.program import Program
 from psi_tools.errors import ArgumentError, PsiError
 from psi_tools.io.reports import together
 from psi_tools.model.networks import Source, data_of, network_of
-from psi_tools.stats.batches import REWARD, Batches, batches_of
-from psi_tools.stats.guaranteed import ASSUMED, Guarantee, Pilot, file_of
-from psi_tools.stats.guaranteed_rows import GuaranteedLaw, guaranteed_means
+from psi_tools.stats.batches import REWARD, batches_of, record
+from psi_tools.stats.guaranteed import ASSUMED, Guarantee, GuaranteedLaw, Pilot, file_of, guaranteed_means
 from psi_tools.stats.law import RECORD, SHARED, Law
 
 
@@ -130,10 +129,8 @@ def means(
     ----------
     net : Network or path
         A network, or the path of its file.
-    seed : int
-        The seed, 0 to 2^64 - 1.
-    first : int
-        The first stream, 0 to 2^64 - 1.
+    seed, first : int
+        The seed and the first stream, 0 to 2^64 - 1.
     count : int
         The number of streams, at least 1. For intervals there are 20 or more.
     level : float
@@ -194,31 +191,18 @@ def means(
     if guaranteed:
         claims, records = guaranteed_means(batches, level)
         table = pandas.DataFrame(records, index=index, columns=columns)
-        return _certified(table, claims, data, seed, first, count)
+        return _certified(table, claims, {"network": digest_of(data), "seed": seed, "first": first, "count": count})
     for line in batches.carried():
         warnings.warn(line, FewSamples, stacklevel=2)
-    return pandas.DataFrame(_rows(batches, level), index=index, columns=columns)
-
-
-def _rows(batches: Batches, level: float) -> list[tuple[Any, ...]]:
-    """The rows of the table of means."""
-    means = [(batches.mean(row, level), row) for row in batches.rows]
-    return [(mean.mean, mean.half, mean.low, mean.high, row.least, row.greatest) for mean, row in means]
+    found = [record("", row.name, batches.mean(row, level), row.least, row.greatest) for row in batches.rows]
+    return pandas.DataFrame(found, index=index, columns=columns)
 
 
 def _certified(
-    table: pandas.DataFrame,
-    rows: Sequence[Guarantee],
-    data: bytes,
-    seed: int,
-    first: int,
-    count: int,
-    pilot: Pilot | None = None,
+    table: pandas.DataFrame, rows: Sequence[Guarantee], drawn: dict[str, Any], pilot: Pilot | None = None
 ) -> pandas.DataFrame:
     """A DataFrame with the certificates of its intervals, as tools/check_interval.py reads them."""
-    drawn: dict[str, Any] = {"network": digest_of(data), "seed": seed, "first": first, "count": count}
-    if pilot:
-        drawn["pilot"] = {"first": pilot.first, "count": pilot.count}
+    drawn |= {"pilot": {"first": pilot.first, "count": pilot.count}} if pilot else {}
     table.attrs.update(certificates=file_of(rows, drawn), assumed=ASSUMED)
     return table
 
@@ -243,10 +227,8 @@ def law(
     name : str, or several of them
         The name of a queue or of a reward. With several, as a list, the joint distribution is
         estimated. `queue.NAME` and `reward.NAME` are understood, too.
-    seed : int
-        The seed, 0 to 2^64 - 1.
-    first : int
-        The first stream, 0 to 2^64 - 1.
+    seed, first : int
+        The seed and the first stream, 0 to 2^64 - 1.
     count : int
         The number of streams, at least 1.
     reward : bool
@@ -313,7 +295,8 @@ def law(
     table = pandas.DataFrame(found.records(), columns=RECORD).set_index("value")
     if not isinstance(found, GuaranteedLaw):
         return table
-    return _certified(table, [found.row], net.data, seed, first, count, found.pilot)
+    drawn = {"network": digest_of(net.data), "seed": seed, "first": first, "count": count}
+    return _certified(table, [found.row], drawn, found.pilot)
 
 
 def probability(
@@ -336,10 +319,8 @@ def probability(
         The condition: comparisons (== != < <= > >=) of sums, differences and products of queues,
         rewards and whole numbers, joined by `and`, `or` and `not`. A queue is meant where a reward
         has its name; names that have a hyphen, and 'reward.NAME', stand in quotes.
-    seed : int
-        The seed, 0 to 2^64 - 1.
-    first : int
-        The first stream, 0 to 2^64 - 1.
+    seed, first : int
+        The seed and the first stream, 0 to 2^64 - 1.
     count : int
         The number of streams, at least 1.
     level : float

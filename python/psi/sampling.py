@@ -1,7 +1,6 @@
 """Horizons, rewards and certificates of single streams."""
 
 import os
-import re
 import tempfile
 from typing import TYPE_CHECKING
 
@@ -23,15 +22,10 @@ def _answer(program: Program | None, command: str, net: Source, *arguments: obje
     return answer
 
 
-def _fields(form: str, text: str) -> tuple[str, ...]:
-    """The fields of a text that psi prints."""
-    found = re.fullmatch(form, text)
-    assert found is not None, text
-    return found.groups()
-
-
-def _state(text: str) -> tuple[int, ...]:
-    return tuple(map(int, text.split(",")))
+def _coalescence(text: str) -> Coalescence:
+    """Where all states have coalesced, by what psi prints."""
+    _, horizon, _, state = text.split()
+    return Coalescence(int(horizon), tuple(map(int, state.split(","))))
 
 
 def couple(net: Source, seed: int, stream: int, *, program: Program | None = None) -> Coalescence:
@@ -41,10 +35,8 @@ def couple(net: Source, seed: int, stream: int, *, program: Program | None = Non
     ----------
     net : Network or path
         A network, or the path of its file.
-    seed : int
-        The seed, 0 to 2^64 - 1.
-    stream : int
-        The stream, 0 to 2^64 - 1.
+    seed, stream : int
+        The seed and the stream, 0 to 2^64 - 1.
     program : Program, optional
         The program that is run; the one that is built, or on the PATH, by default.
 
@@ -73,9 +65,7 @@ def couple(net: Source, seed: int, stream: int, *, program: Program | None = Non
     True
     """
     seed, stream = stream_of(seed, stream)
-    text = _answer(program, "couple", net, seed, stream).out
-    horizon, state = _fields(r"coupled (\d+)\nstate (\S+)\n", text)
-    return Coalescence(int(horizon), _state(state))
+    return _coalescence(_answer(program, "couple", net, seed, stream).out)
 
 
 def reward(net: Source, seed: int, stream: int, name: str, *, program: Program | None = None) -> RewardValue:
@@ -85,10 +75,8 @@ def reward(net: Source, seed: int, stream: int, name: str, *, program: Program |
     ----------
     net : Network or path
         A network, or the path of its file.
-    seed : int
-        The seed, 0 to 2^64 - 1.
-    stream : int
-        The stream, 0 to 2^64 - 1.
+    seed, stream : int
+        The seed and the stream, 0 to 2^64 - 1.
     name : str
         The name of the reward.
     program : Program, optional
@@ -120,8 +108,7 @@ def reward(net: Source, seed: int, stream: int, name: str, *, program: Program |
     True
     """
     seed, stream = stream_of(seed, stream)
-    text = _answer(program, "reward", net, seed, stream, name).out
-    horizon, value = _fields(r"reward-met (\d+)\nvalue (\S+)\n", text)
+    _, horizon, _, value = _answer(program, "reward", net, seed, stream, name).out.split()
     return RewardValue(int(horizon), int(value))
 
 
@@ -132,10 +119,8 @@ def exact(net: Source, seed: int, stream: int, exponent: int, *, program: Progra
     ----------
     net : Network or path
         A network of at most 65,536 states, or the path of its file.
-    seed : int
-        The seed, 0 to 2^64 - 1.
-    stream : int
-        The stream, 0 to 2^64 - 1.
+    seed, stream : int
+        The seed and the stream, 0 to 2^64 - 1.
     exponent : int
         The longest past has 2^exponent steps; 0 to 12.
     program : Program, optional
@@ -176,10 +161,8 @@ def log(net: Source, seed: int, stream: int, *, program: Program | None = None) 
     ----------
     net : Network or path
         A network, or the path of its file.
-    seed : int
-        The seed, 0 to 2^64 - 1.
-    stream : int
-        The stream, 0 to 2^64 - 1.
+    seed, stream : int
+        The seed and the stream, 0 to 2^64 - 1.
     program : Program, optional
         The program that is run; the one that is built, or on the PATH, by default.
 
@@ -246,9 +229,7 @@ def replay(net: Source, log: str, *, program: Program | None = None) -> Coalesce
         path = os.path.join(folder, "log")
         with open(path, "w", encoding="utf-8", newline="") as file:
             file.write(log)
-        answer = resolved(program).ask("replay", data_of(net), path)
-    horizon, state = _fields(r"accepted (\d+)\nstate (\S+)\n", answer.out)
-    return Coalescence(int(horizon), _state(state))
+        return _coalescence(resolved(program).ask("replay", data_of(net), path).out)
 
 
 def draw_log(log: str, net: Source | None = None, title: str = "") -> "Figure":

@@ -1,6 +1,6 @@
 """Samples of many streams, as arrays and as tables."""
 
-from collections.abc import Callable
+from collections.abc import Callable, Iterable
 from functools import partial
 from typing import Any, TypeVar
 
@@ -11,9 +11,8 @@ from psi.calls import ProgressBar, resolved, streams_of, warn_uncoupled
 from psi.results import NotCoupled
 from psi_tools.arguments import whole_argument
 from psi_tools.draw import paths as of_paths
-from psi_tools.draw.closed import MOST_TOTAL
+from psi_tools.draw.states import MOST_TOTAL, Draw, any_drawing, drawing
 from psi_tools.draw.program import Program
-from psi_tools.draw.states import Draw, any_drawing, drawing
 from psi_tools.draw.streams import Streams, blocks_of, table_size
 from psi_tools.io.columns import Array, Columns
 from psi_tools.model.networks import Network, Source, header_of, network_of
@@ -98,10 +97,8 @@ def closed(
         A network whose customers neither come nor leave, or the path of its file.
     total : int
         The number of customers in all, 0 to 256.
-    seed : int
-        The seed, 0 to 2^64 - 1.
-    first : int
-        The first stream, 0 to 2^64 - 1.
+    seed, first : int
+        The seed and the first stream, 0 to 2^64 - 1.
     count : int
         The number of streams, at least 1.
     keep : bool
@@ -207,15 +204,8 @@ def states(
     seed, first, count = streams_of(seed, first, count)
     draw, names = drawing(program, net, seed, total), header_of(net)
     is_met, numbers = _drawn(draw, program, net, first, count, names[1:])
-    warn_uncoupled(int((~is_met).sum()), count, "means of the others are biased")
-    whole = numpy.dtype(numpy.int64)
-    types = [whole, *map(_narrow, net.capacities), *(whole for _ in net.rewards)]
-    columns: dict[str, Any] = {names[0]: numpy.arange(count, dtype=numpy.uint64) + numpy.uint64(first)}
-    for name, kind, column in zip(names[1:], types, numbers):
-        values = numpy.zeros(count, kind)
-        values[is_met] = column
-        columns[name] = pandas.arrays.IntegerArray(values, ~is_met)
-    return pandas.DataFrame(columns)
+    types: list[Any] = [numpy.int64, *map(_narrow, net.capacities), *(numpy.int64 for _ in net.rewards)]
+    return _frame(first, is_met, zip(names[1:], types, numbers))
 
 
 def paths(
@@ -298,33 +288,28 @@ def paths(
     found = _under_bar(
         own, first, count, lambda blocks, done: of_paths.paths_of(own, opened, seed, blocks, steps, total, done)
     )
-    warn_uncoupled(found.count(None), count, "means of the others are biased")
     is_met = numpy.array([row is not None for row in found])
     numbers = [row.split(",") for row in found if row is not None]
-    names, wide = of_paths.header_of(opened), _wide_rewards(opened, steps)
-    columns: dict[str, Any] = {names[0]: numpy.arange(len(found), dtype=numpy.uint64) + numpy.uint64(first)}
-    for place, name in enumerate(names[1:]):
-        column = [int(row[place]) for row in numbers]
-        columns[name] = _column(column, is_met, name in wide)
-    return pandas.DataFrame(columns)
+    # The sum of a reward along a path may pass 64 bits.
+    spans = Spans(opened, {})
+    ends = {f"reward.{name}": spans.of_reward(name).ends for name in opened.rewards}
+    wide = {name for name, (least, most) in ends.items() if max(-least, most) * (steps + 1) >= 2**63}
+    names = of_paths.header_of(opened)[1:]
+    types: list[Any] = [object if name in wide else numpy.int64 for name in names]
+    columns = ([int(row[place]) for row in numbers] for place in range(len(names)))
+    return _frame(first, is_met, zip(names, types, columns))
 
 
-def _wide_rewards(net: Network, steps: int) -> set[str]:
-    """The columns of the rewards whose sums along a path may pass 64 bits."""
-    spans = Spans(net, {})
-    ends = {f"reward.{name}": spans.of_reward(name).ends for name in net.rewards}
-    return {name for name, (least, most) in ends.items() if max(-least, most) * (steps + 1) >= 2**63}
-
-
-def _column(numbers: list[int], is_met: Array, is_wide: bool) -> Any:
-    """A column of whole numbers, which is missing where a stream is not coupled."""
-    if is_wide:
-        values = numpy.full(len(is_met), pandas.NA, dtype=object)
+def _frame(first: int, is_met: Array, columns: Iterable[tuple[str, Any, Any]]) -> pandas.DataFrame:
+    """A table of streams from the first one on; each column has its name, the type of its whole numbers, and those of
+    the streams that are coupled. It is missing for the others, which are warned of."""
+    warn_uncoupled(int((~is_met).sum()), len(is_met), "means of the others are biased", stacklevel=4)
+    frame: dict[str, Any] = {"stream": numpy.arange(len(is_met), dtype=numpy.uint64) + numpy.uint64(first)}
+    for name, kind, numbers in columns:
+        values = numpy.full(len(is_met), pandas.NA if kind is object else 0, kind)
         values[is_met] = numbers
-        return values
-    narrow = numpy.zeros(len(is_met), numpy.int64)
-    narrow[is_met] = numbers
-    return pandas.arrays.IntegerArray(narrow, ~is_met)
+        frame[name] = values if kind is object else pandas.arrays.IntegerArray(values, ~is_met)
+    return pandas.DataFrame(frame)
 
 
 def _narrow(capacity: int) -> "numpy.dtype[Any]":
@@ -370,8 +355,5 @@ def _under_bar(
 ) -> Value:
     """What is drawn of some streams, in blocks under a bar."""
     size = table_size(count, program.jobs)
-    bar = ProgressBar(count)
-    try:
+    with ProgressBar(count) as bar:
         return draw(blocks_of(first, count, size), lambda done: bar.show(min(done * size, count)))
-    finally:
-        bar.end()

@@ -30,18 +30,10 @@ Part = tuple[int, int, int, int, int, int]
 
 MOST_CUSTOMERS, MOST_STATES, LONGEST, FULL = 65_535, 4_096, 33_554_432, math.inf
 
-# Of ChaCha20 (RFC 8439): the constants, the quarter rounds of a double round, the greatest word.
+# Of ChaCha20 (RFC 8439): the constants, the quarter rounds of a double round, by columns and diagonals, the greatest
+# word.
 CONSTANTS = 0x61707865, 0x3320646E, 0x79622D32, 0x6B206574
-QUARTER_ROUNDS = (
-    (0, 4, 8, 12),
-    (1, 5, 9, 13),
-    (2, 6, 10, 14),
-    (3, 7, 11, 15),
-    (0, 5, 10, 15),
-    (1, 6, 11, 12),
-    (2, 7, 8, 13),
-    (3, 4, 9, 14),
-)
+QUARTER_ROUNDS = [(k, 4 + (k + t) % 4, 8 + (k + 2 * t) % 4, 12 + (k + 3 * t) % 4) for t in (0, 1) for k in range(4)]
 MASK = 0xFFFFFFFF
 
 

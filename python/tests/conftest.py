@@ -42,8 +42,10 @@ PIPES: dict[str, Any] = {"stdout": subprocess.PIPE, "stderr": subprocess.PIPE, "
 ALONE = not (TOP / "tools").is_dir()
 OWN = "test_api.py", "test_networks.py", "test_properties.py", "test_toml.py", "test_toml_documents.py"
 collect_ignore = [path.name for path in HERE.glob("test_*.py") if ALONE and path.name not in OWN]
-# A job that a shell starts in the background ignores SIGINT, and so would the tools that the tests stop by it.
+# A job that a shell starts in the background ignores SIGINT, and one of nohup SIGHUP, and so would the tools that
+# the tests stop by them.
 signal.signal(signal.SIGINT, signal.default_int_handler)
+signal.signal(signal.SIGHUP, signal.SIG_DFL)
 
 
 def match_in(pattern: str, text: str, flags: int = 0) -> "re.Match[str]":
@@ -140,6 +142,14 @@ def companion(program: str, name: str) -> str:
     if found is None:
         pytest.skip(f"{name} isn't built")
     return found
+
+
+def pytest_configure(config: pytest.Config) -> None:
+    """Where the repository is there, its tests run side by side."""
+    if not ALONE:
+        from tests import side_by_side
+
+        side_by_side.register(config)
 
 
 @pytest.fixture(scope="session")

@@ -56,6 +56,10 @@ CASES = {
 }
 
 
+# The chain is built once where its tests run in one process.
+OF_CHAIN = pytest.mark.xdist_group("chain")
+
+
 @pytest.fixture(scope="module")
 def chain(tmp_path_factory: pytest.TempPathFactory) -> str:
     """The plain chain, built by cargo."""
@@ -95,6 +99,7 @@ def test_the_iteration_has_the_mean_that_is_solved_directly(monkeypatch: pytest.
     assert math.isclose(solve.mean_of(net, "q2", None)[0], direct, rel_tol=1e-6)
 
 
+@OF_CHAIN
 def test_the_plain_chain_has_the_mean(case: networks.Case, chain: str, tmp_path: pathlib.Path) -> None:
     found = rivals.by_chain(chain, written(case, tmp_path)[1], 2_000_000)
     # Three half-widths: such an interval misses the mean once in some 370 times.
@@ -102,6 +107,7 @@ def test_the_plain_chain_has_the_mean(case: networks.Case, chain: str, tmp_path:
     assert found.half < 0.02 * exact(case)
 
 
+@OF_CHAIN
 def test_the_plain_chain_refuses_other_texts(chain: str, tmp_path: pathlib.Path) -> None:
     file = tmp_path / "chain.net"
     for text in ("", "capacities 1\nstart 0\nwatched 1\nevent first 1 - 1 0 leave\n", "nonsense\n"):
@@ -149,18 +155,28 @@ def test_the_time_until_the_target_grows_with_the_square_of_the_width() -> None:
 
 
 def test_the_least_start_and_the_least_time_of_several_runs_are_taken() -> None:
-    runs, least = iter([(0.5, 3.0), (0.25, 4.0), (0.75, 2.25), (0.1, 8.0)]), rivals.Least()
+    runs, least = iter([(0.5, 3.0), (0.25, 4.0), (0.75, 2.25), (0.1, 8.0)]), rivals.Least(2)
     for wanted in (0.5, 3.0), (0.25, 3.0), (0.25, 2.25):
         found = least.of("net", "psi", lambda: rivals.Found(1.0, 0.01, *next(runs), 2.0, 1_000))
         assert found and (found.start, found.measured) == wanted
     assert found and found.seconds == 0.25 + 2 * 2.0 and found.step == 2.0 / 1_000 * 1e9
     assert least.of("net", "octave", lambda: None) is None
     # After a run that took long enough there is no other.
-    for seconds in rivals.ENOUGH, 1:
+    for seconds in measure.ENOUGH, 1:
         found = least.of("long", "psi", lambda: rivals.Found(1.0, 0.01, 0, seconds))
-        assert found and found.measured == rivals.ENOUGH
+        assert found and found.measured == measure.ENOUGH
 
 
+def test_a_time_is_settled_once_two_more_runs_are_near() -> None:
+    times = measure.Times([2.0, 2.05, 3.0])
+    assert times.least == 2.0 and not times.is_settled(3)
+    times.taken.append(2.07)
+    assert times.is_settled(4) and not times.is_settled(5)
+    assert not measure.Times([0.001, 0.0019]).is_settled(2) and measure.Times([0.001, 0.0019, 0.002]).is_settled(3)
+    assert measure.Times([measure.ENOUGH / 2, measure.ENOUGH]).is_settled(5)
+
+
+@OF_CHAIN
 def test_a_wrong_warm_up_is_measured(chain: str, tmp_path: pathlib.Path) -> None:
     mean, (none, long) = rivals.biases(chain, tmp_path, (0, 50_000), 2_000, 400)
     # M/M/1/K by its textbook formula.
@@ -190,11 +206,13 @@ def test_each_network_has_a_name_of_its_own() -> None:
     assert len(set(names)) == len(names)
 
 
-def test_times_are_the_least_of_those_that_are_known_and_new_ones() -> None:
+def test_only_times_that_are_not_settled_are_taken_again() -> None:
     calls = {"none": [["true"]], "known": [["true"]], "slow": [["true"]] * 3}
-    found = measure.least_seconds(calls, {"known": 0.0, "other": 7.0})
-    assert found["known"] == 0.0 and found["other"] == 7.0
-    assert 0 <= found["none"] < float("inf") and 0 <= found["slow"] < float("inf")
+    times = {"known": measure.Times([measure.ENOUGH])}
+    for count in 1, 2:
+        measure.time_again(calls, times, 3)
+        assert [len(times[name].taken) for name in calls] == [count, 1, count]
+    assert times["known"].least == measure.ENOUGH and 0 <= times["none"].least < measure.ENOUGH
 
 
 def test_verdicts_on_instructions() -> None:

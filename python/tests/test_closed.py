@@ -8,7 +8,7 @@ import pytest
 from conftest import Tool, example, is_refused
 from solving import means_of
 
-from psi_tools.draw.closed import samples_of
+from psi_tools.draw.states import samples_of
 from psi_tools.model.networks import Network
 
 RING = (

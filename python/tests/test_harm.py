@@ -10,7 +10,20 @@ import subprocess
 import sys
 
 import pytest
-from conftest import SECONDS, TOP, Started, Tool, example, is_refused, limited, match_in, printed_by, scripted, wait_for
+from conftest import (
+    SECONDS,
+    TOP,
+    Started,
+    Tool,
+    ended,
+    example,
+    is_refused,
+    limited,
+    match_in,
+    printed_by,
+    scripted,
+    wait_for,
+)
 
 NET = example("single-server")
 LAW = ["psi-law", str(NET), "desk", "--count", "40"]
@@ -164,12 +177,22 @@ def test_a_disk_that_is_full(tool: Tool, program: str, tmp_path: pathlib.Path) -
         subprocess.run(["umount", str(small)], check=True)
 
 
+@pytest.fixture(scope="module")
+def drawn(environment: dict[str, str], tmp_path_factory: pytest.TempPathFactory) -> tuple[pathlib.Path, str]:
+    """The folder that psi-many keeps, and its report; they are made once."""
+    room = tmp_path_factory.mktemp("drawn")
+    status, out, error = ended([TOP / "tools" / MANY[0], *MANY[1:]], cwd=room, env=environment)
+    assert status == 0, error
+    return room / "kept", out
+
+
 @pytest.mark.parametrize("line", ["network", "seed", "first", "count", "block", "digest"])
 @pytest.mark.parametrize("damage", ["cut", "changed", "removed"])
 def test_a_damaged_line_of_bound_costs_no_more_than_its_own_block(
-    tool: Tool, tmp_path: pathlib.Path, line: str, damage: str
+    tool: Tool, drawn: tuple[pathlib.Path, str], tmp_path: pathlib.Path, line: str, damage: str
 ) -> None:
-    wanted = tool(*MANY)[1]
+    folder, wanted = drawn
+    shutil.copytree(folder, tmp_path / "kept")
     blocks = {path: path.stat().st_mtime_ns for path in (tmp_path / "kept/blocks").iterdir()}
     assert len(blocks) == 40
     bound = tmp_path / "kept/bound"

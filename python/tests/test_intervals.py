@@ -12,6 +12,7 @@ from psi_tools.stats.intervals import (
     ZERO_ONE,
     Mean,
     Span,
+    Sums,
     carriers,
     difference_of_batches,
     difference_of_pairs,
@@ -21,6 +22,7 @@ from psi_tools.stats.intervals import (
     quantile,
     ranks,
     share_of,
+    spread_of,
     student,
     student_and_unseen,
 )
@@ -30,6 +32,8 @@ from psi_tools.model.networks import Network
 from psi_tools.draw.program import Program
 
 REPEATED, LEAST, MOST = 200, 180, 199
+# With this span no value is reckoned with that did not come: an interval is that of Student's t alone.
+FREE = Span(None, None, 10**60, -(10**60))
 
 
 def test_students_t_is_that_of_the_tables() -> None:
@@ -39,7 +43,7 @@ def test_students_t_is_that_of_the_tables() -> None:
 
 def test_a_mean_of_batches_by_hand() -> None:
     # The means are 1 to 20 over 2 samples each: the variance of a mean is 35.
-    found = mean_of_batches([2 * k for k in range(1, 21)], [2] * 20)
+    found = mean_of_batches(Sums([2 * k for k in range(1, 21)], [2] * 20, FREE))
     assert found.mean == 10.5
     assert found.half == pytest.approx(2.0930 * (35 / 20) ** 0.5, rel=1e-4)
 
@@ -47,7 +51,7 @@ def test_a_mean_of_batches_by_hand() -> None:
 def test_batches_of_other_sizes_count_by_their_samples() -> None:
     # Two samples of 1 and one of 4: the mean is 2, and (2 * 1 + 1 * 4) / 1 the variance of a
     # sample.
-    found = mean_of_batches([2, 4, 0], [2, 1, 0])
+    found = mean_of_batches(Sums([2, 4, 0], [2, 1, 0], FREE))
     assert found.mean == 2
     assert found.half == pytest.approx(student(1) * (6 / 3) ** 0.5)
 
@@ -62,19 +66,19 @@ def test_a_rare_share_has_an_interval_though_none_came() -> None:
 
 
 def test_great_sums_lose_nothing() -> None:
-    base = 10**36
-    found = mean_of_batches([base + k for k in range(20)], [1] * 20)
-    assert found.half == pytest.approx(student(19) * (35 / 20) ** 0.5)
+    spread = spread_of([10**36 + k for k in range(20)], [1] * 20)
+    assert spread is not None and spread.error == pytest.approx((35 / 20) ** 0.5)
 
 
 def test_no_sample_and_one_batch() -> None:
-    assert mean_of_batches([], []).mean is None
-    assert mean_of_batches([3], [2]).half is None
+    assert mean_of_batches(Sums([], [], FREE)).mean is None
+    assert mean_of_batches(Sums([3], [2], FREE)).half is None
 
 
 def test_a_difference_has_no_part_of_what_is_common() -> None:
     common = [round(each) for each in numpy.random.default_rng(1).normal(0, 10**9, 20)]
-    found = difference_of_batches([each + 1 for each in common], common, [1] * 20, [1] * 20)
+    one, other = (Sums(sums, [1] * 20, FREE) for sums in ([each + 1 for each in common], common))
+    found = difference_of_batches(one, other)
     assert found.mean == pytest.approx(1)
     assert found.half is not None and found.half < 1e-9
 
@@ -135,20 +139,20 @@ def test_students_t_and_what_did_not_come() -> None:
 
 
 def test_none_of_many_is_told_as_a_share_is() -> None:
-    none = mean_of_batches([0] * 40, [25] * 40, span=Span(0, 1_000, 0, 1_000))
+    none = mean_of_batches(Sums([0] * 40, [25] * 40, Span(0, 1_000, 0, 1_000)))
     assert (none.mean, none.low) == (0, 0)
     assert none.high == pytest.approx(1_000 * probability(0, 1_000)[1], rel=0.01)
 
 
 def test_what_is_not_coupled_counts_as_the_least_and_as_the_greatest() -> None:
     span, sums, counts, lost = Span(0, 10, 0, 10), [30, 40] * 10, [10] * 20, [2] * 20
-    found = mean_of_batches(sums, counts, span=span, lost=lost)
-    low = mean_of_batches(sums, [12] * 20, span=span)
-    high = mean_of_batches([total + 20 for total in sums], [12] * 20, span=span)
+    found = mean_of_batches(Sums(sums, counts, span, lost))
+    low = mean_of_batches(Sums(sums, [12] * 20, span))
+    high = mean_of_batches(Sums([total + 20 for total in sums], [12] * 20, span))
     assert (found.mean, found.low, found.high) == (3.5, low.low, high.high)
     # Where the ends aren't known there is no interval.
     open_span = Span(None, None, 0, 10)
-    assert mean_of_batches(sums, counts, span=open_span, lost=lost).half is None
+    assert mean_of_batches(Sums(sums, counts, open_span, lost)).half is None
     by_values = mean_of_values([(3, 100), (4, 100)], span, 40)
     low_end, high_end = ends_of(by_values)
     assert low_end < 3.5 * 200 / 240 and high_end > (3.5 * 200 + 400) / 240
@@ -172,17 +176,15 @@ def test_a_difference_of_pairs_by_hand() -> None:
 
 
 def test_a_difference_of_shares_in_batches() -> None:
-    spans = ZERO_ONE, ZERO_ONE
-    sums, others = [3, 2] * 20, [2, 2] * 20
-    found = difference_of_batches(sums, others, [50] * 40, [50] * 40, spans=spans)
+    one, other = (Sums(sums, [50] * 40, ZERO_ONE) for sums in ([3, 2] * 20, [2, 2] * 20))
+    found = difference_of_batches(one, other)
     pairs = difference_of_pairs(20, 0, 2_000)
     assert found.mean == pytest.approx(20 / 2_000)
     (low, high), (least, most) = ends_of(found), ends_of(pairs)
     assert low <= least < most <= high
-    same = difference_of_batches(sums, sums, [50] * 40, [50] * 40, spans=spans)
+    same = difference_of_batches(one, one)
     assert same.mean == 0 and same.high == pytest.approx(probability(0, 2_000)[1], rel=0.01)
-    lost = [0] * 40, [5] * 40
-    wide = difference_of_batches(sums, others, [50] * 40, [45] * 40, spans=spans, lost=lost)
+    wide = difference_of_batches(one, Sums(other.sums, [45] * 40, ZERO_ONE, [5] * 40))
     # The five of each batch that aren't coupled count as 1 below and as 0 above.
     assert wide.low == pytest.approx((100 - 80 - 200) / 2_000, abs=0.01)
     assert wide.high == pytest.approx((100 - 80) / 2_000, abs=0.01)

@@ -17,8 +17,7 @@ from matplotlib.figure import Figure
 from psi_tools.model.networks import Network, Table
 from psi_tools.plot import style
 from psi_tools.plot.draw_network import MOST_SERVERS, draw_network
-from psi_tools.plot.network_folding import folded
-from psi_tools.plot.network_layout import laid_out, size_of
+from psi_tools.plot.network_layout import folded, laid_out, size_of
 from psi_tools.plot.network_scene import Arrow, NetworkPicture, Node, scene_of
 from tests.figures import cut_off, overlapping, texts_of
 
@@ -147,7 +146,7 @@ def test_a_long_line_is_folded() -> None:
         boxes.append((across - width / 2, across + width / 2, up - height / 2, up + height / 2))
     for one, two in itertools.combinations(boxes, 2):
         assert one[1] <= two[0] or two[1] <= one[0] or one[3] <= two[2] or two[3] <= one[2]
-    assert scene.count(Node.QUEUE) == 32
+    assert sum(node.kind is Node.QUEUE for node in scene.nodes) == 32
 
 
 def test_names_are_only_names() -> None:

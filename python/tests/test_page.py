@@ -336,6 +336,8 @@ def test_a_phone_shows_all(browser: "WebDriver", opened: Open, pages: Pages, emu
         assert all(0 <= middle <= 390 for middle in middles)
 
 
+# The browser has to print within ten seconds, which it may not on a busy machine.
+@pytest.mark.quiet
 @pytest.mark.parametrize("name", ["first", "tandem-blocking", "longest-queue-split", "hyperexponential-service"])
 def test_the_page_prints(
     browser: "WebDriver", opened: Open, pages: Pages, tmp_path: pathlib.Path, emulated: Emulate, name: str
@@ -375,6 +377,7 @@ def drawn_on(pdf: pathlib.Path) -> numpy.ndarray[Any, Any]:
     return numpy.frombuffer(dots, dtype=numpy.uint8).reshape(height, width)
 
 
+@pytest.mark.quiet
 def test_a_long_log_opens_soon(browser: "WebDriver", opened: Open, pages: Pages, program: str) -> None:
     """A page of 4,096 steps opens within a second, and takes half a second of one processor at most. On a
     busy machine only the processor's time is held against it."""

@@ -35,7 +35,7 @@ def test_runs_end_where_psi_says(program: str, name: str) -> None:
 def test_runs_are_those_of_a_plain_walk(name: str) -> None:
     """A run's paths are a walk by the plain program's events, and a longer run ends with a shorter one's events."""
     table = tomllib.loads(example(name).read_text())
-    plain, follower = Plain(table), Follower(table)
+    plain, follower = Plain(table), Follower(Network.read(example(name)))
     run = follower.run(5, 11, 8)
     events = [
         plain.events[number] if number < len(plain.events) else None
@@ -83,7 +83,7 @@ def test_new_words_differ_from_run_to_run(program: str) -> None:
     """The wrong way draws each run from another stream; the right one keeps the words."""
     right, wrong = (past_of(program, path_of("single-server"), 0, 1, new) for new in (False, True))
     assert right.has_new_words is False and wrong.has_new_words is True
-    follower = Follower(tomllib.loads(example("single-server").read_text()))
+    follower = Follower(Network.read(example("single-server")))
     assert wrong.runs[1] == follower.run(0, 2, 2) and right.runs[1] == follower.run(0, 1, 2)
 
 

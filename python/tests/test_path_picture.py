@@ -14,7 +14,7 @@ from psi_tools.draw.program import companion_of
 from psi_tools.errors import InputError
 from psi_tools.model.networks import Network
 from psi_tools.plot.draw_path import draw_path
-from psi_tools.plot.path import path_of, row_of
+from psi_tools.plot.past import path_of, row_of
 
 
 def file_of(name: str) -> str:
@@ -79,7 +79,7 @@ def test_a_sample_that_is_not_coupled_has_no_path(program: str) -> None:
 
 
 def test_other_sums_are_refused(program: str, monkeypatch: pytest.MonkeyPatch) -> None:
-    monkeypatch.setattr("psi_tools.plot.path.companion_of", lambda path, name: "there")
+    monkeypatch.setattr("psi_tools.plot.past.companion_of", lambda path, name: "there")
     monkeypatch.setattr("psi_tools.draw.program.Program.paths", lambda self, *words: "stream\n")
     with pytest.raises(InputError, match="psi_paths and the plain follower differ"):
         path_of(program, file_of("first"), 0, 0, 5)

@@ -17,7 +17,7 @@ from psi_tools.io import reports, toml
 from psi_tools.model.designs import aligned, common_events, designs_of, values_of
 from psi_tools.model.networks import Network, plain
 from psi_tools.stats.guaranteed import by_count, by_total, is_binomial, rounded_out
-from psi_tools.stats.intervals import Span, mean_of_batches, mean_of_values, probability, quantile, share_of
+from psi_tools.stats.intervals import Span, Sums, mean_of_batches, mean_of_values, probability, quantile, share_of
 
 # Samples, each a horizon's exponent with its values; and queues, rewards, and the samples of several reports.
 Samples = list[tuple[int, tuple[int, ...]] | None]
@@ -190,7 +190,7 @@ def test_an_interval_of_a_mean_holds_it_and_shrinks(counts: list[tuple[int, int]
 def test_an_interval_of_batches_holds_the_mean(batches: list[tuple[int, int]]) -> None:
     counts = [count for _, count in batches]
     sums = [total % (20 * count + 1) for total, count in batches]
-    found = mean_of_batches(sums, counts, span=Span(0, 20, 0, 20))
+    found = mean_of_batches(Sums(sums, counts, Span(0, 20, 0, 20)))
     low, high = ends_of(found)
     assert found.mean is not None and found.holds(found.mean)
     assert found.mean == pytest.approx(sum(sums) / sum(counts))

@@ -8,8 +8,7 @@ import pytest
 from conftest import TOP, Tool, example
 from generate import case_files
 
-from psi_tools.model.refusals import SENTENCES
-from psi_tools.model.where import REFUSED, found_in
+from psi_tools.model.refusals import REFUSED, SENTENCES, found_in
 
 HEAD = 'version = 2\n[[queue]]\nname = "a"\ncapacity = 3\n[[queue]]\nname = "b"\ncapacity = 5\n'
 EVENT, TO = '[[event]]\nname = "in"\nkind = "arrival"\nrate = 1\n', 'to = ["a"]\n'

@@ -9,8 +9,7 @@ import pytest
 from conftest import TOP, Tool, example
 from oracle import plain_network
 
-from psi_tools.model.classes import closed_classes
-from psi_tools.model.moves import Load, Moves, loads_of
+from psi_tools.model.moves import Load, Moves, closed_classes, loads_of
 from psi_tools.model.networks import Network
 from psi_tools.draw.diagnosis import never_met
 

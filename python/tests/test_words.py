@@ -13,7 +13,7 @@ from conftest import TOP, Tool, ended, example, match_in
 from psi_tools.cli.entry import NAMES
 from psi_tools.cli.completion import SHELLS, completion
 from psi_tools.errors import PsiError
-from psi_tools.io.output import check_writable
+from psi_tools.io.files import check_writable
 
 NET = example("single-server")
 # Of each command words that are right, with a place for a file.

@@ -16,7 +16,7 @@ sys.path.insert(0, str(pathlib.Path(__file__).resolve().parent.parent))
 import packaged  # noqa: F401, E402
 from psi_tools.io.files import read_file  # noqa: E402
 from psi_tools.errors import PsiError, printable  # noqa: E402
-from psi_tools.model.where import found_in, text_of, text_of_line  # noqa: E402
+from psi_tools.model.refusals import found_in, text_of, text_of_line  # noqa: E402
 
 LOG = re.compile(r"psi: log (refused|rejected) \d+ (\w+) line (\d+)")
 # The most bytes of a log that are read.

@@ -13,7 +13,7 @@ import threading
 from collections.abc import Callable
 
 from psi_tools.errors import PsiError, reason
-from psi_tools.io.output import UNWRITTEN
+from psi_tools.io.files import UNWRITTEN
 from psi_tools.io.terminal import Pulse, print_note, silence
 
 NO_MEMORY, STOPPED = 8, 130

@@ -11,7 +11,7 @@ from typing import Any
 
 from psi_tools.cli.command import run
 from psi_tools.cli.entry import NAMES
-from psi_tools.io.output import write_answer
+from psi_tools.io.files import write
 
 SHELLS = "bash", "zsh", "fish"
 # Parts of the names of options and arguments that stand for a file or a folder.
@@ -191,7 +191,7 @@ def completion(shell: str, name: str) -> str:
 
 def main(arguments: list[str]) -> None:
     shell, command = arguments
-    write_answer(completion(shell, command.removeprefix("psi-")))
+    write(completion(shell, command.removeprefix("psi-")))
 
 
 if __name__ == "__main__":

@@ -3,23 +3,12 @@
 import argparse
 import functools
 
-from psi_tools.cli.options import (
-    PILOTS,
-    Parser,
-    add_form,
-    add_guaranteed,
-    add_picture,
-    add_program,
-    add_streams,
-    check_guaranteed,
-    check_last_stream,
-    check_picture,
-)
+from psi_tools.cli.options import PILOTS, Parser, check_files, check_last_stream
 from psi_tools.draw.law import COUNT, Samples
 from psi_tools.draw.program import Program
 from psi_tools.errors import PsiError
 from psi_tools.io import tables
-from psi_tools.io.output import check_writable, write, write_answer
+from psi_tools.io.files import write
 from psi_tools.io.tables import Record
 from psi_tools.io.terminal import Progress, print_note
 from psi_tools.model.networks import Network, checked
@@ -57,11 +46,11 @@ def parser() -> Parser:
     parser.flag("--reward", f"{text}. queue.NAME and reward.NAME are understood, too")
     text = "print the probability of a condition: comparisons of queues, rewards and whole numbers, with and, or, not"
     parser.add("--where", "CONDITION", f"{text}, +, - and *; names with a hyphen stand in quotes")
-    add_streams(parser, COUNT)
-    add_program(parser)
-    add_form(parser)
-    add_picture(parser)
-    add_guaranteed(parser)
+    parser.add_streams(COUNT)
+    parser.add_program()
+    parser.add_form()
+    parser.add_picture()
+    parser.add_guaranteed()
     text = (
         "with --guaranteed, the number of further streams that choose the stakes of the mean's bets and aren't counted"
     )
@@ -134,8 +123,7 @@ def answer_of(found: Found, args: argparse.Namespace) -> str:
 def certificates_of(net: Network, args: argparse.Namespace, law: Law) -> str:
     """The certificates of a guaranteed distribution, as JSON."""
     from psi_tools.draw.blocks import digest_of
-    from psi_tools.stats.guaranteed import file_of
-    from psi_tools.stats.guaranteed_rows import GuaranteedLaw
+    from psi_tools.stats.guaranteed import GuaranteedLaw, file_of
 
     assert isinstance(law, GuaranteedLaw)
     pilot = law.pilot and {"first": law.pilot.first, "count": law.pilot.count}
@@ -153,9 +141,7 @@ def check_args(args: argparse.Namespace) -> None:
     for option in ("guaranteed", "picture"):
         if getattr(args, option) and len(args.names) != 1:
             raise PsiError(f"--{option} goes with one queue or reward")
-    check_guaranteed(args)
-    check_writable(args.out)
-    check_picture(args.picture)
+    check_files(args)
 
 
 def write_files(law: Law, net: Network, args: argparse.Namespace) -> None:
@@ -164,9 +150,9 @@ def write_files(law: Law, net: Network, args: argparse.Namespace) -> None:
         from psi_tools.plot.draw_law import draw_law
         from psi_tools.plot.style import saved
 
-        write(args.picture, saved(draw_law(law, ""), args.picture.rpartition(".")[2].lower()))
+        write([saved(draw_law(law, ""), args.picture.rpartition(".")[2].lower())], args.picture)
     if args.certificate:
-        write(args.certificate, certificates_of(net, args, law).encode())
+        write(certificates_of(net, args, law), args.certificate)
 
 
 def work(arguments: list[str]) -> int:
@@ -191,7 +177,7 @@ def work(arguments: list[str]) -> int:
         raise PsiError(f"none of {found.many:,} streams is coupled; psi-why reports what may help", 1)
     if isinstance(found, Law):
         write_files(found, net, args)
-    write_answer(answer_of(found, args), args.out)
+    write(answer_of(found, args), args.out)
     if notes_of(found) and args.format != "text":
         print_note(COMMAND, notes_of(found)[0])
     if isinstance(found, Law) and args.guaranteed and args.format == "csv":

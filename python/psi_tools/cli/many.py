@@ -1,11 +1,4 @@
-"""psi-many NET SEED FIRST COUNT [OPTION..]
-
-Prints the report of any number of streams, as `psi report` would if it accepted that many: of NET, the
-seed SEED, and the streams FIRST to FIRST + COUNT - 1. The streams are cut in blocks, which
-`psi report` draws side by side: on this machine or others by GNU parallel, or as a Slurm job array.
-Finished blocks are kept in a folder, so that the same call goes on where it was stopped. With
---states it prints the samples themselves, which `psi_states` draws on this machine. docs/MANY.md has
-all of it.
+"""psi-many: the report of any number of streams, or their samples; docs/MANY.md has all of it.
 
 The exit status is 0 where the report or the table is printed, 1 where blocks failed again and again, 2 where the
 words, the folder or the hosts aren't right, 7 where something can't be written, that of `psi check`
@@ -20,15 +13,13 @@ import signal
 from collections.abc import Iterator
 from typing import NoReturn
 
-from psi_tools.cli.options import STREAM, TOTAL, Parser, add_psi, check_last_stream, number
+from psi_tools.cli.options import STREAM, TOTAL, Parser, check_last_stream, number
 from psi_tools.draw.blocks import MOST_BLOCKS, Folder
-from psi_tools.draw.engines import SHARE, SSH, Here, Hosts, Slurm, Way, run_task
-from psi_tools.draw.many import COMMAND, draw_all, joined, merge
+from psi_tools.draw.many import COMMAND, SHARE, SSH, Here, Hosts, Slurm, Way, draw_all, joined, merge, run_task
 from psi_tools.draw.program import Program, built_companion, built_program, companion_of, program_of
 from psi_tools.draw.streams import LEAST_BATCHES, MOST_STREAMS
 from psi_tools.errors import PsiError
-from psi_tools.io.files import read_file
-from psi_tools.io.output import check_writable, write_answer, write_pieces
+from psi_tools.io.files import check_writable, read_file, write
 from psi_tools.io.reports import read
 from psi_tools.io.samples import uncoupled_in
 from psi_tools.io.terminal import print_note
@@ -60,7 +51,7 @@ def parser() -> Parser:
     text = "print the samples themselves, a row for each stream, by psi_states on this machine"
     parser.flag("--states", text)
     parser.add("--folder", "FOLDER", "where finished blocks are kept; NET.SEED.FIRST.COUNT.many by default")
-    add_psi(parser, default=built_program())
+    parser.add_psi(default=built_program())
     text = "the number of streams in a block; by default such that there are 20 blocks or more"
     parser.add("--block", "N", text, type=number(1, MOST_STREAMS))
     text = "the number of blocks that are drawn at the same time, or of tasks in Slurm"
@@ -93,19 +84,14 @@ def parse(arguments: list[str]) -> argparse.Namespace:
     return args
 
 
-def network_of(psi: Program, args: argparse.Namespace) -> bytes:
-    """The bytes of a network that psi accepts, and with --closed psi closed, by its first stream."""
-    net = read_file(args.net)
-    psi.ask("check", net)
-    if args.closed is not None:
-        psi.ask("closed", net, args.seed, args.first, args.closed, statuses=(0, 1))
-    return net
-
-
 def blocks_of(args: argparse.Namespace, psi: str) -> tuple[Folder, list[pathlib.Path]]:
     """The folder of the arguments, and the files of all its blocks, once they are drawn."""
     program_of("sbatch" if args.slurm else "parallel")
-    net = network_of(Program(psi), args)
+    # psi has to take the network, and with --closed its first stream.
+    net, program = read_file(args.net), Program(psi)
+    program.ask("check", net)
+    if args.closed is not None:
+        program.ask("closed", net, args.seed, args.first, args.closed, statuses=(0, 1))
     engine: type[Hosts] | type[Slurm] | type[Here] = Hosts if args.hosts else Slurm if args.slurm else Here
     way: Way = engine(args, built_companion(psi, "psi_states") if args.states else psi, net)
     numbers = {"seed": args.seed, "first": args.first, "count": args.count}
@@ -135,7 +121,7 @@ def write_report(args: argparse.Namespace, psi: str) -> None:
     program = program_of(args.merge) if args.merge else companion_of(psi, "psi_merge")
     folder, files = blocks_of(args, psi)
     text = merge(folder, files, program)
-    write_answer(text.decode(), args.out)
+    write(text.decode(), args.out)
     report = read(text)
     report_uncoupled(report.samples - report.met, args, "sums and extremes are of the others, and biased")
 
@@ -152,7 +138,7 @@ def write_table(args: argparse.Namespace, psi: str) -> None:
             lost += uncoupled_in(header, piece)
             yield piece
 
-    write_pieces(counted(), args.out)
+    write(counted(), args.out)
     report_uncoupled(lost, args, "their rows are empty, and the others alone are biased")
 
 

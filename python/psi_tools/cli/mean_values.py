@@ -9,10 +9,10 @@ import math
 from collections.abc import Sequence
 
 from psi_tools.cli.options import TOTAL, Parser, number
-from psi_tools.draw.closed import samples_of
+from psi_tools.draw.states import samples_of
 from psi_tools.draw.program import Program
 from psi_tools.errors import PsiError
-from psi_tools.io.output import write_answer
+from psi_tools.io.files import write
 from psi_tools.io.tables import ended
 from psi_tools.model.networks import checked
 from psi_tools.stats.mean_values import means_of, rates_of
@@ -59,5 +59,5 @@ def work(arguments: list[str]) -> int:
         states = states_of(psi, net.data, args.total, args.count)
         for place, values in enumerate(zip(*states)):
             lines[place] += " {:.3f} ± {:.3f}".format(*estimate(values))
-    write_answer(ended(lines))
+    write(ended(lines))
     return 0

@@ -3,28 +3,16 @@
 import argparse
 
 from psi_tools.arguments import LEAST_LEVEL, MOST_LEVEL
-from psi_tools.cli.options import (
-    PILOTS,
-    STEPS,
-    TOTAL,
-    Parser,
-    add_form,
-    add_guaranteed,
-    add_program,
-    add_streams,
-    check_guaranteed,
-    check_last_stream,
-)
+from psi_tools.cli.options import PILOTS, STEPS, TOTAL, Parser, check_files, check_last_stream
 from psi_tools.draw.reports import read_any
 from psi_tools.draw.streams import LEAST_BATCHES
 from psi_tools.errors import PsiError
 from psi_tools.io import tables
-from psi_tools.io.output import check_writable, write, write_answer
+from psi_tools.io.files import write
 from psi_tools.io.tables import Record
 from psi_tools.io.terminal import print_note
 from psi_tools.model.networks import Network
-from psi_tools.stats.batches import Batches
-from psi_tools.stats.means import KINDS, mean_of, notes_of, records_of, remarks, table_of
+from psi_tools.stats.batches import KINDS, Batches, mean_of, notes_of, records_of, remarks, table_of
 from psi_tools.stats.text import with_interval
 
 COMMAND = "psi-means"
@@ -58,7 +46,7 @@ def parse(arguments: list[str]) -> argparse.Namespace:
     if not LEAST_LEVEL <= args.level / 100 <= MOST_LEVEL:
         raise PsiError(f"--level is from {100 * LEAST_LEVEL:g} to {100 * MOST_LEVEL:g}")
     check_paths(args)
-    check_guaranteed(args)
+    check_files(args)
     return args
 
 
@@ -84,11 +72,11 @@ def parser() -> Parser:
     parser.add("--level", "PERCENT", text, type=float, default=95.0)
     text = "the network file of the reports, which gives the range of each row; a folder of psi-many has it"
     parser.add("--net", "NET", text)
-    add_form(parser)
-    add_guaranteed(parser)
+    parser.add_form()
+    parser.add_guaranteed()
     text = "draw paths of this number of steps of the network NET, which is given instead of reports"
     parser.add("--paths", "STEPS", text, type=STEPS)
-    add_streams(parser, PATHS)
+    parser.add_streams(PATHS)
     parser.set_defaults(seed=None, first=None, count=None)
     text = "with --paths, the number of customers in a closed network; an open one by default"
     parser.add("--total", "TOTAL", text, type=TOTAL)
@@ -97,7 +85,7 @@ def parser() -> Parser:
     )
     more = "a twentieth of --count by default; with 0 the stakes are those of the range"
     parser.add("--pilot", "N", f"{text}; {more}", type=PILOTS)
-    add_program(parser)
+    parser.add_program()
     return parser
 
 
@@ -135,8 +123,7 @@ def heads_of(batches: Batches) -> Record:
 
 def guaranteed_answer(args: argparse.Namespace, batches: Batches, wanted: int) -> tuple[str, list[str]]:
     """The text of the answer whose intervals carry a theorem, by the sums of all reports."""
-    from psi_tools.stats.guaranteed import ASSUMED, file_of, misses
-    from psi_tools.stats.guaranteed_rows import guaranteed_means
+    from psi_tools.stats.guaranteed import ASSUMED, file_of, guaranteed_means, misses
 
     if not batches.spans:
         raise PsiError("--guaranteed needs the range of each row over all states, which --net NET gives")
@@ -147,7 +134,7 @@ def guaranteed_answer(args: argparse.Namespace, batches: Batches, wanted: int) -
         )
     rows, records = guaranteed_means(batches, args.level / 100)
     if args.certificate:
-        write(args.certificate, tables.as_json(file_of(rows, {"reports": args.reports})).encode())
+        write(tables.as_json(file_of(rows, {"reports": args.reports})), args.certificate)
     notes, remarks = notes_of(batches, wanted), [misses(rows[0].d), ASSUMED]
     if args.format != "text":
         return in_form(heads_of(batches), records, args, [*notes, *remarks])
@@ -175,14 +162,13 @@ def answer(args: argparse.Namespace) -> tuple[str, list[str]]:
 
 def work(arguments: list[str]) -> int:
     args = parse(arguments)
-    check_writable(args.out)
     if args.paths is None:
         text, notes = answer(args)
     else:
         from psi_tools.cli.path_means import answer as answer_of_paths
 
         text, notes = answer_of_paths(args)
-    write_answer(text, args.out)
+    write(text, args.out)
     if notes:
         print_note(COMMAND, "; ".join(notes))
     return 0

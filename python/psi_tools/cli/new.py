@@ -11,7 +11,7 @@ from typing import Any, TypeVar
 from psi_tools.cli.options import Parser, number
 from psi_tools.draw.program import Program
 from psi_tools.errors import PsiError
-from psi_tools.io.output import check_writable, write_answer
+from psi_tools.io.files import check_writable, write
 from psi_tools.io.terminal import print_note
 from psi_tools.model import catalog as models
 
@@ -210,7 +210,7 @@ def work(arguments: list[str]) -> int:
         raise PsiError(f"a kind is expected: {', '.join(KINDS)}; `psi-new --help` lists them")
     check_writable(args.out)
     text, off = text_of(args)
-    write_answer(text, args.out)
+    write(text, args.out)
     if off:
         print_note(COMMAND, f"the rates are rounded: one is off by at most {float(off):.1e} of itself")
     return 0

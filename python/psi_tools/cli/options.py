@@ -1,13 +1,13 @@
 """Options that several commands share, and the parser of their arguments."""
 
 import argparse
-from collections.abc import Callable, Sequence
+from collections.abc import Callable
 from typing import Any, NoReturn
 
 from psi_tools import __version__
 from psi_tools.arguments import GREATEST, NUMBER
 from psi_tools.errors import PsiError
-from psi_tools.io.output import check_writable
+from psi_tools.io.files import check_writable
 
 
 class Parser(argparse.ArgumentParser):
@@ -29,6 +29,41 @@ class Parser(argparse.ArgumentParser):
     def error(self, message: str) -> NoReturn:
         raise PsiError(f"{message}; `{self.prog} --help` lists the arguments")
 
+    def add_streams(self, count: int) -> None:
+        """Adds the options that choose the samples; `count` is the default number of them."""
+        seed = "the seed of the random words, 0 to 2^64 - 1; 0 by default"
+        self.add("--seed", "SEED", seed, type=STREAM, default=0)
+        self.add("--first", "STREAM", "the first stream, 0 to 2^64 - 1; 0 by default", type=STREAM, default=0)
+        text = f"the number of streams that are drawn, from the first on; {count:,} by default"
+        self.add("--count", "N", text, type=number(1, 2**36), default=count)
+
+    def add_psi(self, more: str = "", default: str | None = None) -> None:
+        """Adds the option that names the program psi; `more` states what it is for."""
+        text = f"the built program; crates/psi/out/psi, or psi on the PATH, by default{more}"
+        self.add("--psi", "PSI", text, default=default)
+
+    def add_program(self) -> None:
+        """Adds the options that name the program psi, and the number of processes."""
+        self.add_psi()
+        text = "the number of processes that draw at the same time; that of the processors by default"
+        self.add("--jobs", "N", text, type=number(1, 1024))
+
+    def add_form(self, *forms: str) -> None:
+        """Adds the options for the form of the answer, and for where it is written."""
+        text = "text for people, csv or json for programs; text by default"
+        self.add_argument("--format", choices=forms or ("text", "csv", "json"), default="text", help=text)
+        self.add("-o --out", "FILE", "the file that the answer is written to; standard output by default")
+
+    def add_picture(self) -> None:
+        """Adds the option of a picture."""
+        self.add("--picture", "FILE", "draw a picture, too: .svg, .png or .pdf by its name")
+
+    def add_guaranteed(self) -> None:
+        """Adds the options of guaranteed intervals."""
+        self.flag("--guaranteed", "intervals whose coverage is a theorem, docs/LAW.md, and not common statistics")
+        text = "the file for the certificates of the intervals, as JSON, which tools/check_interval.py checks"
+        self.add("--certificate", "FILE", f"with --guaranteed, {text}")
+
 
 def number(least: int, most: int) -> Callable[[str], int]:
     """The type of an argument that is a number from `least` to `most`, written as psi accepts it."""
@@ -45,63 +80,20 @@ def number(least: int, most: int) -> Callable[[str], int]:
 STREAM, TOTAL, STEPS, PILOTS = number(0, GREATEST), number(0, 256), number(0, 2**32 - 2**22), number(0, 2**20)
 
 
-def add_streams(parser: Parser, count: int) -> None:
-    """The options that choose the samples; `count` is the default number of them."""
-    seed = "the seed of the random words, 0 to 2^64 - 1; 0 by default"
-    parser.add("--seed", "SEED", seed, type=STREAM, default=0)
-    parser.add("--first", "STREAM", "the first stream, 0 to 2^64 - 1; 0 by default", type=STREAM, default=0)
-    text = f"the number of streams that are drawn, from the first on; {count:,} by default"
-    parser.add("--count", "N", text, type=number(1, 2**36), default=count)
-
-
-def add_psi(parser: Parser, more: str = "", default: str | None = None) -> None:
-    """The option that names the program psi; `more` states what it is for."""
-    text = f"the built program; crates/psi/out/psi, or psi on the PATH, by default{more}"
-    parser.add("--psi", "PSI", text, default=default)
-
-
-def add_program(parser: Parser) -> None:
-    """The options that name the program psi, and the number of processes."""
-    add_psi(parser)
-    text = "the number of processes that draw at the same time; that of the processors by default"
-    parser.add("--jobs", "N", text, type=number(1, 1024))
-
-
-def add_form(parser: Parser, forms: Sequence[str] = ("text", "csv", "json")) -> None:
-    """The options for the form of the answer, and for where it is written."""
-    text = "text for people, csv or json for programs; text by default"
-    parser.add_argument("--format", choices=forms, default="text", help=text)
-    parser.add("-o --out", "FILE", "the file that the answer is written to; standard output by default")
-
-
-def add_picture(parser: Parser) -> None:
-    """The options of a picture."""
-    parser.add("--picture", "FILE", "draw a picture, too: .svg, .png or .pdf by its name")
-
-
-def add_guaranteed(parser: Parser) -> None:
-    """The options of guaranteed intervals."""
-    parser.flag("--guaranteed", "intervals whose coverage is a theorem, docs/LAW.md, and not common statistics")
-    text = "the file for the certificates of the intervals, as JSON, which tools/check_interval.py checks"
-    parser.add("--certificate", "FILE", f"with --guaranteed, {text}")
-
-
-def check_guaranteed(args: argparse.Namespace) -> None:
-    """Refuses options that go with guaranteed intervals alone, and a certificate that can't be written."""
+def check_files(args: argparse.Namespace) -> None:
+    """Refuses options that go with guaranteed intervals alone, and files that can't be written, before any work."""
+    given = vars(args)
     for option in ("certificate", "pilot"):
-        if getattr(args, option) is not None and not args.guaranteed:
+        if given.get(option) is not None and not args.guaranteed:
             raise PsiError(f"--{option} goes with --guaranteed")
-    check_writable(args.certificate, "--certificate")
+    check_writable(given.get("certificate"), "--certificate")
+    check_writable(args.out)
+    if given.get("picture") and args.picture.rpartition(".")[2].lower() not in ("svg", "png", "pdf"):
+        raise PsiError("--picture names no .svg, .png or .pdf")
+    check_writable(given.get("picture"), "--picture")
 
 
 def check_last_stream(args: argparse.Namespace) -> None:
     """Refuses streams beyond the last one."""
     if args.first + args.count - 1 > GREATEST:
         raise PsiError(f"the last stream would be above {GREATEST}")
-
-
-def check_picture(path: str | None) -> None:
-    """Refuses a picture whose form isn't known, or that can't be written, before any work."""
-    if path is not None and path.rpartition(".")[2].lower() not in ("svg", "png", "pdf"):
-        raise PsiError("--picture names no .svg, .png or .pdf")
-    check_writable(path, "--picture")

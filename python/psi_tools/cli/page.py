@@ -7,14 +7,14 @@ import tempfile
 from typing import Any
 
 from psi_tools.arguments import GREATEST, NUMBER
-from psi_tools.cli.options import Parser, add_psi
+from psi_tools.cli.options import Parser
 from psi_tools.draw.program import Program
-from psi_tools.errors import PsiError, reason
-from psi_tools.io.output import check_writable, write
+from psi_tools.errors import PsiError
+from psi_tools.io.files import check_writable, read_file, write
 from psi_tools.model.networks import Network, checked
 from psi_tools.plot.page import page_of, runs_of
 
-COMMAND, UNREAD = "psi-page", 6
+COMMAND = "psi-page"
 # The longest log of which a browser is given a page, in bytes.
 MOST_LOG = 20_000_000
 ABOUT = """Writes one HTML file in which the runs of a sample are stepped through in a browser: the network
@@ -37,7 +37,7 @@ def parser() -> Parser:
     parser.add("--log", "FILE", "a log of `psi sample NET SEED STREAM log`, instead of SEED STREAM")
     parser.add("-o --out", "FILE", "the page that is written, one HTML file", required=True)
     parser.add("-t --title", "TITLE", "a title instead of the file's name", default="")
-    add_psi(parser)
+    parser.add_psi()
     return parser
 
 
@@ -60,11 +60,7 @@ def log_of(psi: Program, net: Network, args: Any) -> bytes:
         if answer.status:
             raise PsiError(f"{args.net}: {answer.out.strip()}, so there is no log to step through", 1)
         return answer.out.encode()
-    try:
-        with open(args.log, "rb") as file:
-            return file.read(MOST_LOG + 1)
-    except (OSError, ValueError) as fault:
-        raise PsiError(f"{args.log} can't be read: {reason(fault)}", UNREAD) from None
+    return read_file(args.log, MOST_LOG)
 
 
 def accept(psi: Program, net: Network, log: bytes, name: str) -> None:
@@ -84,4 +80,4 @@ def work(arguments: list[str]) -> None:
     log = log_of(psi, net, args)
     accept(psi, net, log, args.log or args.net)
     title = args.title or pathlib.Path(args.net).stem
-    write(args.out, page_of(runs_of(net, log, title)).encode())
+    write(page_of(runs_of(net, log, title)), args.out)

@@ -10,12 +10,12 @@ from psi_tools.draw.program import Program
 from psi_tools.draw.streams import LEAST_BATCHES, blocks_of, table_size
 from psi_tools.errors import PsiError
 from psi_tools.io import tables
-from psi_tools.io.output import write
+from psi_tools.io.files import write
 from psi_tools.io.tables import Record
 from psi_tools.io.terminal import Progress
 from psi_tools.model.networks import Network, checked
 from psi_tools.stats.intervals import reading_ahead
-from psi_tools.stats.means import table_of
+from psi_tools.stats.batches import table_of
 from psi_tools.stats.paths import Paths, paths_of_rows, records_of
 from psi_tools.stats.text import not_coupled
 
@@ -25,13 +25,10 @@ RATES = "rates of events, in the unit of the file: how often one changes the sta
 def drawn(psi: Program, net: Network, args: argparse.Namespace, first: int, count: int) -> Paths:
     """The paths of some streams, drawn in blocks."""
     blocks = blocks_of(first, count, table_size(count, psi.jobs))
-    bar = Progress(COMMAND, len(blocks), "blocks")
-    try:
+    with Progress(COMMAND, len(blocks), "blocks") as bar:
         with reading_ahead():
             rows = paths_of(psi, net, args.seed, blocks, args.paths, args.total, bar.show)
         return paths_of_rows(net, args.paths, rows)
-    finally:
-        bar.end()
 
 
 def notes_of(paths: Paths) -> list[str]:
@@ -55,8 +52,7 @@ def text_of(paths: Paths, records: list[Record], level: float) -> str:
 
 def guaranteed_answer(psi: Program, net: Network, args: argparse.Namespace, paths: Paths) -> tuple[str, list[str]]:
     """The text of the answer whose intervals carry a theorem: of queues and rewards alone."""
-    from psi_tools.stats.guaranteed import ASSUMED, file_of, misses, pilots_of
-    from psi_tools.stats.guaranteed_rows import guaranteed_paths
+    from psi_tools.stats.guaranteed import ASSUMED, file_of, guaranteed_paths, misses, pilots_of
 
     pilots = pilots_of(args.count) if args.pilot is None else args.pilot
     begin, pilot = args.first + args.count, None
@@ -69,7 +65,7 @@ def guaranteed_answer(psi: Program, net: Network, args: argparse.Namespace, path
         streams = {"seed": args.seed, "first": args.first, "count": args.count, "steps": args.paths}
         of = {"network": digest_of(net.data), **streams, "total": args.total}
         more = {"pilot": pilot and {"first": begin, "count": pilots}}
-        write(args.certificate, tables.as_json(file_of(rows, {**of, **more})).encode())
+        write(tables.as_json(file_of(rows, {**of, **more})), args.certificate)
     ways: list[str] = next((row.ways() for row in rows if row.ways()), [])
     remarks = [*ways, misses(rows[0].d), ASSUMED]
     if args.format != "text":

@@ -8,12 +8,12 @@ from collections.abc import Callable
 from typing import TYPE_CHECKING, Any, TypeVar
 
 from psi_tools.arguments import GREATEST, NUMBER
-from psi_tools.cli.options import STEPS, Parser, add_psi
+from psi_tools.cli.options import STEPS, Parser
 from psi_tools.draw.program import Program
 from psi_tools.draw.reports import as_printed, read_folder, read_report
 from psi_tools.draw.streams import LEAST_BATCHES
 from psi_tools.errors import InputError, PsiError, reason, require
-from psi_tools.io.output import check_writable, write
+from psi_tools.io.files import check_writable, write
 from psi_tools.model.networks import checked
 from psi_tools.plot.report import Report, report_of
 from psi_tools.stats.batches import batches_of
@@ -23,8 +23,7 @@ if TYPE_CHECKING:
     from psi_tools.io.exact import Shrinking
     from psi_tools.plot.forward import Forward
     from psi_tools.plot.network_scene import NetworkPicture
-    from psi_tools.plot.past import Past
-    from psi_tools.plot.path import StationaryPath
+    from psi_tools.plot.past import Past, StationaryPath
     from psi_tools.plot.read_log import Coupling
 
 Value = TypeVar("Value")
@@ -63,7 +62,7 @@ def parser() -> Parser:
     parser = Parser(COMMAND, ABOUT)
     parser.add("-o --out", "FILE", "the picture: SVG, PNG or PDF, by the ending of its name", default="")
     parser.add("-t --title", "TITLE", "a title in place of the picture's own", default="")
-    add_psi(parser, ", of which forward, past, path and network ask")
+    parser.add_psi(", of which forward, past, path and network ask")
     parser.flag("--legend", "of network: explain the arrows below the picture")
     parser.flag("--tables", "of network: print the tables of choices by an index")
     text = "of past and path: the queue that is drawn; if not given, of past all customers, and of path each queue"
@@ -112,7 +111,7 @@ def coupling(args: argparse.Namespace, path: str, *net: str) -> "Coupling":
     return log
 
 
-def reports(args: argparse.Namespace, *paths: str) -> list[tuple[str, Report]]:
+def report(args: argparse.Namespace, *paths: str) -> list[tuple[str, Report]]:
     """The reports, each with the name of its file."""
     require(len(paths) <= MOST_REPORTS, f"report takes at most {MOST_REPORTS} files")
     return [(path, report_at(path)) for path in paths]
@@ -185,7 +184,7 @@ def past(args: argparse.Namespace, path: str, *streams: str) -> "tuple[Past, int
 
 def path(args: argparse.Namespace, path: str, *streams: str) -> "tuple[StationaryPath, list[int]]":
     """A path, and the queues that are drawn."""
-    from psi_tools.plot.path import path_of
+    from psi_tools.plot.past import path_of
 
     seed, stream = streams_of("path", streams)
     found = path_of(args.psi, path, seed, stream, USUAL_STEPS if args.steps is None else args.steps)
@@ -195,16 +194,9 @@ def path(args: argparse.Namespace, path: str, *streams: str) -> "tuple[Stationar
     return found, [*range(len(queues))] if args.queue is None else [queues.index(args.queue)]
 
 
-# What reads the files of a command, and what draws it: matplotlib is wanted only for that.
-DRAWN: dict[str, Callable[..., Any]] = {
-    "coupling": coupling,
-    "report": reports,
-    "exact": exact,
-    "forward": forward,
-    "past": past,
-    "path": path,
-    "network": network,
-}
+# What reads the files of each kind of picture, and what draws it: matplotlib is wanted only for that.
+KINDS: tuple[Callable[..., Any], ...] = coupling, report, exact, forward, past, path, network
+DRAWN = {kind.__name__: kind for kind in KINDS}
 
 
 def draw(args: argparse.Namespace) -> bytes:
@@ -219,4 +211,4 @@ def draw(args: argparse.Namespace) -> bytes:
 
 def work(arguments: list[str]) -> None:
     args = parse(arguments)
-    write(args.out, draw(args))
+    write([draw(args)], args.out)

@@ -5,21 +5,12 @@ import argparse
 import os
 import pathlib
 
-from psi_tools.cli.options import (
-    Parser,
-    add_form,
-    add_picture,
-    add_program,
-    add_streams,
-    check_last_stream,
-    check_picture,
-    number,
-)
+from psi_tools.cli.options import Parser, check_files, check_last_stream, number
 from psi_tools.draw.program import Program
-from psi_tools.draw.sweep import Comparison, Work, carried_in, notes_of, records_of
+from psi_tools.draw.sweep import Comparison, carried_in, draw_designs, notes_of, records_of
 from psi_tools.errors import PsiError
 from psi_tools.io import tables
-from psi_tools.io.output import check_writable, write, write_answer
+from psi_tools.io.files import write
 from psi_tools.io.tables import Record
 from psi_tools.io.terminal import print_note
 from psi_tools.model.designs import Design, aligned, check_bounds, designs_of
@@ -56,40 +47,20 @@ What is drawn is kept in a folder, so the same call, or one with more values, go
 def parser() -> Parser:
     """The parser of the arguments."""
     parser = Parser(COMMAND, ABOUT)
-    parser.add_argument("net", metavar="NET", help="a network file")
-    parser.add_argument(
-        "keys",
-        metavar="NAME.KEY=VALUES|NET",
-        nargs="+",
-        help="what differs, and how; or other network files, which are compared as they are",
-    )
-    parser.add_argument(
-        "--together",
-        action="store_true",
-        help="the first values of all keys are a design, the second ones, and so on; without it all combinations are",
-    )
-    parser.add_argument(
-        "--anyway",
-        action="store_true",
-        help="sweep servers or a capacity though a guard, a table or a level that goes by it stays",
-    )
-    parser.add_argument(
-        "--of", metavar="NAME", action="append", help="print this queue or reward alone; may be given again"
-    )
-    parser.add_argument(
-        "--base",
-        metavar="N",
-        type=number(1, 256),
-        default=1,
-        help="the design with which the others are compared; by default 1, the first",
-    )
-    parser.add_argument(
-        "--folder", metavar="FOLDER", help="where finished blocks are kept; NET.SEED.FIRST.COUNT.sweep by default"
-    )
-    add_streams(parser, COUNT)
-    add_program(parser)
-    add_form(parser)
-    add_picture(parser)
+    parser.add("net", "NET", "a network file")
+    text = "what differs, and how; or other network files, which are compared as they are"
+    parser.add("keys", "NAME.KEY=VALUES|NET", text, nargs="+")
+    text = "the first values of all keys are a design, the second ones, and so on"
+    parser.flag("--together", f"{text}; without it all combinations are")
+    parser.flag("--anyway", "sweep servers or a capacity though a guard, a table or a level that goes by it stays")
+    parser.add("--of", "NAME", "print this queue or reward alone; may be given again", action="append")
+    text = "the design with which the others are compared; by default 1, the first"
+    parser.add("--base", "N", text, type=number(1, 256), default=1)
+    parser.add("--folder", "FOLDER", "where finished blocks are kept; NET.SEED.FIRST.COUNT.sweep by default")
+    parser.add_streams(COUNT)
+    parser.add_program()
+    parser.add_form()
+    parser.add_picture()
     return parser
 
 
@@ -175,8 +146,7 @@ def compared_designs(psi: Program, args: argparse.Namespace) -> Comparison:
 def prepared(args: argparse.Namespace) -> tuple[Program, Comparison]:
     """The program, and what is compared; psi takes all of it."""
     check_last_stream(args)
-    check_writable(args.out)
-    check_picture(args.picture)
+    check_files(args)
     psi, files = Program(args.psi, args.jobs), files_in(args)
     compared = compared_files(psi, args, files) if files else compared_designs(psi, args)
     nets = [design.net for design in compared.designs]
@@ -199,8 +169,7 @@ def work(arguments: list[str]) -> int:
     psi, compared = prepared(args)
     numbers = {"seed": args.seed, "first": args.first, "count": args.count}
     name = "{}.{seed}.{first}.{count}.sweep".format(pathlib.Path(args.net).name, **numbers)
-    kept = Work(psi, pathlib.Path(args.folder or name), compared.designs, numbers)
-    batches = kept.draw(COMMAND)
+    batches = draw_designs(psi, pathlib.Path(args.folder or name), compared.designs, numbers, COMMAND)
     records = records_of(compared, batches, args.of)
     notes, below = notes_of(compared, batches), carried_in(compared, batches, args.of)
     if args.picture:
@@ -209,8 +178,8 @@ def work(arguments: list[str]) -> int:
 
         plain = [record for record, _, _ in records]
         figure = draw_sweep(compared.columns, compared.labels, plain, compared.base, notes)
-        write(args.picture, saved(figure, args.picture.rpartition(".")[2].lower()))
-    write_answer(answer_of(args, compared, records, notes, below), args.out)
+        write([saved(figure, args.picture.rpartition(".")[2].lower())], args.picture)
+    write(answer_of(args, compared, records, notes, below), args.out)
     if args.format != "text" and (notes or below):
         print_note(COMMAND, "; ".join([*notes, *below]))
     return 0

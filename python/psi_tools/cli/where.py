@@ -1,13 +1,11 @@
 """psi-where: the line of a network file that psi refuses, with the guide's sentence on it."""
 
-from psi_tools.cli.options import Parser, add_form, add_psi
-from psi_tools.draw.program import Program
-from psi_tools.errors import PsiError, printable
+from psi_tools.cli.options import Parser, check_files
+from psi_tools.draw.program import Program, accepted
+from psi_tools.errors import printable
 from psi_tools.io import tables
-from psi_tools.io.files import read_file
-from psi_tools.io.output import check_writable, write_answer
-from psi_tools.model.refusals import SENTENCES
-from psi_tools.model.where import found_in, text_of, text_of_line
+from psi_tools.io.files import read_file, write
+from psi_tools.model.refusals import SENTENCES, found_in, text_of, text_of_line
 
 COMMAND = "psi-where"
 ABOUT = """Prints what psi check refuses in a network file: the file, the line, the line's text, the
@@ -23,29 +21,26 @@ def parser() -> Parser:
     """The parser of the arguments."""
     parser = Parser(COMMAND, ABOUT)
     parser.add("net", "NET", "a network file")
-    add_psi(parser)
-    add_form(parser, ("text", "json"))
+    parser.add_psi()
+    parser.add_form("text", "json")
     return parser
 
 
 def work(arguments: list[str]) -> int:
     args = parser().parse_args(arguments)
-    check_writable(args.out)
+    check_files(args)
     psi = Program(args.psi)
     data = read_file(args.net)
-    answer = psi.call("check", data)
+    answer = accepted(psi.call("check", data), "psi", (0, 3))
     if answer.status == 0:
         message = "null" if args.format == "json" else f"{printable(args.net)}: psi accepts it"
-        write_answer(f"{message}\n", args.out)
+        write(f"{message}\n", args.out)
         return 0
-    if answer.status != 3:
-        message = answer.line.removeprefix("psi: ")
-        raise PsiError(message or f"psi ended with {answer.status}", answer.status)
     found = found_in(data, answer.line)
     if args.format == "json":
         text = None if found["line"] is None else text_of_line(data, found["line"])
         sentence = SENTENCES[found["name"]]
-        write_answer(tables.as_json({**found, "text": text, "sentence": sentence}), args.out)
+        write(tables.as_json({**found, "text": text, "sentence": sentence}), args.out)
     else:
-        write_answer(text_of(args.net, data, found), args.out)
+        write(text_of(args.net, data, found), args.out)
     return 3

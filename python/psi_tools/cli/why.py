@@ -2,11 +2,11 @@
 
 import argparse
 
-from psi_tools.cli.options import STREAM, Parser, add_form, add_psi, number
+from psi_tools.cli.options import STREAM, Parser, number
 from psi_tools.draw.diagnosis import Findings, findings_of
 from psi_tools.draw.program import Program
 from psi_tools.io import tables
-from psi_tools.io.output import check_writable, write_answer
+from psi_tools.io.files import check_writable, write
 
 COMMAND, STREAMS, SECONDS = "psi-why", 20, 10
 ABOUT = """Reports what may keep samples of a network from coupling, and how far back they have to
@@ -36,8 +36,8 @@ def parser() -> Parser:
     parser.add("--count", "N", text, type=number(1, 65_536), default=STREAMS)
     text = f"the number of seconds after which no longer limit is tried; {SECONDS} by default"
     parser.add("--seconds", "N", text, type=number(1, 86_400), default=SECONDS)
-    add_psi(parser)
-    add_form(parser, ("text", "json"))
+    parser.add_psi()
+    parser.add_form("text", "json")
     return parser
 
 
@@ -75,5 +75,5 @@ def work(arguments: list[str]) -> int:
     args = parser().parse_args(arguments)
     check_writable(args.out)
     found = findings_of(Program(args.psi), args)
-    write_answer(tables.as_json(found) if args.format == "json" else text_of(args, found), args.out)
+    write(tables.as_json(found) if args.format == "json" else text_of(args, found), args.out)
     return 1 if found["never"] else 0

@@ -65,6 +65,14 @@ def write_whole(path: pathlib.Path, text: bytes, is_synced: bool = True) -> None
         raise PsiError(f"{path} can't be written: {reason(fault)}", UNWRITTEN) from None
 
 
+def resolved(path: str | os.PathLike[str]) -> pathlib.Path:
+    """The path of a folder, without links."""
+    try:
+        return pathlib.Path(path).resolve()
+    except (OSError, RuntimeError, ValueError) as fault:
+        raise PsiError(f"{path} is no folder: {reason(fault)}") from None
+
+
 def is_left(name: str) -> bool:
     """Whether a file's name is that of what a call has begun to write, and will not end: one of
     this machine whose process is gone."""
@@ -123,10 +131,7 @@ class Folder:
 
     def __init__(self, path: str | os.PathLike[str]) -> None:
         self.is_damaged = self.is_restored = False
-        try:
-            self.path = pathlib.Path(path).resolve()
-        except (OSError, RuntimeError, ValueError) as fault:
-            raise PsiError(f"{path} is no folder: {reason(fault)}") from None
+        self.path = resolved(path)
         self.net, self.blocks = self.path / "net.toml", self.path / "blocks"
 
     def lock(self) -> None:
@@ -294,18 +299,14 @@ class Folder:
 
     def tidy(self) -> None:
         """Removes what calls that were killed have begun to write."""
-        for file in (*self.blocks.glob("part.*"), *self.path.glob("part.*")):
-            file.unlink(missing_ok=True)
-        for file in self.path.glob("merged.*"):
+        for file in (*self.blocks.glob("part.*"), *self.path.glob("part.*"), *self.path.glob("merged.*")):
             file.unlink(missing_ok=True)
 
     def tidy_left(self) -> None:
         """Removes what a full disk or a kill has left, but for what tasks elsewhere may write."""
-        for file in self.path.glob("part.*"):
+        left = (file for file in self.blocks.glob("part.*") if is_left(file.name))
+        for file in (*self.path.glob("part.*"), *left):
             file.unlink(missing_ok=True)
-        for file in self.blocks.glob("part.*"):
-            if is_left(file.name):
-                file.unlink(missing_ok=True)
 
     def finished(self, reports: dict[int, Report] | None = None) -> dict[int, pathlib.Path]:
         """The files of the blocks that are whole and of one network, by number. Others are removed:

@@ -7,12 +7,11 @@ import time
 from collections.abc import Iterator
 from typing import Any
 
-from psi_tools.draw.program import Program, end_of
+from psi_tools.draw.program import Program, accepted
 from psi_tools.draw.reports import read_report
-from psi_tools.errors import PsiError
 from psi_tools.io.exact import read_exact
 from psi_tools.io.reports import Report
-from psi_tools.model.moves import Moves, loads_of
+from psi_tools.model.moves import Moves, describe_classes, loads_of
 from psi_tools.model.networks import Network, Table, checked
 
 # A limit that was tried, with the report of its streams; and what was found, by what it is.
@@ -94,12 +93,9 @@ def horizons_of(psi: Program, net: Network, args: argparse.Namespace, limit: int
             break
         call = "report", tried.data, args.seed, 0, args.count
         try:
-            done = psi.call(*call, seconds=left)
+            done = accepted(psi.call(*call, seconds=left), "psi", (0,))
         except subprocess.TimeoutExpired:
             break
-        if done.status:
-            message = done.line.removeprefix("psi: ")
-            raise PsiError(message or f"psi ended with {done.status}", end_of(done))
         found.append((power, read_report(done.out.encode(), "what psi printed")))
         if found[-1][1].met == args.count:
             break
@@ -188,8 +184,6 @@ def findings_of(psi: Program, args: argparse.Namespace) -> Findings:
     is_met = bool(found) and found[-1][1].met == args.count
     # What couples has one closed class alone.
     if not never and not any(report.met for _, report in found):
-        from psi_tools.model.classes import describe_classes
-
         never = describe_classes(net)
     return {
         "never": never,

@@ -1,5 +1,6 @@
 """Distributions of queues and rewards, alone or jointly, by the tables that psi_states draws."""
 
+import collections
 import dataclasses
 import functools
 from collections.abc import Sequence
@@ -15,13 +16,22 @@ from psi_tools.model.conditions import Condition, column_of
 from psi_tools.model.networks import Network, header_of
 from psi_tools.stats.intervals import reading_ahead
 from psi_tools.stats.law import Joint, Law, Share
-from psi_tools.stats.spans import Spans
+from psi_tools.stats.spans import Range, Spans
 
 if TYPE_CHECKING:
-    from psi_tools.draw.tally import Tally
-    from psi_tools.stats.guaranteed_rows import GuaranteedLaw
+    from psi_tools.stats.guaranteed import GuaranteedLaw
 
 COUNT = 10_000
+
+
+@dataclasses.dataclass
+class Tally:
+    """What samples have in some columns of their table: `counts` has how many samples have which values, `ends` the
+    least and the greatest of each queue that was asked for, where a sample is met; `unknown` streams aren't coupled."""
+
+    counts: collections.Counter[tuple[int, ...]]
+    ends: dict[str, Range]
+    unknown: int
 
 
 @dataclasses.dataclass(frozen=True)
@@ -61,14 +71,13 @@ class Samples:
         """How many samples meet a condition."""
         condition = Condition(self.net, text)
         tally = self.tally(condition.columns)
-        met = sum(many for values, many in tally.counts.items() if condition.holds(values))
-        return Share(text, met, tally.counts.total(), tally.unknown)
+        counts = [(condition.holds(values), many) for values, many in tally.counts.items()]
+        return Share(text, counts, tally.unknown)
 
     def guaranteed_law(self, name: str, is_reward: bool = False, pilots: int | None = None) -> "GuaranteedLaw":
         """As law, with intervals that carry a theorem. Where the mean is found by bets, the pilot streams
         follow those that are counted."""
-        from psi_tools.stats.guaranteed import Pilot, pilots_of
-        from psi_tools.stats.guaranteed_rows import GuaranteedLaw
+        from psi_tools.stats.guaranteed import GuaranteedLaw, Pilot, pilots_of
 
         law = self.law(name, is_reward)
         if not law.known:
@@ -82,22 +91,47 @@ class Samples:
             pilot = Pilot(seen.counts, seen.unknown, begin, pilots)
         return GuaranteedLaw(law.name, law.what, law.counts, law.unknown, law.span, pilot)
 
-    def tally(self, columns: Sequence[str], queues: Sequence[str] = ()) -> "Tally":
+    def tally(self, columns: Sequence[str], queues: Sequence[str] = ()) -> Tally:
         """What the samples have in some columns, and the ends of some queues."""
-        # numpy takes a while to be read: only where samples are drawn.
-        from psi_tools.draw.tally import added, tally_of
-
         draw, header = any_drawing(self.psi, self.net, self.seed), header_of(self.net)
         blocks = blocks_of(self.first, self.count, table_size(self.count, self.psi.jobs))
 
-        def drawn(block: Streams) -> "Tally":
+        def drawn(block: Streams) -> Tally:
             return tally_of(header, draw(block), block, columns, queues)
 
-        bar = self.progress(len(blocks), "blocks")
-        try:
-            calls = [functools.partial(drawn, block) for block in blocks]
-            with reading_ahead():
-                found = self.psi.all(calls, bar.show)
-        finally:
-            bar.end()
-        return added(found)
+        with self.progress(len(blocks), "blocks") as bar, reading_ahead():
+            return added(self.psi.all([functools.partial(drawn, block) for block in blocks], bar.show))
+
+
+def tally_of(
+    header: Sequence[str], text: str, block: Streams, columns: Sequence[str], queues: Sequence[str] = ()
+) -> Tally:
+    """What the samples of a block's table have in some columns, and the ends of some queues."""
+    # numpy takes a while to be read: only where samples are drawn.
+    import numpy
+
+    from psi_tools.io.columns import Columns
+
+    table = Columns(header, text, *block)
+    first, *others = (table.column(name) for name in columns)
+    counts: collections.Counter[tuple[int, ...]]
+    if others:
+        counts = collections.Counter(zip(*(column.tolist() for column in (first, *others))))
+    else:
+        values, times = numpy.unique(first, return_counts=True)
+        counts = collections.Counter(dict(zip(zip(values.tolist()), times.tolist())))
+    seen = {queue: table.column(f"queue.{queue}") for queue in queues if table.is_met.any()}
+    ends = {queue: (int(numbers.min()), int(numbers.max())) for queue, numbers in seen.items()}
+    return Tally(counts, ends, int((~table.is_met).sum()))
+
+
+def added(tallies: Sequence[Tally]) -> Tally:
+    """What the samples of several blocks have together."""
+    whole = Tally(collections.Counter(), {}, 0)
+    for tally in tallies:
+        whole.counts.update(tally.counts)
+        whole.unknown += tally.unknown
+        for queue, (least, greatest) in tally.ends.items():
+            before = whole.ends.get(queue, (least, greatest))
+            whole.ends[queue] = min(before[0], least), max(before[1], greatest)
+    return whole

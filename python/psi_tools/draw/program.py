@@ -8,7 +8,7 @@ import re
 import subprocess
 import threading
 from collections.abc import Callable, Container, Iterable
-from typing import Any, TypeVar
+from typing import TypeVar
 
 from psi_tools.arguments import whole_argument
 from psi_tools.errors import PsiError, Refused, printable
@@ -113,11 +113,6 @@ class Guard:
 GUARD = Guard()
 
 
-def started(args: list[str], **streams: Any) -> subprocess.Popen[bytes]:
-    """Starts a process that ends when this one does."""
-    return subprocess.Popen(args, **streams, process_group=GUARD.group())
-
-
 class Program:
     """The built program, which draws all samples. A network is handed to it as the text of its file.
 
@@ -161,7 +156,7 @@ class Program:
         with self.guard:
             if self.is_stopped:
                 raise KeyboardInterrupt
-            run = started(words, stdin=pipe, stdout=pipe, stderr=pipe)
+            run = subprocess.Popen(words, stdin=pipe, stdout=pipe, stderr=pipe, process_group=GUARD.group())
             self.running.add(run)
         try:
             out, line = run.communicate(net, timeout=seconds)
@@ -233,10 +228,7 @@ def accepted(answer: Answer, name: str, statuses: Container[int]) -> Answer:
     """The answer of a command of this name, which ends with one of these statuses."""
     if answer.status not in statuses:
         message = printable(answer.line).removeprefix("psi: ")
-        raise Refused(message or f"{name} ended with {answer.status}", end_of(answer), answer.line)
+        # A signal is a status as a shell has it.
+        status = answer.status if answer.status >= 0 else 128 - answer.status
+        raise Refused(message or f"{name} ended with {answer.status}", status, answer.line)
     return answer
-
-
-def end_of(answer: Answer) -> int:
-    """The status with which a tool ends where psi ended so: a signal as a shell has it."""
-    return answer.status if answer.status >= 0 else 128 - answer.status

@@ -6,8 +6,9 @@ from collections.abc import Callable, Sequence
 from psi_tools.draw.blocks import Folder, digest_in, digest_of
 from psi_tools.draw.program import Program
 from psi_tools.draw.streams import Streams
-from psi_tools.errors import PsiError, reason
-from psi_tools.io.reports import MOST_BYTES, Report, ReportError
+from psi_tools.errors import PsiError
+from psi_tools.io.files import read_file
+from psi_tools.io.reports import Report, ReportError
 from psi_tools.io.reports import read as parse_report
 from psi_tools.model.networks import Network
 from psi_tools.stats.batches import REWARD, Batches, batches_of
@@ -38,11 +39,7 @@ def read_files(paths: list[str]) -> Batches:
     files: dict[tuple[int, int], str] = {}
     texts: set[bytes] = set()
     for path in paths:
-        try:
-            with open(path, "rb") as file:
-                data, known = file.read(MOST_BYTES + 1), os.fstat(file.fileno())
-        except (OSError, ValueError) as fault:
-            raise PsiError(f"{path} can't be read: {reason(fault)}", 6) from None
+        data, known = read_file(path), os.stat(path)
         first = files.setdefault((known.st_dev, known.st_ino), path)
         if len(files) == len(reports):
             raise PsiError(f"{path} is the same file as {first}: each report is one of other streams")

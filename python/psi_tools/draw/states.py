@@ -1,11 +1,60 @@
-"""Tables of samples, as psi_states prints them, drawn side by side on this machine in blocks."""
+"""Tables of samples, as psi_states prints them, drawn side by side on this machine in blocks; and samples of closed
+networks, as psi closed prints them, with their report.
 
+psi report has none of closed networks: here the counts, horizons, sums and extremes of the printed
+states are taken in its form, and the values of rewards by the guide's rules.
+"""
+
+import collections
+import re
 from collections.abc import Callable
 
-from psi_tools.draw.closed import samples_of
 from psi_tools.draw.program import Program
 from psi_tools.draw.streams import Streams
+from psi_tools.io.reports import Figure, Report
 from psi_tools.model.networks import Network, header_of, values_of
+
+# The horizon and the state of a sample; none where it is not coupled.
+Sample = tuple[int, list[int]] | None
+
+MOST_TOTAL = 256
+SAMPLE = re.compile(rb"met (\d+)\nstate (\d+(?:,\d+)*)\n|not coupled within \d+\n")
+
+
+def samples_of(text: bytes) -> list[Sample] | None:
+    """The samples in what psi closed printed of some streams: for each its horizon and its state,
+    or none where it isn't coupled; none at all where the text is anything else."""
+    found, end = [], 0
+    for sample in SAMPLE.finditer(text):
+        if sample.start() != end:
+            return None
+        end = sample.end()
+        met = sample[1] is not None
+        found.append((int(sample[1]), [*map(int, sample[2].split(b","))]) if met else None)
+    return found if end == len(text) else None
+
+
+def report_of_text(net: Network, text: bytes, count: int) -> bytes | None:
+    """The report of what psi closed printed of this number of streams, in psi report's form; none where it isn't
+    whole."""
+    found = samples_of(text)
+    if found is None or len(found) != count:
+        return None
+    if any(sample and len(sample[1]) != len(net.queues) for sample in found):
+        return None
+    met, report = [sample for sample in found if sample], Report()
+    report.samples, report.met = len(found), len(met)
+    report.horizons = sorted(collections.Counter(horizon for horizon, _ in met).items())
+    states = [state for _, state in met]
+    values = [values_of(net, state) for state in states]
+    for kind, names, rows in ((b"", net.queues, states), (b"reward-", net.rewards, values)):
+        for place, name in enumerate(names):
+            numbers = [row[place] for row in rows]
+            ends = {b"least": min(numbers), b"greatest": max(numbers)} if numbers else {}
+            for word, value in {b"sum": sum(numbers), **ends}.items():
+                report.figures.append(Figure(kind, word, name.encode(), value))
+    return report.text()
+
 
 # What draws the table of a block: of each stream a row of its number, the horizon, the queues and the rewards.
 Draw = Callable[[Streams], str]

@@ -11,6 +11,7 @@ import errno
 import os
 import re
 import stat
+import sys
 from collections.abc import Iterable
 
 from psi_tools.errors import PsiError, reason
@@ -21,8 +22,6 @@ Path = str | os.PathLike[str]
 MOST_LINKS = 40
 # A descriptor of a process, as the proc file system names it.
 DESCRIPTOR = re.compile(r"/proc/(\d+)(?:/task/\d+)?/fd")
-# Names of temporary files that are tried.
-TRIES = 100
 
 
 def descriptor_of(path: str) -> tuple[int, int] | None:
@@ -75,11 +74,8 @@ def mode_of(target: str) -> int:
 def open_new(folder: str, front: str, ending: str = "") -> tuple[int, str]:
     """A new temporary file in a folder, which no link leads elsewhere, and its path."""
     flags = os.O_WRONLY | os.O_CREAT | os.O_EXCL | os.O_NOFOLLOW | os.O_CLOEXEC
-    for _ in range(TRIES):
-        path = os.path.join(folder, f"{front}{os.urandom(6).hex()}{ending}")
-        with contextlib.suppress(FileExistsError):
-            return os.open(path, flags, 0o600), path
-    raise FileExistsError(errno.EEXIST, os.strerror(errno.EEXIST), path)
+    path = os.path.join(folder, f"{front}{os.urandom(12).hex()}{ending}")
+    return os.open(path, flags, 0o600), path
 
 
 def replace(target: str, pieces: Iterable[bytes], front: str, ending: str = "", is_synced: bool = True) -> None:
@@ -114,20 +110,18 @@ def write_file(path: str, pieces: Iterable[bytes]) -> None:
 
 
 def try_to_write(path: str) -> None:
-    """Fails as a write to the file would: opens it, or makes one without a name in its folder. It
-    is left as it is, and where there is none none is made: another call may write it meanwhile."""
+    """Fails as a write to the file would: opens it, or makes one without a name in its folder."""
     if not path or path.endswith("/"):
         raise OSError(0, os.strerror(errno.EISDIR if path else errno.ENOENT))
     if descriptor_of(path) is None:
         with contextlib.suppress(FileNotFoundError):
             os.stat(path)
-    if is_stream(path):
-        if not os.access(path, os.W_OK):
-            # To open a pipe and to close it again would end its reader.
-            raise OSError(0, os.strerror(errno.EACCES))
-        return
     target = os.path.realpath(path)
-    if os.path.isfile(target) or os.path.isdir(target):
+    if is_stream(path):
+        # To open a pipe and to close it again would end its reader.
+        if not os.access(path, os.W_OK):
+            raise OSError(0, os.strerror(errno.EACCES))
+    elif os.path.isfile(target) or os.path.isdir(target):
         open(target, "ab").close()
     else:
         # Only a new file wants this module, which takes a while to be read.
@@ -141,10 +135,43 @@ MOST_BYTES = 2**20
 UNREAD = 6
 
 
-def read_file(path: Path) -> bytes:
-    """The bytes of a network file, one more at most than it may have."""
+def read_file(path: Path, most: int = MOST_BYTES) -> bytes:
+    """The bytes of a file, one more at most than it may have; `most` is that of a network file by default."""
     try:
         with open(path, "rb") as file:
-            return file.read(MOST_BYTES + 1)
+            return file.read(most + 1)
     except (OSError, ValueError) as fault:
         raise PsiError(f"{path} can't be read: {reason(fault)}", UNREAD) from None
+
+
+UNWRITTEN = 7
+
+
+def check_writable(path: str | None, option: str = "-o") -> None:
+    """Refuses a file that can't be written, before any work.
+
+    It is left as it is, and where there is none none is made: another call may write it meanwhile.
+    """
+    if path is None:
+        return
+    try:
+        try_to_write(path)
+    except (OSError, ValueError) as fault:
+        raise PsiError(f"{option} {path} can't be written: {reason(fault)}", UNWRITTEN) from None
+
+
+def write(answer: str | Iterable[bytes], path: str | None = None) -> None:
+    """Writes an answer, or its pieces, to standard output, or to a file: whole or not at all under its name, or to a
+    stream such as /dev/stdout."""
+    pieces = [answer.encode()] if isinstance(answer, str) else answer
+    try:
+        if path is not None:
+            write_file(path, pieces)
+            return
+        if sys.stdout is None:
+            raise OSError(0, "it is closed")
+        sys.stdout.buffer.writelines(pieces)
+        sys.stdout.buffer.flush()
+    except (OSError, ValueError) as fault:
+        where = "standard output" if path is None else path
+        raise PsiError(f"{where} can't be written: {reason(fault)}", UNWRITTEN) from None

@@ -25,11 +25,10 @@ MOST_WORTH = 32 * 65_535 * 10**9
 MOST = {b"": 32, b"reward-": 64}
 NAME = re.compile(rb"[A-Za-z0-9_-]{1,32}")
 NUMBER = re.compile(rb"-?[0-9]*")
-FIGURE = re.compile(rb"(reward-)?(sum|least|greatest)")
 # A text whose rows are in their order, with no number out of its range: its counts, horizons and figures.
 IN_ORDER = re.compile(
-    rb"item,name,value\nsamples,-,(\d{1,19})\nmet,-,(\d{1,19})\nuncoupled,-,\d{1,19}\n"
-    rb"((?:horizon,\d{1,19},\d{1,19}\n)*+)"
+    rb"item,name,value\nsamples,-,(\d{1,20})\nmet,-,(\d{1,20})\nuncoupled,-,\d{1,20}\n"
+    rb"((?:horizon,\d{1,20},\d{1,20}\n)*+)"
     rb"((?:(?:reward-)?(?:sum|least|greatest),[\w-]{1,32},-?\d{1,37}\n)*+)"
 )
 # The items of figures: their kinds, and which of them they are.
@@ -88,25 +87,16 @@ def number(word: bytes, least: int, most: int) -> int | None:
     return value if least <= value <= most else None
 
 
-def take(report: Report, item: bytes, name: bytes, value: bytes) -> bool:
-    """Takes in a row; whether it is one."""
+def is_row(item: bytes, name: bytes, value: bytes) -> bool:
+    """Whether some fields are a row."""
     if item in (b"item", b"uncoupled"):
         return True
     if item in (b"samples", b"met"):
-        count = number(value, 0, MOST_COUNT)
-        setattr(report, item.decode(), count)
-        return count is not None
+        return number(value, 0, MOST_COUNT) is not None
     if item == b"horizon":
-        horizon, count = number(name, 0, MOST_COUNT), number(value, 0, MOST_COUNT)
-        if horizon is None or count is None:
-            return False
-        report.horizons.append((horizon, count))
-        return True
-    found, figure = FIGURE.fullmatch(item), number(value, -MOST_VALUE, MOST_VALUE)
-    if not found or not NAME.fullmatch(name) or not value or figure is None:
-        return False
-    report.figures.append(Figure(found[1] or b"", found[2], name, figure))
-    return True
+        return number(name, 0, MOST_COUNT) is not None and number(value, 0, MOST_COUNT) is not None
+    is_named = item in ITEMS and NAME.fullmatch(name) is not None and value != b""
+    return is_named and number(value, -MOST_VALUE, MOST_VALUE) is not None
 
 
 def is_extreme(figure: Figure, word: bytes, of: Figure) -> bool:
@@ -188,14 +178,13 @@ def read_in_order(found: re.Match[bytes]) -> Report:
     return report
 
 
-def read_by_rows(text: bytes) -> Report:
-    """The report of a text row by row, whatever their order; raises ReportError at the first that is none."""
-    report = Report()
+def refusal_of(text: bytes) -> ReportError:
+    """Why a text whose rows aren't in their order, or aren't rows, is refused."""
     for line, row in enumerate(text.split(b"\n"), 1):
         fields = row.split(b",")
-        if fields != [b""] and (len(fields) != 3 or not take(report, *fields)):
-            raise refusal("1 Row", line)
-    return report
+        if fields != [b""] and (len(fields) != 3 or not is_row(*fields)):
+            return refusal("1 Row", line)
+    return refusal("2 Text", 0)
 
 
 def read(text: bytes) -> Report:
@@ -203,10 +192,10 @@ def read(text: bytes) -> Report:
     if len(text) > MOST_BYTES:
         raise refusal("0 TooLong", 0)
     found = IN_ORDER.fullmatch(text)
-    # A text in another order is none, but a row of it may be refused first.
-    report = read_in_order(found) if found else read_by_rows(text)
-    if report.text() != text:
-        raise refusal("2 Text", 0)
+    report = read_in_order(found) if found else Report()
+    counts = report.samples, report.met, *(number for horizon in report.horizons for number in horizon)
+    if max(counts) > MOST_COUNT or report.text() != text:
+        raise refusal_of(text)
     wrong = flaw(report)
     if wrong is not None:
         raise refusal("3 Samples", wrong)

@@ -1,5 +1,6 @@
 """What a command prints on standard error: one line, and its progress."""
 
+import contextlib
 import os
 import sys
 import threading
@@ -65,16 +66,16 @@ class Pulse:
             cls.own = None
 
 
-class Bar:
-    """The progress of some work, which this class does not show; `before` is what other parts of it have done."""
+class Bar(contextlib.AbstractContextManager["Bar"]):
+    """The progress of some work, within a `with` statement; this class does not show it."""
 
     def __init__(self, whole: int, what: str = "samples") -> None:
-        self.whole, self.what, self.before = whole, what, 0
+        self.whole, self.what = whole, what
 
     def show(self, done: int) -> None:
-        """Shows how much is done, in addition to what was done before this part."""
+        """Shows how much is done."""
 
-    def end(self) -> None:
+    def __exit__(self, *fault: object) -> None:
         """Removes what was shown."""
 
 
@@ -92,8 +93,7 @@ class Progress(Bar):
         self.is_shown = is_terminal()
 
     def show(self, done: int) -> None:
-        """Shows how much is done, in addition to what was done before this part."""
-        now, done = time.monotonic(), self.before + done
+        now = time.monotonic()
         if not self.is_shown or now - self.begun < QUIET or now - self.last < OFTEN:
             return
         Pulse.end()
@@ -103,8 +103,7 @@ class Progress(Bar):
             line += f", {clock((now - self.begun) / done * (self.whole - done))} to go"
         print_error(f"\r{line}\x1b[K", end="")
 
-    def end(self) -> None:
-        """Removes what was shown."""
+    def __exit__(self, *fault: object) -> None:
         if self.has_shown:
             print_error("\r\x1b[K", end="")
 
@@ -122,9 +121,6 @@ def print_note(command: str, why: object) -> None:
 
 def silence(stream: IO[Any] | None) -> None:
     """Gives up what wasn't written to a stream, so that it is not reported again."""
-    try:
-        with open(os.devnull, "wb") as nowhere:
-            if stream is not None:
-                os.dup2(nowhere.fileno(), stream.fileno())
-    except (OSError, ValueError):
-        pass
+    with contextlib.suppress(OSError, ValueError), open(os.devnull, "wb") as nowhere:
+        if stream is not None:
+            os.dup2(nowhere.fileno(), stream.fileno())

@@ -5,6 +5,7 @@ lines here, with a comma after its last entry; strings may have the escapes \\e 
 """
 
 import re
+from collections.abc import Iterator
 from typing import Any, NoReturn
 
 BARE = re.compile(r"[A-Za-z0-9_-]+")
@@ -94,13 +95,13 @@ class Reader:
             self.at = found.end()
         return found
 
-    def skip(self, *, lines: bool) -> None:
-        """Passes blanks and, where asked, ends of lines and comments."""
+    def skip(self) -> None:
+        """Passes blanks, ends of lines and comments."""
         while True:
             self.take(BLANK)
-            if self.peek() == "#" and lines:
+            if self.peek() == "#":
                 self.comment()
-            if not (lines and self.end_of_line()):
+            if not self.end_of_line():
                 return
 
     def end_of_line(self) -> bool:
@@ -125,7 +126,7 @@ class Reader:
         root = Table(1, "header")
         here = root
         while True:
-            self.skip(lines=True)
+            self.skip()
             if self.at == len(self.text):
                 return root
             if self.peek() == "[":
@@ -148,16 +149,21 @@ class Reader:
         if self.peek(1 + is_array) != "]" * (1 + is_array):
             self.fail(f"the header doesn't end with {']' * (1 + is_array)}")
         self.at += 1 + is_array
-        table: Any = root
-        for key in keys[:-1]:
+        return self.headed(self.below(root, keys[:-1], line, "implied"), keys[-1], line, is_array)
+
+    def below(self, begin: Table, keys: list[str], line: int, kind: str) -> Table:
+        """The table below a table that keys lead to; those that aren't there are made, and are of a kind."""
+        table: Any = begin
+        for key in keys:
             if key not in table:
-                table[key], table.places[key] = Table(line, "implied"), line
+                table[key], table.places[key] = Table(line, kind), line
             table = table[key]
-            if type(table) is Array and table.of_tables:
+            if type(table) is Array and table.of_tables and kind == "implied":
                 table = table[-1]
-            if type(table) is not Table or table.kind == "braces":
+            if type(table) is not Table or table.kind == "braces" or kind == "dotted" and table.kind != kind:
                 raise TomlError(line, f"{key} is no table that can be extended")
-        return self.headed(table, keys[-1], line, is_array)
+        found: Table = table
+        return found
 
     def headed(self, table: Table, key: str, line: int, is_array: bool) -> Table:
         """The table of a header in the table that it belongs to."""
@@ -213,12 +219,7 @@ class Reader:
         self.at += 1
         self.take(BLANK)
         value = self.value()
-        for key in keys[:-1]:
-            if key not in table:
-                table[key], table.places[key] = Table(line, "dotted"), line
-            table = table[key]
-            if type(table) is not Table or table.kind not in ("dotted",):
-                raise TomlError(line, f"{key} is no table that can be extended")
+        table = self.below(table, keys[:-1], line, "dotted")
         if keys[-1] in table:
             raise TomlError(line, f"{keys[-1]} is given a second time")
         table[keys[-1]], table.places[keys[-1]] = value, line
@@ -262,35 +263,31 @@ class Reader:
 
     def array(self) -> Array:
         found = Array(self.line())
-        self.at += 1
-        while True:
-            self.skip(lines=True)
-            if self.peek() == "]":
-                self.at += 1
-                return found
+        for _ in self.items("an array", "]"):
             found.places.append(self.line())
             found.append(self.value())
-            self.skip(lines=True)
-            if self.peek() == ",":
-                self.at += 1
-            elif self.peek() != "]":
-                self.fail("in an array `,` or `]` is expected here")
+        return found
 
     def braces(self) -> Table:
         found = Table(self.line(), "dotted")
-        self.at += 1
-        while True:
-            self.skip(lines=True)
-            if self.peek() == "}":
-                self.at += 1
-                seal(found)
-                return found
+        for _ in self.items("a table in braces", "}"):
             self.pair(found)
-            self.skip(lines=True)
+        seal(found)
+        return found
+
+    def items(self, what: str, close: str) -> Iterator[None]:
+        """Stops at each item between brackets, for the caller to pass it."""
+        self.at += 1
+        self.skip()
+        while self.peek() != close:
+            yield
+            self.skip()
             if self.peek() == ",":
                 self.at += 1
-            elif self.peek() != "}":
-                self.fail("in a table in braces `,` or `}` is expected here")
+                self.skip()
+            elif self.peek() != close:
+                self.fail(f"in {what} `,` or `{close}` is expected here")
+        self.at += 1
 
     def string(self) -> str:
         """A text in quotes of any of the four forms."""

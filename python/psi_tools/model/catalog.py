@@ -27,17 +27,12 @@ class Made:
     net: Network = dataclasses.field(default_factory=Network)
 
 
-def add_arrival(made: Made, name: str, rate: Rate, *to: str) -> None:
-    made.net.event(name, "arrival", rate, to=[*to])
-
-
 def add_servers(made: Made, queue: str, rate: Rate, servers: int, name: str = "serve", **keys: Any) -> None:
     """The service of a queue by some servers. Above 64 each is an event of its own, which takes a
     customer where at least as many are there: such a service ends outside."""
-    table = next(table for table in made.net.table["queue"] if table["name"] == queue)
     if servers <= MOST_SERVERS:
-        if servers > 1:
-            table["servers"] = servers
+        table = next(table for table in made.net.table["queue"] if table["name"] == queue)
+        table |= {"servers": servers} if servers > 1 else {}
         made.net.event(name, "service", rate, source=queue, **keys)
         return
     for least in range(1, servers + 1):
@@ -96,7 +91,7 @@ def single_server(args: argparse.Namespace) -> Made:
     )
     made.comment += by_formula(args.arrival, [args.service] * args.places)
     made.net.queue("desk", args.places)
-    add_arrival(made, "come", args.arrival, "desk")
+    made.net.event("come", "arrival", args.arrival, to=["desk"])
     add_servers(made, "desk", args.service, 1)
     add_waiting(made, "desk", 1, args.places)
     return made
@@ -123,7 +118,7 @@ def several_servers(args: argparse.Namespace) -> Made:
     )
     made.comment += by_formula(args.arrival, deaths_of(args))
     made.net.queue("calls", places)
-    add_arrival(made, "ring", args.arrival, "calls")
+    made.net.event("ring", "arrival", args.arrival, to=["calls"])
     add_servers(made, "calls", args.service, c, "answer")
     made.net.reward("all-busy", "above", ["calls"], level=c - 1)
     add_waiting(made, "calls", c, places)
@@ -139,7 +134,7 @@ def erlang_loss(args: argparse.Namespace) -> Made:
     )
     made.comment += by_formula(args.arrival, [args.service * line for line in range(1, c + 1)])
     made.net.queue("lines", c)
-    add_arrival(made, "call", args.arrival, "lines")
+    made.net.event("call", "arrival", args.arrival, to=["lines"])
     add_servers(made, "lines", args.service, c, "end")
     add_full(made, "lost", "lines", c)
     return made
@@ -197,7 +192,7 @@ def line(args: argparse.Namespace) -> Made:
     names = numbered("stage", len(rates))
     for name, capacity, count in zip(names, places, servers):
         made.net.queue(name, capacity, count)
-    add_arrival(made, "deliver", args.arrival, names[0])
+    made.net.event("deliver", "arrival", args.arrival, to=[names[0]])
     for place, (name, rate) in enumerate(zip(names, rates)):
         to = names[place + 1 : place + 2]
         keys: Table = {"to": to, "full": "lost" if args.lost else "stay"} if to else {}
@@ -220,7 +215,7 @@ def overflow(args: argparse.Namespace) -> Made:
     names = numbered("group", len(lines))
     for name, count in zip(names, lines):
         made.net.queue(name, count, count)
-    add_arrival(made, "call", args.arrival, *names)
+    made.net.event("call", "arrival", args.arrival, to=[*names])
     for name in names:
         made.net.event(f"{name}-end", "service", args.service, source=name)
     add_full(made, "first-full", names[0], lines[0])
@@ -282,10 +277,10 @@ def breakdowns(args: argparse.Namespace) -> Made:
     )
     made.net.queue("jobs", args.places)
     made.net.queue("broken", 1)
-    add_arrival(made, "come", args.arrival, "jobs")
+    made.net.event("come", "arrival", args.arrival, to=["jobs"])
     part = [{"queue": "broken", "most": 0}, {"queue": "jobs", "least": 1, "shift": -1}]
     made.net.event("serve", "guarded", args.service, part=part)
-    add_arrival(made, "break", args.breaks, "broken")
+    made.net.event("break", "arrival", args.breaks, to=["broken"])
     made.net.event("repair", "service", args.repair, source="broken")
     add_full(made, "full", "jobs", args.places)
     return made
@@ -293,7 +288,7 @@ def breakdowns(args: argparse.Namespace) -> Made:
 
 def priority(args: argparse.Namespace) -> Made:
     """preemptive priority"""
-    arrivals, services = pair_of(args.arrival, "--arrival"), pair_of(args.service, "--service")
+    arrivals, services = as_many(args.arrival, 2, "--arrival"), as_many(args.service, 2, "--service")
     places = as_many(args.places, 2, "--places")
     made = Made(
         "One server of two classes, the first of which goes before the second at any time (preemptive priority). "
@@ -302,7 +297,7 @@ def priority(args: argparse.Namespace) -> Made:
     )
     add_queues(made, ("first", "second"), places)
     for name, rate in zip(("first", "second"), arrivals):
-        add_arrival(made, f"{name}-comes", rate, name)
+        made.net.event(f"{name}-comes", "arrival", rate, to=[name])
     made.net.event("serve-first", "service", services[0], source="first")
     part = [{"queue": "first", "most": 0}, {"queue": "second", "least": 1, "shift": -1}]
     made.net.event("serve-second", "guarded", services[1], part=part)
@@ -341,7 +336,7 @@ def erlang_service(args: argparse.Namespace) -> Made:
     )
     made.net.queue("jobs", args.places)
     made.net.queue("phase", phases - 1)
-    add_arrival(made, "come", args.arrival, "jobs")
+    made.net.event("come", "arrival", args.arrival, to=["jobs"])
     rate = args.service * phases
     part: list[Table] = [{"queue": "jobs", "least": 1}, {"queue": "phase", "most": phases - 2, "shift": 1}]
     made.net.event("next-phase", "guarded", rate, part=part)
@@ -354,7 +349,7 @@ def erlang_service(args: argparse.Namespace) -> Made:
 
 def hyperexponential(args: argparse.Namespace) -> Made:
     """M/H_2/1/K"""
-    quick, slow = pair_of(args.service, "--service")
+    quick, slow = as_many(args.service, 2, "--service")
     share = args.quick
     made = Made(
         f"A server whose service is quick, of rate {quick}, with probability {share}, and slow, of "
@@ -364,7 +359,7 @@ def hyperexponential(args: argparse.Namespace) -> Made:
     )
     made.net.queue("jobs", args.places)
     made.net.queue("slow", 1)
-    add_arrival(made, "come", args.arrival, "jobs")
+    made.net.event("come", "arrival", args.arrival, to=["jobs"])
     ends = {"quick": ({"most": 0}, quick), "slow": ({"least": 1}, slow)}
     for kind, (guard, rate) in ends.items():
         for after, part_of, number in (("quick", share, 0), ("slow", 1 - share, 1)):
@@ -378,14 +373,14 @@ def hyperexponential(args: argparse.Namespace) -> Made:
 
 def rework(args: argparse.Namespace) -> Made:
     """two stages with rework"""
-    rates, places = pair_of(args.service, "--service"), as_many(args.places, 2, "--places")
+    rates, places = as_many(args.service, 2, "--service"), as_many(args.places, 2, "--places")
     made = Made(
         f"Parts that come at rate {args.arrival} to work, of rate {rates[0]}, and go on to a test, of rate "
         f"{rates[1]}, from which each goes back to work with probability {args.again}; {listed(places)} places. Who "
         "finds no room stays where it is. The rewards: the parts in all, and whether work is full."
     )
     add_queues(made, ("work", "test"), places)
-    add_arrival(made, "come", args.arrival, "work")
+    made.net.event("come", "arrival", args.arrival, to=["work"])
     made.net.event("worked", "service", rates[0], source="work", to=["test"], full="stay")
     made.net.event("good", "service", rates[1] * (1 - args.again), source="test")
     again = rates[1] * args.again
@@ -402,11 +397,6 @@ def as_many(values: list[Value], count: int, option: str) -> list[Value]:
     if len(values) != count:
         raise PsiError(f"{option} has one value, or {count}")
     return values
-
-
-def pair_of(values: list[Value], option: str) -> list[Value]:
-    """The two values that an option has; one stands for both."""
-    return as_many(values, 2, option)
 
 
 def listed(values: Iterable[object]) -> str:

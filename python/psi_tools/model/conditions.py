@@ -144,14 +144,10 @@ def check_depth(depth: int) -> None:
 
 
 def refuse(node: ast.expr) -> NoReturn:
-    """Refuses a part of another form."""
-    raise PsiError(f"the condition has `{printable(shown(node))}` where it can't stand: {FORM}")
-
-
-def shown(node: ast.expr) -> str:
-    """The text of a part, cut where it is long."""
+    """Refuses a part of another form; its text is cut where it is long."""
     try:
         text = ast.unparse(node)
     except (RecursionError, ValueError):
         text = type(node).__name__
-    return text if len(text) <= 60 else text[:60] + ".."
+    shown = printable(text if len(text) <= 60 else text[:60] + "..")
+    raise PsiError(f"the condition has `{shown}` where it can't stand: {FORM}")

@@ -10,20 +10,22 @@ from typing import Any
 
 from psi_tools.errors import PsiError
 from psi_tools.model.networks import MOST_EVENTS, MOST_RATE, MOST_TOTAL, Network
+from psi_tools.model.refusals import RANGES
 
 # What differs: the name of a table and one of its keys, with the values.
 Key = tuple[str, str]
 Keys = dict[Key, list[Decimal]]
 
 # What may differ: in which table it stands, and the least and the greatest value.
-KEYS = {
-    "rate": ("event", 1, MOST_RATE),
-    "capacity": ("queue", 1, 65_535),
-    "servers": ("queue", 1, 64),
-    "size": ("event", 1, 65_535),
-    "amount": ("event", 1, 65_535),
-    "level": ("reward", 0, 65_535),
+TABLES = {
+    "rate": "event",
+    "capacity": "queue",
+    "servers": "queue",
+    "size": "event",
+    "amount": "event",
+    "level": "reward",
 }
+KEYS = {key: (table, *RANGES[key]) for key, table in TABLES.items()}
 # What may differ in a part of a guarded event, with the least and the greatest value: the name is
 # the event's and the queue's, with a point between.
 PARTS = {key: ("part", 0, 65_535) for key in ("least", "most", "floor", "ceiling")}
@@ -229,7 +231,7 @@ def aligned(designs: list[Design]) -> tuple[list[Design], str | None]:
     why = None
     if sum(slots.values()) > MOST_TOTAL:
         why = f"the rates of all designs together would add up to more than {MOST_TOTAL:,}"
-    if any(count_of(net) > MOST_EVENTS for net in padded):
+    if any(sum(map(net.servers_of, net.table["event"])) > MOST_EVENTS for net in padded):
         why = f"with idle events there would be more than {MOST_EVENTS:,} events"
     if why:
         return designs, why
@@ -272,8 +274,3 @@ def with_idle(net: Network, names: list[str], slots: dict[str, int]) -> Network:
     made.table = {**net.table, "event": events}
     made.heads = {**net.heads, "version": 2}
     return made
-
-
-def count_of(net: Network) -> int:
-    """How many events a network has, counted over servers."""
-    return sum(net.servers_of(event) for event in net.table["event"])

@@ -2,10 +2,14 @@
 
 The rules of the guide's kinds, as far as they determine what may happen to a queue at some number of
 customers whatever the other queues hold. Nothing is sampled here.
+
+Of a small network the closed classes are found exactly: sets of states that no event leaves. Two of them are states
+that never meet, whatever the random words are.
 """
 
 import collections
 import dataclasses
+import itertools
 import math
 from collections.abc import Callable
 from fractions import Fraction
@@ -14,12 +18,15 @@ from typing import Any
 import numpy
 
 from psi_tools.model.networks import Network, Table
-from psi_tools.stats.kernel import kernel
+from psi_tools.stats.mean_values import kernel
 
 # By how much an event changes each queue, by its place; numbers before and after; rates from queue to queue.
 Change = dict[int, int]
 Steps = tuple[Any, Any]
 Routes = dict[tuple[int, int], float]
+State = tuple[int, ...]
+# The most states that are followed, and the most steps from them.
+MOST_STATES, MOST_STEPS = 20_000, 400_000
 
 
 def names_in(value: Any) -> list[str]:
@@ -245,3 +252,30 @@ def flows_of(moves: Moves, event: Table, outer: list[float], served: list[float]
             routes[sources[0], place] = routes.get((sources[0], place), 0.0) + rate * many
         else:
             outer[place] += rate * many
+
+
+def closed_classes(net: Network) -> list[list[State]] | None:
+    """The closed classes of the states of a network, each of which is followed through each event by itself: the
+    strongly connected parts of this graph that no edge leaves. None where there are too many states."""
+    many = math.prod(capacity + 1 for capacity in net.capacities)
+    events = net.followed().events
+    if many > MOST_STATES or many * len(events) > MOST_STEPS:
+        return None
+    states = [*itertools.product(*(range(capacity + 1) for capacity in net.capacities))]
+    place = {state: number for number, state in enumerate(states)}
+    begins = numpy.repeat(numpy.arange(many), len(events))
+    ends = numpy.array([place[tuple(event.after(x))] for x in states for event in events])
+    return [[states[number] for number in part] for part in closed_parts(begins, ends, many)]
+
+
+def describe_classes(net: Network) -> list[str]:
+    """The line on a network with several closed classes, which never couples."""
+    found = closed_classes(net)
+    if found is None or len(found) < 2:
+        return []
+    shown = " and of ".join(",".join(map(str, states[0])) for states in found[:2])
+    more = " .." if len(found) > 2 else ""
+    return [
+        f"the states have {len(found)} classes that no event leaves, as those of {shown}{more}: "
+        "states in different ones never meet"
+    ]

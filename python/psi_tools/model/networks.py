@@ -13,6 +13,7 @@ from psi_tools.io.files import Path, read_file
 if TYPE_CHECKING:
     from fractions import Fraction
 
+    from psi_tools import check_log
     from psi_tools.draw.program import Program
 
 # A table of a network file.
@@ -288,6 +289,12 @@ class Network:
             source = next(queue for queue in self.table["queue"] if queue["name"] == event["from"])
             return int(source.get("servers", 1))
         return 1
+
+    def followed(self) -> "check_log.Network":
+        """The network as the plain checker of logs follows it."""
+        from psi_tools import check_log
+
+        return check_log.Network({"version": 2, **self.heads, **self.table})
 
     def version(self) -> int:
         """The version in the file, or else the least that allows what stands in it."""

@@ -3,7 +3,7 @@
 from __future__ import annotations
 
 import math
-from typing import Any
+from typing import Any, NamedTuple
 
 import matplotlib.font_manager
 import matplotlib.lines
@@ -11,41 +11,32 @@ import matplotlib.patches
 import matplotlib.path
 
 from psi_tools.plot import style
-from psi_tools.plot.network_folding import folded
-from psi_tools.plot.network_layout import Curve, Point, laid_out, size_of
-from psi_tools.plot.network_scene import Arrow, NetworkPicture, Node, QueueBox, Scene, SceneArrow, SceneNode, scene_of
+from psi_tools.plot.network_layout import Curve, Point, folded, laid_out, size_of
+from psi_tools.plot.network_scene import Arrow, NetworkPicture, Node, Scene, SceneArrow, SceneNode, scene_of
 
 # The most places of a waiting line, and the most servers, that are drawn one by one.
 MOST_PLACES, MOST_SERVERS = 6, 3
 INK, DARK_GREY, LIGHT, PAPER = "#222222", "#444444", "#888888", "#FFFFFF"
-COLOURS = {
-    Arrow.MOVE: INK,
-    Arrow.OVERFLOW: style.BLUE,
-    Arrow.LOSS: style.VERMILION,
-    Arrow.NEGATIVE: style.PURPLE,
-    Arrow.GUARDED: style.GREEN,
-    Arrow.READ: LIGHT,
+
+
+class Line(NamedTuple):
+    """How arrows of a kind are drawn, what they mean, and the colour of texts at them where their own is too pale."""
+
+    colour: str
+    dashes: object
+    meaning: str
+    text: str | None = None
+    width: float = 0.9
+
+
+LINES = {
+    Arrow.MOVE: Line(INK, "-", "where customers go, or go first", width=1.5),
+    Arrow.OVERFLOW: Line(style.BLUE, (0, (4, 2)), "overflow, by its number, where all earlier choices are full"),
+    Arrow.LOSS: Line(style.VERMILION, "-", "lost: customers who find no free place"),
+    Arrow.NEGATIVE: Line(style.PURPLE, (0, (2, 1.5)), "a signal removes customers", "#8A3B66"),
+    Arrow.GUARDED: Line(style.GREEN, (0, (1, 1)), "a guarded event changes the number", "#00664A"),
+    Arrow.READ: Line(LIGHT, (0, (1, 2)), "a guarded event reads the number"),
 }
-DASHES = {
-    Arrow.MOVE: "-",
-    Arrow.OVERFLOW: (0, (4, 2)),
-    Arrow.LOSS: "-",
-    Arrow.NEGATIVE: (0, (2, 1.5)),
-    Arrow.GUARDED: (0, (1, 1)),
-    Arrow.READ: (0, (1, 2)),
-}
-# How wide arrows are whose lines are not thin.
-WIDTHS = {Arrow.MOVE: 1.5}
-MEANINGS = {
-    Arrow.MOVE: "where customers go, or go first",
-    Arrow.OVERFLOW: "overflow, by its number, where all earlier choices are full",
-    Arrow.LOSS: "lost: customers who find no free place",
-    Arrow.NEGATIVE: "a signal removes customers",
-    Arrow.GUARDED: "a guarded event changes the number",
-    Arrow.READ: "a guarded event reads the number",
-}
-# The colours of texts at arrows where the arrow's own is too pale for letters.
-TEXTS = {Arrow.NEGATIVE: "#8A3B66", Arrow.GUARDED: "#00664A"}
 EDGE, TITLE_HEIGHT, LEGEND_LINE = 0.18, 0.42, 0.18
 # The size and the most letters of a line of the legend, and where its text begins after a piece of an arrow.
 NOTE_SIZE, MOST_LETTERS, AFTER_SAMPLE = 8, 120, 0.38
@@ -92,14 +83,14 @@ def draw_network(picture: NetworkPicture, title: str = "") -> Any:
 
 def draw_arrow(axes: Any, arrow: SceneArrow, curve: Curve, gid: str) -> None:
     """An arrow along its spline, with its label, and with a bar at its source where it blocks."""
-    colour, points = COLOURS[arrow.kind], [*curve.points]
+    line, points = LINES[arrow.kind], [*curve.points]
     codes = [matplotlib.path.Path.MOVETO] + [matplotlib.path.Path.CURVE4] * (len(points) - 1)
-    drawn = {"ec": colour, "lw": WIDTHS.get(arrow.kind, 0.9), "ls": DASHES[arrow.kind], "gid": gid}
+    drawn = {"ec": line.colour, "lw": line.width, "ls": line.dashes, "gid": gid}
     shaft = matplotlib.path.Path(points, codes)
     axes.add_patch(matplotlib.patches.PathPatch(shaft, fill=False, zorder=1, **drawn))
     if arrow.kind is not Arrow.READ:
         corners = [curve.tip, *bar_across(points[-1], curve.tip, 0, 0.035)]
-        head = matplotlib.patches.Polygon(corners, fc=colour, ec=colour, lw=0.5, zorder=2, gid=f"{gid}-head")
+        head = matplotlib.patches.Polygon(corners, fc=line.colour, ec=line.colour, lw=0.5, zorder=2, gid=f"{gid}-head")
         axes.add_patch(head)
     # A short double bar: the source is blocked where the target is full.
     for far in (0.05, 0.09) if arrow.blocks else ():
@@ -108,7 +99,7 @@ def draw_arrow(axes: Any, arrow: SceneArrow, curve: Curve, gid: str) -> None:
     if curve.label:
         box = {"fc": PAPER, "ec": "none", "pad": 0}
         above = (curve.label[0], curve.label[1] + 0.02)
-        put_text(axes, above, arrow.label, 8, TEXTS.get(arrow.kind, colour), bbox=box)
+        put_text(axes, above, arrow.label, 8, line.text or line.colour, bbox=box)
 
 
 def bar_across(begin: Point, end: Point, far: float, half: float) -> list[Point]:
@@ -124,26 +115,25 @@ def draw_queue(axes: Any, node: SceneNode, centre: Point) -> None:
     """A waiting line with its places, then its servers; the name above, the numbers below."""
     queue = node.queue
     assert queue is not None
+    servers, capacity = queue.get("servers", 1), queue["capacity"]
     left, low = centre[0] - 0.68, centre[1] - 0.15
-    server_room = 0.36 if queue.is_served else 0.0
-    draw_line(axes, queue, node.key, (left, low), 1.36 - server_room)
-    if queue.is_served:
-        draw_servers(axes, queue, node.key, (left + 1.36 - server_room / 2, centre[1]))
-    name, size = style.fitted(queue.name, 98, 9)
+    server_room = 0.36 if node.is_served else 0.0
+    draw_line(axes, node.key, (left, low), 1.36 - server_room, capacity - servers * node.is_served)
+    if node.is_served:
+        draw_servers(axes, node.key, (left + 1.36 - server_room / 2, centre[1]), servers)
+    name, size = style.fitted(queue["name"], 98, 9)
     put_text(axes, (centre[0], centre[1] + 0.28), name, size, weight="bold")
-    servers = f", {queue.servers} servers" if queue.servers > 1 else ""
-    numbers, size = style.fitted(f"capacity {queue.capacity}{servers}", 98, 7.5)
+    numbers, size = style.fitted(f"capacity {capacity}" + f", {servers} servers" * (servers > 1), 98, 7.5)
     put_text(axes, (centre[0], centre[1] - 0.31), numbers, size, DARK_GREY)
 
 
-def draw_line(axes: Any, queue: QueueBox, key: str, corner: Point, width: float) -> None:
-    """The waiting line: open where customers come, closed at the servers, with places while there are few."""
+def draw_line(axes: Any, key: str, corner: Point, width: float, waiting: int) -> None:
+    """The waiting line: open where customers come, closed at the servers, with its places while there are few."""
     (left, low), high = corner, corner[1] + 0.3
     floor = matplotlib.patches.Rectangle(corner, width, 0.3, fc="#EEF3F8", ec="none", zorder=3, gid=f"queue-{key}")
     axes.add_patch(floor)
     right = left + width
     put_line(axes, [(left, high), (right, high), (right, low), (left, low)], INK, 1.1, zorder=4)
-    waiting = queue.capacity - (queue.servers if queue.is_served else 0)
     places = min(waiting, MOST_PLACES)
     cell = width / (MOST_PLACES + 1)
     for place in range(1, places + 1):
@@ -152,17 +142,17 @@ def draw_line(axes: Any, queue: QueueBox, key: str, corner: Point, width: float)
         put_text(axes, (left + cell / 2, low + 0.15), "…", 7)
 
 
-def draw_servers(axes: Any, queue: QueueBox, key: str, centre: Point) -> None:
+def draw_servers(axes: Any, key: str, centre: Point, servers: int) -> None:
     """A circle for each server while they are few, else one with their number."""
-    few = queue.servers <= MOST_SERVERS
-    count = queue.servers if few else 1
+    few = servers <= MOST_SERVERS
+    count = servers if few else 1
     radius = {1: 0.16, 2: 0.1, 3: 0.07}[count]
     for place in range(count):
         up = centre[1] + ((count - 1) / 2 - place) * 2.2 * radius
         drawn = {"fc": PAPER, "ec": INK, "lw": 1.1, "zorder": 4, "gid": f"server-{key}-{place}"}
         axes.add_patch(matplotlib.patches.Circle((centre[0], up), radius, **drawn))
     if not few:
-        put_text(axes, centre, f"×{queue.servers}", 7 if queue.servers < 100 else 5.5)
+        put_text(axes, centre, f"×{servers}", 7 if servers < 100 else 5.5)
 
 
 def draw_point(axes: Any, node: SceneNode, centre: Point) -> None:
@@ -222,7 +212,7 @@ def notes_of(picture: NetworkPicture, scene: Scene) -> list[Note]:
     notes: list[Note] = []
     if picture.with_legend:
         kinds = {arrow.kind for arrow in scene.arrows}
-        notes += [(kind, text) for kind, text in MEANINGS.items() if kind in kinds]
+        notes += [(kind, line.meaning) for kind, line in LINES.items() if kind in kinds]
         if any(arrow.blocks for arrow in scene.arrows):
             notes.append((None, "‖ at the start of an arrow: its server is blocked while the target is full"))
         notes.append((None, "the number after a name is its rate, of one server where there are several"))
@@ -253,6 +243,6 @@ def draw_note(axes: Any, place: Point, note: Note) -> None:
     kind, text = note
     if kind is not None:
         ends = [place, (place[0] + 0.3, place[1])]
-        put_line(axes, ends, COLOURS[kind], WIDTHS.get(kind, 0.9), ls=DASHES[kind])
+        put_line(axes, ends, LINES[kind].colour, LINES[kind].width, ls=LINES[kind].dashes)
     begin = place[0] + AFTER_SAMPLE * (kind is not None), place[1]
     style.put(axes, begin, style.printable(text, MOST_LETTERS), NOTE_SIZE, INK, va="center")

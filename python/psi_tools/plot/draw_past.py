@@ -28,7 +28,8 @@ def draw_past(picture: tuple[Past, int | None], title: str) -> Any:
     rows, longest = len(past.runs), past.runs[-1].horizon
     named = NAMES_HEIGHT if longest <= MOST_NAMED else 0.0
     height = HEAD_HEIGHT + rows * ROW_HEIGHT + FOOT_HEIGHT + named
-    figure = style.new_figure(height, title or heading(past))
+    usual = "The wrong way: new random words for each run" if past.has_new_words else "Coupling from the past"
+    figure = style.new_figure(height, title or usual)
     figure.set_layout_engine("none")
     top, low = 1 - HEAD_HEIGHT / height, (FOOT_HEIGHT + named) / height
     grid = figure.add_gridspec(rows, 1, top=top, bottom=low, hspace=0.28, **MARGINS)
@@ -42,11 +43,6 @@ def draw_past(picture: tuple[Past, int | None], title: str) -> Any:
     pad = 4 + 72 * 0.55 * bool(named and not past.has_new_words)
     axes.set_xlabel("time in steps; the sample is the state at time 0", labelpad=pad)
     return figure
-
-
-def heading(past: Past) -> str:
-    """The title where none is given."""
-    return "The wrong way: new random words for each run" if past.has_new_words else "Coupling from the past"
 
 
 def about(past: Past, queue: int | None) -> str:

@@ -5,7 +5,7 @@ from __future__ import annotations
 from typing import Any
 
 from psi_tools.plot import style
-from psi_tools.plot.path import StationaryPath
+from psi_tools.plot.past import StationaryPath
 
 ROW_HEIGHT, HEAD_HEIGHT, FOOT_HEIGHT = 0.95, 0.85, 0.5
 MARGINS = {"left": 0.09, "right": 0.83}

@@ -6,8 +6,9 @@ from typing import Any
 import matplotlib.patches
 import matplotlib.ticker
 
+from psi_tools.io.tables import Record
 from psi_tools.plot import style
-from psi_tools.plot.report import Report, Spread
+from psi_tools.plot.report import Report
 
 Named = Sequence[tuple[str, Report]]
 
@@ -24,17 +25,17 @@ class Rows:
     """The queues, or the rewards, of all reports: for each name the reports that have it, each by
     its place with its spread. Queues stand on one axis, and each reward on its own."""
 
-    def __init__(self, lists: list[list[Spread]], is_queues: bool) -> None:
+    def __init__(self, lists: list[list[Record]], is_queues: bool) -> None:
         self.is_queues = is_queues
-        self.rows: dict[str, list[tuple[int, Spread]]] = {}
+        self.rows: dict[str, list[tuple[int, Record]]] = {}
         for place, spreads in enumerate(lists):
             for spread in spreads:
-                self.rows.setdefault(spread.name, []).append((place, spread))
+                self.rows.setdefault(spread["name"], []).append((place, spread))
         self.greatest = max((max(self.ends(name)) for name in self.rows), default=1) or 1
 
     def ends(self, name: str) -> list[int]:
         """The extremes of a row."""
-        ends = [end for _, spread in self.rows[name] for end in (spread.least, spread.greatest)]
+        ends = [end for _, spread in self.rows[name] for end in (spread["least"], spread["greatest"])]
         return [end for end in ends if end is not None] or [0]
 
     def parts(self) -> list[list[str]]:
@@ -164,28 +165,21 @@ def label_rows(axes: Any, rows: Rows) -> None:
         axes.set_xlabel("each from its least to its greatest value")
 
 
-def draw_spread(axes: Any, k: int, spread: Spread, y: float, place: Callable[[float], float]) -> None:
-    """The line, the mark and the numbers of a queue or reward of a report."""
-    if spread.least is None or spread.greatest is None or spread.mean is None:
+def draw_spread(axes: Any, k: int, spread: Record, y: float, place: Callable[[float], float]) -> None:
+    """The line, the mark and the numbers of a queue or reward of a report, and a box over the interval of the mean."""
+    least, greatest, mean, low, high = (spread[key] for key in ("least", "greatest", "mean", "low", "high"))
+    if least is None or mean is None:
         put(axes, 1.015, y, "no sample is met", "left", 6.5)
         return
-    ends = [place(spread.least), place(spread.greatest)]
-    drawn, name = {"color": COLOURS[k], "ms": 5}, f"{k}-{spread.name}"
+    drawn, name, half = {"color": COLOURS[k], "ms": 5}, f"{k}-{spread['name']}", ""
+    ends = [place(least), place(greatest)]
     axes.plot(ends, [y, y], lw=1.6, marker="|", solid_capstyle="butt", gid=f"spread-{name}", **drawn)
-    axes.plot([place(spread.mean)], [y], MARKS[k], mec="white", mew=0.5, zorder=4, gid=f"mean-{name}", **drawn)
-    half = draw_interval(axes, k, spread, y, place)
-    text = f"{style.whole(spread.least)} to {style.whole(spread.greatest)}"
-    put(axes, 1.015, y, f"{style.mean(spread.mean)}{half} ({text})", "left", 6.5)
-
-
-def draw_interval(axes: Any, k: int, spread: Spread, y: float, place: Callable[[float], float]) -> str:
-    """A box over the interval of the mean, where there is one, and half of it as text."""
-    if spread.interval is None:
-        return ""
-    low, high = spread.interval
-    ends, gid = [place(low), place(high)], f"interval-{k}-{spread.name}"
-    axes.plot(ends, [y, y], color=COLOURS[k], lw=5, alpha=0.45, solid_capstyle="butt", gid=gid)
-    return f" ± {(high - low) / 2:.2g}"
+    axes.plot([place(mean)], [y], MARKS[k], mec="white", mew=0.5, zorder=4, gid=f"mean-{name}", **drawn)
+    if low is not None:
+        ends, half = [place(low), place(high)], f" ± {(high - low) / 2:.2g}"
+        axes.plot(ends, [y, y], color=COLOURS[k], lw=5, alpha=0.45, solid_capstyle="butt", gid=f"interval-{name}")
+    text = f"{style.whole(least)} to {style.whole(greatest)}"
+    put(axes, 1.015, y, f"{style.mean(mean)}{half} ({text})", "left", 6.5)
 
 
 def put(axes: Any, x: float, y: float, text: str, side: str, size: float, va: str = "center") -> None:

@@ -16,7 +16,8 @@ def draw_sweep(
     """The figure of some designs, of at most twelve queues and rewards."""
     count = len(labels)
     groups = [records[k : k + count] for k in range(0, len(records), count)][:MOST_ROWS]
-    figure = style.new_figure(0.9 + 1.7 * len(groups), title_of(columns, labels, base))
+    title = f"Designs by {' and '.join(columns)}; differences to {labels[base].replace(' ', ', ')}"
+    figure = style.new_figure(0.9 + 1.7 * len(groups), title)
     places, ticks, name = axis_of(columns, groups[0])
     panels = figure.subplots(len(groups), 2, squeeze=False, sharex="col")
     for group, (left, right) in zip(groups, panels):
@@ -35,12 +36,6 @@ def draw_sweep(
         note = style.printable(notes[0], 150)
         figure.text(0.01, 0.005, note, color=style.VERMILION, fontsize=6.5)
     return figure
-
-
-def title_of(columns: list[str], labels: list[str], base: int) -> str:
-    """What stands above: what differs, and from what the differences are."""
-    names = " and ".join(columns)
-    return f"Designs by {names}; differences to {labels[base].replace(' ', ', ')}"
 
 
 def axis_of(columns: list[str], group: list[Record]) -> tuple[list[float], list[str], str]:

@@ -14,8 +14,7 @@ import numpy
 from psi_tools.arguments import NUMBER
 from psi_tools.draw.program import Program
 from psi_tools.errors import require
-from psi_tools.model.moves import rule_of
-from psi_tools.model.networks import Network, Table, checked
+from psi_tools.model.networks import Network, checked
 
 # An array; and the share of the random words that choose an event, with what it makes of each number.
 Numbers = numpy.ndarray[Any, Any]
@@ -48,29 +47,15 @@ def maps_of(net: Network) -> list[Map]:
     require(len(net.queues) == 1, "forward takes a network of one queue")
     [capacity] = net.capacities
     require(capacity <= MOST_PLACES, f"forward takes a queue of a capacity of at most {MOST_PLACES}")
-    numbers, found = numpy.arange(capacity + 1), []
     for event in net.table["event"]:
         require(
             event["kind"] in KINDS and not (event["kind"] == "service" and event.get("to")),
             f"forward has no event such as {event['name']}; it has {', '.join(KINDS)}",
         )
-        for server in range(1, net.servers_of(event) + 1):
-            found.append((event["rate"], map_of(event, capacity, numbers, server)))
-    total = sum(rate for rate, _ in found)
-    modulus = 1 << (total - 1).bit_length()
-    found.append((modulus - total, numbers))
-    return [(rate / modulus, after) for rate, after in found]
-
-
-def map_of(event: Table, capacity: int, numbers: Numbers, server: int) -> Numbers:
-    """What an event makes of each number of customers; of a service it is that of this server."""
-    if event["kind"] == "arrival":
-        return numpy.minimum(numbers + 1, capacity)
-    if event["kind"] == "service":
-        return numpy.where(numbers >= server, numbers - 1, numbers)
-    [part] = event["part"]
-    least, most, after = rule_of(part, capacity)
-    return numpy.array([after(number) if least <= number <= most else number for number in numbers])
+    plain = net.followed()
+    rates = numpy.diff([0, *plain.totals, plain.modulus])
+    maps = (numpy.array([event.after((number,))[0] for number in range(capacity + 1)]) for event in plain.events)
+    return [*zip(rates / plain.modulus, maps)]
 
 
 def matrix_of(maps: list[Map], count: int) -> Numbers:

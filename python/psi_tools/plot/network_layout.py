@@ -1,9 +1,12 @@
-"""Where the nodes and arrows of a network's picture stand: graphviz's `dot` finds the places."""
+"""Where the nodes and arrows of a network's picture stand: graphviz's `dot` finds the places, and a wide layout is
+folded into rows, as a long line of queues is folded on a page."""
 
 from __future__ import annotations
 
+import bisect
 import dataclasses
 import json
+import math
 import subprocess
 from typing import Any
 
@@ -55,22 +58,11 @@ def size_of(node: SceneNode) -> Point:
     return longest * LETTER_WIDTH + MARGIN, len(node.lines) * LINE_HEIGHT + MARGIN
 
 
-def quoted(text: str) -> str:
-    """A text as a quoted string of dot's language."""
-    return '"' + text.replace("\\", "\\\\").replace('"', '\\"') + '"'
-
-
-def node_line(node: SceneNode) -> str:
-    """A node in dot's language: its size alone."""
-    width, height = size_of(node)
-    return f"{node.key} [width={width:.3f}, height={height:.3f}];"
-
-
 def arrow_line(number: int, arrow: SceneArrow) -> str:
     """An arrow in dot's language: what is lost stays below its source, and signals bend before routes do."""
     weight, least = (1, 0) if arrow.kind is Arrow.LOSS else (1, 1) if arrow.kind in LIGHT else (4, 1)
-    words = [f"id={number}", f"label={quoted(arrow.label)}", f"weight={weight}", f"minlen={least}"]
-    return f"{arrow.tail} -> {arrow.head} [{', '.join(words)}];"
+    label = json.dumps(arrow.label, ensure_ascii=False)
+    return f"{arrow.tail} -> {arrow.head} [id={number}, label={label}, weight={weight}, minlen={least}];"
 
 
 def dot_of(scene: Scene) -> str:
@@ -80,7 +72,8 @@ def dot_of(scene: Scene) -> str:
         'node [shape=box, fixedsize=true, label=""];',
         f'edge [fontname="DejaVu Sans", fontsize={FONT_SIZE}, arrowsize=0.6];',
     ]
-    lines += map(node_line, scene.nodes)
+    sizes = [(node.key, *size_of(node)) for node in scene.nodes]
+    lines += [f"{key} [width={width:.3f}, height={height:.3f}];" for key, width, height in sizes]
     lines += [arrow_line(number, arrow) for number, arrow in enumerate(scene.arrows)]
     return "\n".join([*lines, "}"])
 
@@ -110,7 +103,7 @@ def layout_of(found: dict[str, Any], scene: Scene) -> Layout:
     queues = {node.key: node.queue for node in scene.nodes if node.queue}
     for number, arrow in enumerate(scene.arrows):
         if arrow.kind is Arrow.LOSS and arrow.tail in queues:
-            has_one = queues[arrow.tail].servers == 1
+            has_one = queues[arrow.tail].get("servers", 1) == 1
             begin = (centres[arrow.tail][0] + TO_SERVERS, centres[arrow.tail][1] - BELOW_SERVER) if has_one else None
             centres[arrow.head], ordered[number] = below_servers(centres[arrow.head], ordered[number], begin)
     return Layout((width / POINTS_AN_INCH, height / POINTS_AN_INCH), centres, ordered)
@@ -139,3 +132,94 @@ def curve_of(edge: dict[str, Any]) -> Curve:
     points = tuple(point_of(piece) for piece in pieces if piece[0] not in "se")
     label = point_of(edge["lp"]) if edge.get("label") and "lp" in edge else None
     return Curve(points, tip or points[-1], label)
+
+
+# From this width on, in inches, a layout is folded where it is more than this many times as wide as it is high.
+WIDEST, SHAPE = 11.0, 3.0
+# The shape that rows together should have, the room between them, and how far an arrow to another row reaches out.
+WANTED_SHAPE, GAP, REACH = 1.9, 0.4, 0.4
+# How far above such an arrow its label stands.
+ABOVE = 0.06
+
+
+def folded(layout: Layout, scene: Scene) -> Layout:
+    """The layout in rows where it is wide, else itself."""
+    width, height = layout.size
+    if width <= WIDEST or width <= SHAPE * height:
+        return layout
+    rows = max(2, round(math.sqrt(width / (WANTED_SHAPE * (height + GAP)))))
+    cuts = cuts_of(layout, scene, rows)
+    return Folding(layout, scene, cuts).folded() if cuts else layout
+
+
+def cuts_of(layout: Layout, scene: Scene, rows: int) -> list[float]:
+    """Where to cut: of the places that no node covers, those nearest to even parts of the width."""
+    covered = sorted(
+        (layout.centres[node.key][0] - size_of(node)[0] / 2, layout.centres[node.key][0] + size_of(node)[0] / 2)
+        for node in scene.nodes
+    )
+    free, end = [], covered[0][1]
+    for low, high in covered[1:]:
+        if low > end:
+            free.append((low + end) / 2)
+        end = max(end, high)
+    wanted = [layout.size[0] * row / rows for row in range(1, rows)]
+    return sorted({min(free, key=lambda place: abs(place - each)) for each in wanted}) if free else []
+
+
+class Folding:
+    """A layout that is cut into rows at some places."""
+
+    def __init__(self, layout: Layout, scene: Scene, cuts: list[float]) -> None:
+        self.layout, self.scene, self.cuts = layout, scene, cuts
+        self.starts = [0.0, *cuts]
+        ends = [*cuts, layout.size[0]]
+        self.width = max(end - start for start, end in zip(self.starts, ends)) + 2 * REACH
+        self.row_height = layout.size[1] + GAP
+        self.widths = {node.key: size_of(node)[0] for node in scene.nodes}
+
+    def row_of(self, across: float) -> int:
+        """The row of a place."""
+        return bisect.bisect_right(self.cuts, across)
+
+    def moved(self, point: Point, row: int) -> Point:
+        """A point of a row, where that row stands."""
+        up = (len(self.starts) - 1 - row) * self.row_height
+        return point[0] - self.starts[row] + REACH, point[1] + up
+
+    def folded(self) -> Layout:
+        """The layout in rows."""
+        centres = {key: self.moved(point, self.row_of(point[0])) for key, point in self.layout.centres.items()}
+        curves = [self.curve(arrow, curve, centres) for arrow, curve in zip(self.scene.arrows, self.layout.curves)]
+        height = self.row_height * len(self.starts) - GAP
+        return Layout((self.width, height), centres, curves)
+
+    def curve(self, arrow: SceneArrow, curve: Curve, centres: dict[str, Point]) -> Curve:
+        """An arrow's way: the same within a row, and a new one from row to row."""
+        rows = {self.row_of(self.layout.centres[key][0]) for key in (arrow.tail, arrow.head)}
+        if len(rows) > 1:
+            return self.way_between(arrow, curve, centres)
+        row = rows.pop()
+        label = curve.label and self.moved(curve.label, row)
+        return Curve(tuple(self.moved(point, row) for point in curve.points), self.moved(curve.tip, row), label)
+
+    def way_between(self, arrow: SceneArrow, curve: Curve, centres: dict[str, Point]) -> Curve:
+        """A way from the right of a node to the left of one in another row, through the room between rows."""
+        tail, head = centres[arrow.tail], centres[arrow.head]
+        begin = (tail[0] + self.widths[arrow.tail] / 2, tail[1])
+        tip = (head[0] - self.widths[arrow.head] / 2, head[1])
+        end, middle = (tip[0] - 0.08, tip[1]), (tail[1] + head[1]) / 2
+        points = (
+            begin,
+            (begin[0] + REACH, begin[1]),
+            (begin[0] + REACH, middle),
+            (begin[0], middle),
+            (begin[0], middle),
+            (end[0], middle),
+            (end[0], middle),
+            (end[0] - REACH, middle),
+            (end[0] - REACH, end[1]),
+            end,
+        )
+        label = ((begin[0] + end[0]) / 2, middle + ABOVE) if curve.label else None
+        return Curve(points, tip, label)

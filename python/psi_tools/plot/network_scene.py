@@ -52,23 +52,15 @@ class NetworkPicture:
 
 
 @dataclasses.dataclass(frozen=True)
-class QueueBox:
-    """A queue as it is drawn: its name, its places and servers, and whether an event serves it."""
-
-    name: str
-    capacity: int
-    servers: int
-    is_served: bool
-
-
-@dataclasses.dataclass(frozen=True)
 class SceneNode:
-    """A node: its key, its kind, the lines that stand in it, and the queue that it is, if it is one."""
+    """A node: its key, its kind, the lines that stand in it, the table of the queue that it is, if it is one, and
+    whether an event serves that."""
 
     key: str
     kind: Node
     lines: tuple[str, ...] = ()
-    queue: QueueBox | None = None
+    queue: Table | None = None
+    is_served: bool = False
 
 
 @dataclasses.dataclass(frozen=True)
@@ -90,10 +82,6 @@ class Scene:
     nodes: list[SceneNode]
     arrows: list[SceneArrow]
 
-    def count(self, kind: Node) -> int:
-        """How many nodes are of this kind."""
-        return sum(node.kind is kind for node in self.nodes)
-
 
 def scene_of(net: Network) -> Scene:
     """The scene of a network that psi accepts."""
@@ -113,15 +101,15 @@ class Builder:
         events: list[Table] = self.net.table["event"]
         served = {name for event in events if event["kind"] in OF_SERVERS for name in names_in(event.get("from"))}
         for queue in self.net.table["queue"]:
-            box = QueueBox(queue["name"], queue["capacity"], queue.get("servers", 1), queue["name"] in served)
-            self.node(self.keys[box.name], Node.QUEUE, queue=box)
+            key, name = self.keys[queue["name"]], queue["name"]
+            self.scene.nodes.append(SceneNode(key, Node.QUEUE, queue=queue, is_served=name in served))
         for number, event in enumerate(events):
             getattr(self, f"add_{event['kind']}")(number, event)
         return self.scene
 
-    def node(self, key: str, kind: Node, lines: tuple[str, ...] = (), queue: QueueBox | None = None) -> str:
-        """Adds a node, and returns its key."""
-        self.scene.nodes.append(SceneNode(key, kind, lines, queue))
+    def node(self, key: str, kind: Node, lines: tuple[str, ...] = ()) -> str:
+        """Adds a node that is no queue, and returns its key."""
+        self.scene.nodes.append(SceneNode(key, kind, lines))
         return key
 
     def arrow(self, tail: str, head: str, kind: Arrow, number: int, label: str = "", blocks: bool = False) -> None:

@@ -9,14 +9,13 @@ import html
 import json
 import pathlib
 import re
-import tomllib
 import xml.etree.ElementTree
 from typing import Any
 
 from psi_tools import check_log
 from psi_tools.errors import printable
-from psi_tools.model.networks import Network
-from psi_tools.plot.past import Follower, Region, names_of_events
+from psi_tools.model.networks import Network, Table
+from psi_tools.plot.past import Follower, Region
 
 TEMPLATES = pathlib.Path(__file__).resolve().parent / "page_files"
 SVG = "{http://www.w3.org/2000/svg}"
@@ -42,9 +41,8 @@ class Runs:
 
 def runs_of(net: Network, log: bytes, title: str) -> Runs:
     """The runs of an accepted log: those that fail are followed by the plain follower, and the last one is the log."""
-    table = tomllib.loads(net.data.decode())
     _, seed, stream, horizon, first, *steps, _ = check_log.read(log)
-    follower = Follower(table)
+    follower = Follower(net)
     random = [check_log.block(seed, stream, place // 16)[place % 16] for place in range(horizon)]
     numbers = [follower.net.event_of(seed, stream, time) for time in range(1, horizon + 1)]
     lengths = [1 << power for power in range((horizon - 1).bit_length())]
@@ -69,14 +67,13 @@ def data_of(runs: Runs) -> dict[str, Any]:
     """What the page's script is given."""
     from psi_tools.plot.network_scene import scene_of
 
-    table = tomllib.loads(runs.net.data.decode())
-    plain = check_log.Network(table)
-    places = [place for place, entry in enumerate(table["event"]) for _ in plain.events_of(entry)]
-    names, rates = names_of_events(table, plain), [entry["rate"] for entry in table["event"]]
+    net, plain = runs.net, runs.net.followed()
+    entries: list[tuple[int | None, Table]] = [*enumerate(net.table["event"]), (None, {"name": "idle", "kind": "idle"})]
+    servers = ((place, entry) for place, entry in entries for _ in range(net.servers_of(entry)))
     ends = [0, *plain.totals, plain.modulus]
     events = [
-        {"name": name, "from": begin, "end": end, "place": place, "rate": None if place is None else rates[place]}
-        for name, begin, end, place in zip(names, ends, ends[1:], [*places, None])
+        {"name": entry["name"], "from": begin, "end": end, "place": place, "rate": entry.get("rate")}
+        for (place, entry), begin, end in zip(servers, ends, ends[1:])
     ]
     whole = {"box": [[0] * len(plain.caps), plain.caps]}
     return {
@@ -84,8 +81,8 @@ def data_of(runs: Runs) -> dict[str, Any]:
         "stream": str(runs.stream),
         "events": events,
         "modulus": plain.modulus,
-        "queues": [{"name": queue["name"], "capacity": queue["capacity"]} for queue in table["queue"]],
-        "arrows": [arrow.event for arrow in scene_of(runs.net).arrows],
+        "queues": [{"name": name, "capacity": capacity} for name, capacity in zip(net.queues, net.capacities)],
+        "arrows": [arrow.event for arrow in scene_of(net).arrows],
         "words": runs.words,
         "numbers": runs.numbers,
         "runs": [

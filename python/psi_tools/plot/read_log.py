@@ -77,19 +77,15 @@ def columns_of(queues: int) -> int:
     return 1 if queues <= 4 else 2 if queues <= 10 else 4
 
 
-def shade_of(number: int, low: int, high: int) -> int:
-    """The shade of a number: one each while there aren't too many."""
-    count = high - low + 1
-    return (number - low) * min(count, MOST_SHADES) // count
-
-
 def bin_of(region: check_log.Region, low: list[int], high: list[int]) -> Bin:
     """The bin of one time."""
     states, is_box = check_log.count(region), isinstance(region, check_log.Box)
     kind = Kind.ONE if states == 1 else Kind.BOX if is_box else Kind.SET
     shades: list[dict[int, float]] = []
     for column, least, most in zip([()] * len(low) if is_box else zip(*region), low, high):
-        counts = collections.Counter(shade_of(number, least, most) for number in column)
+        # A number has a shade of its own while there aren't too many.
+        numbers = most - least + 1
+        counts = collections.Counter((number - least) * min(numbers, MOST_SHADES) // numbers for number in column)
         shades.append({shade: count / states for shade, count in counts.items()})
     return Bin(*ends_of(region), states, kind, shades)
 

@@ -3,30 +3,21 @@
 import collections
 import dataclasses
 
-from psi_tools.stats.batches import REWARD, Batches, interval_or_none
-
-
-@dataclasses.dataclass
-class Spread:
-    """A queue or a reward: the mean over the samples that are met, and the extremes; none of them
-    where no sample is. The interval of the mean is there where batches give one."""
-
-    name: str
-    mean: float | None
-    least: int | None
-    greatest: int | None
-    interval: tuple[float, float] | None = None
+from psi_tools.io.tables import Record
+from psi_tools.stats.batches import REWARD, Batches, record
+from psi_tools.stats.intervals import Mean
 
 
 @dataclasses.dataclass
 class Report:
-    """A report: how many samples are met at each horizon, and each queue and reward."""
+    """A report: how many samples are met at each horizon, and a row of means for each queue and reward, whose ends are
+    there where batches give an interval."""
 
     samples: int
     uncoupled: int
     horizons: dict[int, int]
-    queues: list[Spread]
-    rewards: list[Spread]
+    queues: list[Record]
+    rewards: list[Record]
 
 
 def report_of(batches: Batches, has_intervals: bool = False) -> Report:
@@ -35,9 +26,8 @@ def report_of(batches: Batches, has_intervals: bool = False) -> Report:
     for some in batches.horizons:
         horizons.update(some)
     met = sum(batches.met)
-    spreads: dict[str, list[Spread]] = {"": [], REWARD: []}
+    spreads: dict[str, list[Record]] = {"": [], REWARD: []}
     for row in batches.rows:
-        mean = sum(row.sums) / met if met else None
-        interval = interval_or_none(batches, row) if has_intervals else None
-        spreads[row.kind].append(Spread(row.name, mean, row.least, row.greatest, interval))
+        mean = batches.mean(row) if has_intervals else Mean(sum(row.sums) / met if met else None, None)
+        spreads[row.kind].append(record(f"{row.kind}mean", row.name, mean, row.least, row.greatest))
     return Report(sum(batches.samples), batches.uncoupled, dict(sorted(horizons.items())), *spreads.values())

@@ -1,16 +1,19 @@
-"""Batches: reports of one network over different streams, each of which is one value of a mean."""
+"""Batches: reports of one network over different streams, each of which is one value of a mean; and their means as rows
+of a table, as those of paths, with their intervals and remarks."""
 
 import dataclasses
-from collections.abc import Sequence
+from collections.abc import Iterable, Iterator, Sequence
 
 from psi_tools.errors import PsiError
 from psi_tools.io.reports import Report
+from psi_tools.io.tables import Record, aligned
 from psi_tools.model.networks import Network
 from psi_tools.stats.intervals import (
     LEVEL,
     NO_MEAN,
     Mean,
     Span,
+    Sums,
     carried_by_few,
     carriers,
     mean_of_batches,
@@ -19,8 +22,11 @@ from psi_tools.stats.intervals import (
     spread_of,
 )
 from psi_tools.stats.spans import Row, guessed_span, spans_of
+from psi_tools.stats.text import ends_shown, figures, half_shown, not_coupled
 
 REWARD = "reward-"
+# The rows that are means or rates, and what they are called for people.
+KINDS = {"mean": "queue", "reward-mean": "reward", "moved-rate": "moved", "chosen-rate": "chosen"}
 
 
 @dataclasses.dataclass
@@ -61,11 +67,12 @@ class Batches:
         span = self.span(row)
         if span is None:
             return NO_MEAN
+        sums = Sums(row.sums, self.met, span, self.lost)
         if span.two and (not self.uncoupled or self.spans):
-            return mean_of_two(row.sums, self.met, span, self.lost, level)
+            return mean_of_two(sums, level)
         if not self.spans and self.uncoupled:
-            span = dataclasses.replace(span, least=None, greatest=None)
-        return mean_of_batches(row.sums, self.met, level, span, self.lost)
+            sums = dataclasses.replace(sums, span=dataclasses.replace(span, least=None, greatest=None))
+        return mean_of_batches(sums, level)
 
     def find(self, kind: str, name: str) -> Row | None:
         """The row of a queue or a reward, none where there isn't one."""
@@ -95,26 +102,82 @@ def batches_of(reports: Sequence[Report]) -> Batches:
             raise PsiError("the reports are of different networks: their queues or rewards differ")
     rows = []
     for place, (kind, name) in enumerate(first.sums()):
-        own = [figures_of(report, place) for report in reports]
-        leasts = [least for _, least, _ in own if least is not None]
-        greatests = [greatest for *_, greatest in own if greatest is not None]
-        ends = min(leasts, default=None), max(greatests, default=None)
-        rows.append(Row(kind.decode(), name.decode(), [total for total, *_ in own], *ends))
+        # The figures of a report are sums alone where no sample is met; else the extremes follow each sum.
+        own = [report.figures[3 * place :][:3] if report.met else report.figures[place:][:1] for report in reports]
+        sums = [total.value for total, *_ in own]
+        ends = [(least.value, greatest.value) for _, least, greatest in (each for each in own if len(each) > 1)]
+        least = min((low for low, _ in ends), default=None)
+        rows.append(Row(kind.decode(), name.decode(), sums, least, max((high for _, high in ends), default=None)))
     horizons = [dict(report.horizons) for report in reports]
     met = [report.met for report in reports]
     return Batches([report.samples for report in reports], met, horizons, rows)
 
 
-def figures_of(report: Report, place: int) -> tuple[int, int | None, int | None]:
-    """The sum, the least and the greatest value of the row of this place."""
-    if not report.met:
-        return report.figures[place].value, None, None
-    total, least, greatest = (figure.value for figure in report.figures[3 * place : 3 * place + 3])
-    return total, least, greatest
+def notes_of(batches: Batches, wanted: int) -> list[str]:
+    """What has to be known before a mean is read, each as one sentence."""
+    hold = "the intervals hold" if batches.spans else "--net NET gives intervals that hold"
+    notes = not_coupled(batches.uncoupled, sum(batches.samples), "means", hold)
+    if len(batches.samples) < wanted:
+        notes.append(
+            f"NOT WHOLE: {len(batches.samples)} of {wanted} blocks are finished; those that come "
+            "first may not be typical; the same call of psi-many goes on"
+        )
+    return notes
 
 
-def interval_or_none(batches: Batches, row: Row) -> tuple[float, float] | None:
-    """The interval of a row, none where there are too few batches for one."""
-    mean = batches.mean(row)
-    low, high = mean.low, mean.high
-    return None if low is None or high is None else (low, high)
+def records_of(batches: Batches, level: float) -> Iterator[Record]:
+    """The rows, each with its item, its name, its mean, and the ends of its interval."""
+    horizons = sorted({horizon for some in batches.horizons for horizon in some})
+    shares = [("uncoupled", "-", [n - m for n, m in zip(batches.samples, batches.met)])]
+    for horizon in horizons:
+        counts = [some.get(horizon, 0) for some in batches.horizons]
+        shares.append(("horizon", str(horizon), counts))
+    for item, name, counts in shares:
+        yield record(item, name, batches.share(counts, level), None, None)
+    for row in batches.rows:
+        mean = batches.mean(row, level)
+        yield record(f"{row.kind}mean", row.name, mean, row.least, row.greatest)
+
+
+def record(item: str, name: str, mean: Mean, least: int | None, greatest: int | None) -> Record:
+    """One row of the answer."""
+    ends = {"mean": mean.mean, "half": mean.half, "low": mean.low, "high": mean.high}
+    return {"item": item, "name": name, **ends, "least": least, "greatest": greatest}
+
+
+def mean_of(each: Record) -> Mean:
+    """The mean of a row of the answer."""
+    ends = None if each["half"] is None else (each["low"], each["high"])
+    return Mean(each["mean"], each["half"], ends)
+
+
+def table_of(
+    records: Iterable[Record], head: str = "mean", is_guaranteed: bool = False, has_extremes: bool = False
+) -> list[str]:
+    """The lines of some rows for people. Guaranteed ends are rounded outwards, and have no half between them."""
+    extremes = ("least", "greatest") if has_extremes else ()
+    halves = () if is_guaranteed else ("",)
+    rows: list[tuple[object, ...]] = [("", "", head, *halves, "from", "to", *extremes)]
+    for each in records:
+        mean, values = mean_of(each), ("-" if each[end] is None else each[end] for end in extremes)
+        if is_guaranteed:
+            from psi_tools.stats.guaranteed import shown_out
+
+            shown: tuple[str, ...] = shown_out(mean)
+        else:
+            shown = half_shown(mean), *ends_shown(mean)
+        rows.append((KINDS[each["item"]], each["name"], figures(mean.mean, mean.half), *shown, *values))
+    return aligned(rows, right=(2, *range(3 + len(halves), 8)))
+
+
+def remarks(batches: Batches) -> list[str]:
+    """What an interval means where all samples are alike, or few carry a mean."""
+    rows = [row for row in batches.rows if row.least is not None]
+    alike = [row.name for row in rows if row.least == row.greatest]
+    lines = batches.carried()
+    if alike:
+        lines.append(
+            f"all samples have the same value of {', '.join(alike)}: that others are rare is all "
+            "that the interval says"
+        )
+    return lines

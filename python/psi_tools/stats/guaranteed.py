@@ -14,18 +14,21 @@ Floating point guesses r. What decides is computed with decimal numbers of many 
 against the claim. check_interval.py decides again, with whole numbers.
 """
 
+import collections
 import dataclasses
 import decimal
 import functools
 import math
-from collections.abc import Callable, Sequence
+from collections.abc import Callable, Iterator, Sequence
 from fractions import Fraction
-from typing import TYPE_CHECKING, Any
+from typing import Any
 
-from psi_tools.stats.intervals import Mean, Span, bisected, ranks, special, value_at
-
-if TYPE_CHECKING:
-    from psi_tools.stats.batches import Batches
+from psi_tools.io.tables import Record
+from psi_tools.stats.batches import Batches, record
+from psi_tools.stats.intervals import LEVEL, Mean, Span, bisected, quantile, ranks, special, value_at
+from psi_tools.stats.law import RECORD, SHARES, Law, Quantile
+from psi_tools.stats.paths import ITEMS, QUEUE, REWARD, PathRow, Paths
+from psi_tools.stats.text import figures
 
 ASSUMED = "assumed: the random words of the streams are as if each were drawn evenly and independently"
 # How many pilot streams are drawn at most, and of how many counted ones there is one.
@@ -340,17 +343,6 @@ class Guarantee:
         }
 
 
-def of_batches(batches: "Batches", level: float) -> list[Guarantee]:
-    """The rows of reports, of which the sums alone are known, each with its mean's claim."""
-    samples, unknown, rows = sum(batches.samples), batches.uncoupled, []
-    for row in batches.rows:
-        name = f"{'reward' if row.kind else 'queue'} {row.name}"
-        span, whole = batches.span(row), sum(row.sums)
-        assert span is not None
-        rows.append(Guarantee(name, samples, unknown, span, one_in(level), total=whole))
-    return rows
-
-
 def file_of(rows: Sequence[Guarantee], drawn: dict[str, Any]) -> dict[str, Any]:
     """The file of certificates of some rows; `drawn` names the samples."""
     return {"format": "psi certificates 1", "drawn": drawn, "d": rows[0].d, "rows": [row.record() for row in rows]}
@@ -388,3 +380,91 @@ def shown_out(mean: Mean) -> tuple[str, str]:
 def misses(d: int) -> str:
     """The line on what is guaranteed."""
     return f"each interval misses for at most 2 in {d:,} lists of the streams' random words"
+
+
+@dataclasses.dataclass
+class GuaranteedLaw(Law):
+    """A distribution whose intervals carry a theorem: each misses for at most 2 in d lists of
+    random words."""
+
+    pilot: Pilot | None = None
+    d: int = one_in(LEVEL)
+
+    def __post_init__(self) -> None:
+        self.row = Guarantee(self.name, self.many, self.unknown, self.span, self.d, self.counts, pilot=self.pilot)
+        values = sum(value * count for value, count in self.counts)
+        self.own_mean = mean_between(values / self.known, self.row.mean())
+        below = 0
+        self.own_records: list[Record] = []
+        for value, count in self.counts:
+            below += count
+            ends = rounded_out(*self.row.share(value, value))
+            most = rounded_out(*self.row.share(self.counts[0][0], value))
+            shares = count / self.known, *ends, below / self.known, *most
+            self.own_records.append(dict(zip(RECORD, (value, count, *shares))))
+        self.own_quantiles: list[Quantile] = [
+            (share, quantile(self.counts, share)[0], *self.row.quantile(share)) for share in SHARES
+        ]
+
+    def mean(self, level: float = LEVEL) -> Mean:
+        return self.own_mean
+
+    def records(self, level: float = LEVEL) -> list[Record]:
+        return self.own_records
+
+    def quantiles(self, shares: Sequence[float] = SHARES, level: float = LEVEL) -> Iterator[Quantile]:
+        yield from self.own_quantiles
+
+    def shown(self, key: str, number: float) -> str:
+        """Ends are rounded outwards."""
+        if key.endswith(("low", "high")):
+            return written_out(number, 5, key.endswith("high"))
+        return super().shown(key, number)
+
+    def mean_line(self) -> str:
+        mean = self.mean()
+        return "mean {}, {} to {}".format(figures(mean.mean, mean.half), *shown_out(mean))
+
+    def remarks(self) -> list[str]:
+        """By what the mean has its interval, and what is assumed."""
+        return [*self.row.ways(), misses(self.d), ASSUMED]
+
+
+def guaranteed_means(batches: Batches, level: float) -> tuple[list[Guarantee], list[Record]]:
+    """The claims of all rows of reports, of which the sums alone are known, and the rows of the answer, whose
+    intervals carry a theorem."""
+    rows, records = [], []
+    for row in batches.rows:
+        name, span = f"{'reward' if row.kind else 'queue'} {row.name}", batches.span(row)
+        assert span is not None
+        own = Guarantee(name, sum(batches.samples), batches.uncoupled, span, one_in(level), total=sum(row.sums))
+        ends = mean_between(sum(row.sums) / own.known if own.known else None, own.mean())
+        rows.append(own)
+        records.append(record(f"{row.kind}mean", row.name, ends, row.least, row.greatest))
+    return rows, records
+
+
+def guaranteed_paths(
+    paths: Paths, pilot: Paths | None, first: int, level: float
+) -> tuple[list[Guarantee], list[Record]]:
+    """The claims of all queues and rewards along paths, and the rows of the answer. `pilot` has paths that
+    aren't counted, from the stream `first` on. The theorem is one about states, so events have none."""
+    claims, records = [], []
+    for place, row in enumerate(paths.rows):
+        if row.kind not in (QUEUE, REWARD):
+            continue
+        seen = None if pilot is None else Pilot(counts_of(pilot.rows[place]), pilot.lost, first, pilot.count)
+        least, greatest = (row.times * end for end in row.span.ends)
+        span = Span(least, greatest, least, greatest, row.span.two and row.times == 1)
+        name, d = f"{row.kind} {row.name}", one_in(level)
+        own = Guarantee(name, paths.count, paths.lost, span, d, counts_of(row), pilot=seen, times=row.times)
+        low, high = (end / row.times for end in own.mean())
+        mean = mean_between(sum(row.sums) / (row.times * len(row.sums)), (low, high))
+        claims.append(own)
+        records.append(record(ITEMS[row.kind], row.name, mean, None, None))
+    return claims, records
+
+
+def counts_of(row: PathRow) -> list[tuple[int, int]]:
+    """How many paths have each sum, ascending."""
+    return sorted(collections.Counter(row.sums).items())

@@ -14,6 +14,7 @@ sets of samples lack it, and Student's t alone would be far too narrow. So a row
 its values may be at all, and how far the value that did not come may lie from those that did.
 """
 
+import bisect
 import contextlib
 import dataclasses
 import functools
@@ -228,133 +229,101 @@ def spread_of(sums: Sequence[int], counts: Sequence[int]) -> Spread | None:
     return Spread(whole / many, error, len(pairs), many)
 
 
-def end_of_batches(spread: Spread, far: float | None, level: float = LEVEL) -> float:
+@dataclasses.dataclass(frozen=True)
+class Sums:
+    """A row over samples in batches: `sums` has the sum of each batch, `counts` how many samples of it
+    are coupled, `span` what the row may be, and `lost` how many samples of each aren't coupled."""
+
+    sums: Sequence[int]
+    counts: Sequence[int]
+    span: Span
+    lost: Sequence[int] = ()
+
+    def filled(self, value: int | None) -> tuple[list[int], list[int]]:
+        """The sums and the counts, in which each stream that isn't coupled counts with a value."""
+        lost = self.lost or [0] * len(self.sums)
+        sums = [total + number * (value or 0) for total, number in zip(self.sums, lost)]
+        return sums, [count + number for count, number in zip(self.counts, lost)]
+
+
+def end_of_batches(spread: Spread, far: float, level: float = LEVEL) -> float:
     """How far an end of the interval of a mean over batches is from the mean. `far` is the value on
-    that side which a sample is reckoned with that did not come; none reckons with no such."""
-    unseen = 0.0 if far is None else abs(far - spread.mean) / spread.many
+    that side which a sample is reckoned with that did not come."""
+    unseen = abs(far - spread.mean) / spread.many
     if not spread.error:
         # All batches are alike: what didn't come in any sample comes in so few of all.
         return -math.log((1 - level) / 2) * unseen
     return spread.error * student_and_unseen(spread.batches - 1, unseen / spread.error, level)
 
 
-def filled(sums: Sequence[int], counts: Sequence[int], lost: Sequence[int], value: int | None) -> Spread | None:
-    """The batches, in which each stream that isn't coupled counts with a value."""
-    if value is None:
-        return None
-    sums = [total + number * value for total, number in zip(sums, lost)]
-    return spread_of(sums, [count + number for count, number in zip(counts, lost)])
-
-
-def mean_of_batches(
-    sums: Sequence[int],
-    counts: Sequence[int],
-    level: float = LEVEL,
-    span: Span | None = None,
-    lost: Sequence[int] | None = None,
-) -> Mean:
-    """The mean of a row over samples in batches: `sums` has the sum of each batch, `counts` how
-    many samples of it are coupled, and `lost` how many aren't. Without a span the interval is that
-    of Student's t alone; with one, each end also reckons with a value that did not come. What isn't
-    coupled counts as the least of the span below and as the greatest above, and where the span
-    doesn't know them there is no interval. The estimate is over what is coupled."""
-    whole = spread_of(sums, counts)
+def mean_of_batches(row: Sums, level: float = LEVEL) -> Mean:
+    """The mean of a row over samples in batches. Each end of its interval is that of Student's t, and also
+    reckons with a value that did not come. What isn't coupled counts as the least of the span below and as
+    the greatest above, and where the span doesn't know them there is no interval. The estimate is over what
+    is coupled."""
+    whole, span = spread_of(row.sums, row.counts), row.span
     if whole is None:
         return NO_MEAN
     below: Spread | None = whole
     above: Spread | None = whole
-    if lost is not None and any(lost):
-        ends = (span.least, span.greatest) if span else (None, None)
-        below, above = (filled(sums, counts, lost, end) for end in ends)
+    if any(row.lost):
+        ends = span.least, span.greatest
+        below, above = (None if end is None else spread_of(*row.filled(end)) for end in ends)
     if below is None or above is None or below.error is None or above.error is None:
         return Mean(whole.mean, None)
-    if span is None:
-        return Mean(whole.mean, end_of_batches(whole, None, level))
     low = below.mean - end_of_batches(below, min(span.low, below.mean), level)
     high = above.mean + end_of_batches(above, max(span.high, above.mean), level)
     return between(whole.mean, span.clipped(low), span.clipped(high))
 
 
-def mean_of_two(
-    sums: Sequence[int], counts: Sequence[int], span: Span, lost: Sequence[int] | None = None, level: float = LEVEL
-) -> Mean:
+def mean_of_two(row: Sums, level: float = LEVEL) -> Mean:
     """The mean of a row that has two values alone, those of its span: a share, and exact."""
-    least, greatest = span.ends
-    width, many, unknown = greatest - least, sum(counts), sum(lost or ())
+    least, greatest = row.span.ends
+    width, many, unknown = greatest - least, sum(row.counts), sum(row.lost)
     if not width or not many:
         return Mean(least, 0.0) if many else NO_MEAN
-    ends = probability((sum(sums) - many * least) // width, many + unknown, unknown, level)
+    ends = probability((sum(row.sums) - many * least) // width, many + unknown, unknown, level)
     low, high = (least + width * end for end in ends)
-    return between(sum(sums) / many, low, high)
+    return between(sum(row.sums) / many, low, high)
 
 
-def difference_of_batches(
-    sums: Sequence[int],
-    others: Sequence[int],
-    counts: Sequence[int],
-    other_counts: Sequence[int],
-    level: float = LEVEL,
-    spans: tuple[Span, Span] | None = None,
-    lost: tuple[Sequence[int], Sequence[int]] | None = None,
-) -> Mean:
+def difference_of_batches(one: Sums, other: Sums, level: float = LEVEL) -> Mean:
     """The mean of the first samples less that of the others, where both have the same batches of
     the same streams, under common random numbers: the differences of the batches are the values, so
-    what both have in common doesn't widen the interval. `spans` are those of both rows, `lost` how
-    many streams of each batch aren't coupled. Where both rows have the same two values, as 0 and 1,
-    the interval also holds that of the joint counts, as far as the batches show them."""
-    one, other = spread_of(sums, counts), spread_of(others, other_counts)
-    if one is None or other is None:
+    what both have in common doesn't widen the interval. Where both rows have the same two values, as 0
+    and 1, the interval also holds that of the joint counts, as far as the batches show them."""
+    mine, theirs = spread_of(one.sums, one.counts), spread_of(other.sums, other.counts)
+    if mine is None or theirs is None:
         return NO_MEAN
-    gap = one.mean - other.mean
-    mine, theirs = lost or ([0] * len(sums), [0] * len(sums))
-    if spans is None:
-        if any(mine) or any(theirs) or [*counts] != [*other_counts]:
-            return Mean(gap, None)
-        found = mean_of_batches([x - y for x, y in zip(sums, others)], counts, level)
-        return Mean(gap, found.half)
-    ends = [end for span in spans for end in (span.least, span.greatest)]
-    has_lost = any(mine) or any(theirs)
+    gap, has_lost = mine.mean - theirs.mean, any(one.lost) or any(other.lost)
+    ends = [end for span in (one.span, other.span) for end in (span.least, span.greatest)]
     if has_lost and None in ends:
         return Mean(gap, None)
-    values = (spans[0].least, spans[1].greatest), (spans[0].greatest, spans[1].least)
-    low = high = difference_end(sums, others, counts, mine, theirs, values[0])
+    low = high = difference_end(one, other, ends[0], ends[3])
     if has_lost:
-        high = difference_end(sums, others, counts, mine, theirs, values[1])
+        high = difference_end(one, other, ends[1], ends[2])
     if low is None or high is None or low.error is None:
         return Mean(gap, None)
-    both = spans[0].less(spans[1])
+    both = one.span.less(other.span)
     lower = low.mean - end_of_batches(low, min(both.low, low.mean), level)
     upper = high.mean + end_of_batches(high, max(both.high, high.mean), level)
-    if spans[0].two and spans[1].two and ends[:2] == ends[2:] and not has_lost:
-        least, greatest = spans[0].ends
+    if one.span.two and other.span.two and ends[:2] == ends[2:] and not has_lost:
+        least, greatest = one.span.ends
         # Of a width of 0 both rows are one number.
         width = (greatest - least) or 1
-        pairs = difference_of_pairs(*pairs_of(sums, others, counts, width), level).ends
+        # In how many streams the rows differ by their width and by less it, as far as the sums show it.
+        gaps = [(x - y) // width for x, y in zip(one.sums, other.sums)]
+        plus, minus = (sum(max(0, sign * each) for each in gaps) for sign in (1, -1))
+        pairs = difference_of_pairs(plus, minus, sum(one.counts), level).ends
         if pairs is not None:
             lower, upper = min(lower, width * pairs[0]), max(upper, width * pairs[1])
     return between(gap, both.clipped(lower), both.clipped(upper))
 
 
-def difference_end(
-    sums: Sequence[int],
-    others: Sequence[int],
-    counts: Sequence[int],
-    mine: Sequence[int],
-    theirs: Sequence[int],
-    values: tuple[int | None, int | None],
-) -> Spread | None:
+def difference_end(one: Sums, other: Sums, value: int | None, other_value: int | None) -> Spread | None:
     """The differences of the batches, in which what isn't coupled counts with these values."""
-    value, other_value = (0 if value is None else value for value in values)
-    gaps = [x + number * value - y - other * other_value for x, y, number, other in zip(sums, others, mine, theirs)]
-    return spread_of(gaps, [count + number for count, number in zip(counts, mine)])
-
-
-def pairs_of(sums: Sequence[int], others: Sequence[int], counts: Sequence[int], width: int = 1) -> tuple[int, int, int]:
-    """Of how many streams two rows of the same two values differ by their width and by less it, as
-    far as the sums of the batches show it, and how many streams there are."""
-    gaps = [(one - other) // width for one, other in zip(sums, others)]
-    plus, minus = (sum(max(0, sign * gap) for gap in gaps) for sign in (1, -1))
-    return plus, minus, sum(counts)
+    (mine, counts), (theirs, _) = one.filled(value), other.filled(other_value)
+    return spread_of([x - y for x, y in zip(mine, theirs)], counts)
 
 
 def difference_of_pairs(plus: int, minus: int, many: int, level: float = LEVEL) -> Mean:
@@ -481,20 +450,13 @@ def share_of(count: int, many: int, unknown: int = 0, level: float = LEVEL) -> M
 def ranks(share: float, many: int, level: float = LEVEL) -> tuple[int, int]:
     """The ranks, counted from 1, of the two ordered samples between which a quantile is: 0 and
     many + 1 stand for the ends of the range. The number of samples below it is binomial."""
+
+    def below(rank: int) -> float:
+        return float(special().bdtr(rank, many, share))
+
     tail = (1 - level) / 2
-    return least_rank(share, many, tail), least_rank(share, many, 1 - tail) + 1
-
-
-def least_rank(share: float, many: int, tail: float) -> int:
-    """The least number that a binomial one passes with a probability of at most 1 - tail."""
-    low, high = -1, many
-    while high - low > 1:
-        middle = (low + high) // 2
-        if special().bdtr(middle, many, share) >= tail:
-            high = middle
-        else:
-            low = middle
-    return high
+    low, high = (bisect.bisect_left(range(many), each, key=below) for each in (tail, 1 - tail))
+    return low, high + 1
 
 
 def quantile(

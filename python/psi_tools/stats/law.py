@@ -141,20 +141,16 @@ class Joint(Counted):
 
 
 @dataclasses.dataclass
-class Share:
-    """How many of some samples meet a condition; of `unknown` more streams it isn't known, as they weren't coupled."""
+class Share(Counted):
+    """How many samples meet a condition, and how many don't; of `unknown` more streams it isn't known, as they
+    weren't coupled."""
 
     condition: str
-    count: int
-    known: int
+    counts: list[tuple[bool, int]]
     unknown: int
-
-    @property
-    def many(self) -> int:
-        """How many streams were drawn."""
-        return self.known + self.unknown
 
     def records(self, level: float = LEVEL) -> list[Record]:
         """One row: how many samples meet the condition, and its probability with its interval."""
-        ends = probability(self.count, self.many, self.unknown, level)
-        return [dict(zip(SHARED, (self.count, self.count / self.known, *ends)))]
+        count = sum(many for is_met, many in self.counts if is_met)
+        ends = probability(count, self.many, self.unknown, level)
+        return [dict(zip(SHARED, (count, count / self.known, *ends)))]

@@ -1,10 +1,4 @@
-"""mean_values.py NET TOTAL [COUNT [PSI]]
-
-Prints how many customers each queue of a closed network holds on average, when there are TOTAL in
-all, by mean value analysis (Reiser and Lavenberg 1980): a line `NAME MEAN` for each queue. With
-COUNT the mean over that many samples follows it, with half its interval of some 95 %: those of
-the streams from 0 on and the seed 0, as `PSI closed` prints them; PSI is crates/psi/out/psi where
-it is not given.
+"""The mean number of customers in each queue of a closed network, by mean value analysis (Reiser and Lavenberg 1980).
 
 The network is one of single servers, all of whose events are services with one queue to go to, and
 a customer who finds that full stays. Its law is of product form (Gordon and Newell 1967) where
@@ -12,13 +6,12 @@ nobody ever does: so each queue has room for all TOTAL, and every queue can be r
 other.
 """
 
-from collections.abc import Sequence
+from collections.abc import Iterable, Sequence
 from fractions import Fraction
 from typing import Any
 
 from psi_tools.errors import PsiError
 from psi_tools.model.networks import Table
-from psi_tools.stats.kernel import kernel
 
 Rates = Sequence[Sequence[Any]]
 
@@ -61,3 +54,23 @@ def means_of(rows: Rates, total: int) -> list[float]:
         times = [demand * (1 + mean) for demand, mean in zip(demands, means)]
         means = [customers * time / sum(times) for time in times]
     return means
+
+
+def kernel(rows: Iterable[Sequence[int | Fraction]], width: int) -> list[list[Fraction]]:
+    """A basis of the vectors whose product with each row is 0, by elimination: each has a 1 at a place of its own."""
+    found: dict[int, list[Fraction]] = {}
+    for row in rows:
+        vector = [*map(Fraction, row)]
+        for place in range(width):
+            if vector[place] and place not in found:
+                found[place] = [value / vector[place] for value in vector]
+                break
+            if factor := vector[place]:
+                vector = [value - factor * other for value, other in zip(vector, found[place])]
+    basis = []
+    for free in (place for place in range(width) if place not in found):
+        weights = [Fraction(place == free) for place in range(width)]
+        for place in sorted(found, reverse=True):
+            weights[place] = -sum((found[place][k] * weights[k] for k in range(place + 1, width)), Fraction(0))
+        basis.append(weights)
+    return basis

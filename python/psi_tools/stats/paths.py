@@ -28,13 +28,14 @@ from psi_tools.stats.intervals import (
     Mean,
     Span,
     Spread,
+    Sums,
     between,
     mean_of_two,
     probability,
     spread_of,
     student_and_unseen,
 )
-from psi_tools.stats.means import record
+from psi_tools.stats.batches import record
 from psi_tools.stats.spans import Spans
 
 # Visits may be much larger than those that came where there are fewer than this number, of a table far more.
@@ -94,7 +95,7 @@ class Paths:
         """The mean of a row, whose interval counts each stream that isn't coupled as the least value
         at all times for the lower end, and as the greatest for the upper one."""
         if row.times == 1 and row.span.two:
-            return mean_of_two(row.sums, [1] * len(row.sums), row.span, [0] * len(row.sums) + [self.lost], level)
+            return mean_of_two(Sums(row.sums, [1] * len(row.sums), row.span, [self.lost]), level)
         mean = sum(row.sums) / (row.times * len(row.sums))
         low, high = (self.end(row, is_high, level) for is_high in (False, True))
         if low is None or high is None:
@@ -122,7 +123,8 @@ class Paths:
             return spread.mean - sign * math.log((1 - level) / 2) * far
         if below <= 0:
             return spread.mean + sign * self.reach(spread, far, 0.0, level)
-        one = visit_of(spread.error, below)
+        # What a visit to other values adds to the mean, where visits are alike and come by chance.
+        one = spread.error * spread.error / below
         unseen = min(far, one * (2 + (row.few * one / below) ** 4))
         return spread.mean + sign * self.reach(spread, unseen, 1 / below, level)
 
@@ -150,12 +152,6 @@ class Paths:
                     "more streams, or longer paths, make its interval narrower"
                 )
         return lines
-
-
-def visit_of(error: float, below: float) -> float:
-    """What a visit to other values adds to a mean over all paths that is so far from the value at which
-    there is none, where its error is that of visits which are alike and come by chance."""
-    return error * error / below if below > 0 else 0.0
 
 
 def paths_of_rows(net: Network, steps: int, rows: list[str | None]) -> Paths:

@@ -112,15 +112,11 @@ class Spans:
             return Span(*whole, *whole, True)
         return Span(*whole, *ahead)
 
-    def of(self, row: Row) -> Span:
-        """The span of a row."""
-        return self.of_reward(row.name) if row.kind else self.of_queue(row.name)
-
 
 def spans_of(net: Network, rows: list[Row]) -> dict[tuple[str, str], Span]:
     """The span of each row of reports of a network, by its kind and its name."""
     spans = Spans(net, {row.name: row.ends for row in rows if not row.kind and row.ends is not None})
-    return {(row.kind, row.name): spans.of(row) for row in rows}
+    return {(row.kind, row.name): (spans.of_reward if row.kind else spans.of_queue)(row.name) for row in rows}
 
 
 def guessed_span(row: Row) -> Span | None:

@@ -15,14 +15,10 @@ def figures(number: float | None, half: float | None = None) -> str:
     return f"{number:.{min(places, 12)}f}"
 
 
-def not_coupled(unknown: int, many: int, what: str) -> list[str]:
+def not_coupled(unknown: int, many: int, what: str, hold: str = "the intervals hold") -> list[str]:
     """The line on streams that aren't coupled, which has to be known before a number is read; none where all are."""
-    if not unknown:
-        return []
-    return [
-        f"NOT COUPLED: {unknown:,} of {many:,} streams; the {what} are of the others, and biased; the intervals hold "
-        "what they may change"
-    ]
+    line = f"NOT COUPLED: {unknown:,} of {many:,} streams; the {what} are of the others, and biased; {hold}"
+    return [f"{line} what they may change"] if unknown else []
 
 
 def half_shown(mean: Mean) -> str:
