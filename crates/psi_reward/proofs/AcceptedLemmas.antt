@@ -1,6 +1,6 @@
 -- What is known of a reward that isn't refused, and the range of its values over a box.
-use Rattle.std.specs.Prelude.{◌≡◌, ℕ, ◌+◌, ◌<◌, ◌≤◌, ℤ, pos, List, [], length, map, slice_index, slice_index_or, All, Bool, true, false, None, count_by, nat_lt, refl}
-use Rattle.std.proofs.Common.{sym, ◌∙◌, subst, arith}
+use Rattle.std.specs.Prelude.{◌≡◌, ℕ, ◌<◌, ℤ, pos, List, length, map, All, Bool, true, false, None, count_by, nat_lt, refl}
+use Rattle.std.proofs.Common.{sym, ◌∙◌, subst, arith, rules}
 use Rattle.psi_state.specs.State.{IsBelow, box}
 use Rattle.psi_state.specs.Repeats.{repeats}
 use Rattle.psi_reward.specs.declared.kinds.RewardKind.{RewardKind}
@@ -22,29 +22,17 @@ record AreFitting (empty repeat lengths : Bool) : Type 0 where
   fit : lengths ≡ true
 
 fitting : (empty repeat lengths : Bool) → first_refusal empty repeat lengths ≡ None → AreFitting empty repeat lengths
-fitting true repeat lengths none = absurd cc
-fitting false true lengths none = absurd cc
-fitting false false true none = record { some = refl; once = refl; fit = refl }
-fitting false false false none = absurd cc
+fitting empty repeat lengths none = search rules
 
 accepted-fitting : (caps : List ℕ) (kind : RewardKind) → IsValid caps kind → AreFitting (is_none_listed (queues_of kind)) (repeats (queues_of kind)) (has_lengths caps kind)
 accepted-fitting caps kind valid = fitting (is_none_listed (queues_of kind)) (repeats (queues_of kind)) (has_lengths caps kind) valid.accepted
 
 pub length-table : (caps queues : List ℕ) (table : List (List ℤ)) (kind : RewardKind) → kind ≡ Table queues table → IsValid caps kind → length table ≡ length queues
-length-table caps queues table kind is valid =
-    let own : IsValid caps (Table queues table) = subst (λ k. IsValid caps k) is valid in
-    length-has_rows queues caps table (accepted-fitting caps (Table queues table) own).fit
+length-table caps queues table kind is valid = grind (arith, length-has_rows, accepted-fitting)
 
 -- the rows reach the numbers of each state within the capacities
 pub reach-table : (caps queues x : List ℕ) (table : List (List ℤ)) (kind : RewardKind) → kind ≡ Table queues table → IsValid caps kind → IsBelow x caps → ReachRows queues x table
-reach-table caps queues x table kind is valid below i small =
-    let own : IsValid caps (Table queues table) = subst (λ k. IsValid caps k) is valid in
-    let row : length (slice_index_or table i []) ≡ slice_index caps (slice_index queues i) + 1 =
-    row-has_rows queues caps table i (accepted-fitting caps (Table queues table) own).fit small in
-    let count : length x ≡ length caps = below.same_length in
-    let listed : slice_index queues i < length caps = own.queues i 0 small in
-    let within : slice_index x (slice_index queues i) ≤ slice_index caps (slice_index queues i) = below.each (slice_index queues i) (omega arith) in
-    omega arith
+reach-table caps queues x table kind is valid below i small = grind (arith, row-has_rows, accepted-fitting)
 
 -- the range of a function of the numbers held, over a box within the capacities
 range-kind : (caps l h : List ℕ) (kind : RewardKind) (f : List ℕ → ℤ) (low high : ℤ) → IsValid caps kind → IsBelow l h → IsBelow h caps
@@ -86,8 +74,7 @@ range-corners caps l h (Above queues level) not_linear not_table valid ordered w
 
 -- the same between states, and at numbers, that are given otherwise
 pub spread-between : (f : List ℕ → ℤ) (queues l h m k : List ℕ) (low high : ℤ) → l ≡ m → h ≡ k → IsSpread f (held queues l) (held queues h) low high → IsSpread f (held queues m) (held queues k) low high
-spread-between f queues l h m k low high first last spread =
-    subst (λ (x : List ℕ). IsSpread f (held queues x) (held queues k) low high) first (subst (λ (x : List ℕ). IsSpread f (held queues l) (held queues x) low high) last spread)
+spread-between f queues l h m k low high first last spread = search rules
 
 pub range-same : (f : List ℕ → ℤ) (xs : List (List ℕ)) (low high a b : ℤ) → low ≡ a → high ≡ b → IsRange f xs low high → IsRange f xs a b
 range-same f xs low high a b first last range = subst (λ z. IsRange f xs z b) first (subst (λ z. IsRange f xs low z) last range)

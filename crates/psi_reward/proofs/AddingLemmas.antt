@@ -1,8 +1,7 @@
 -- Sums over the queues, place by place from the last on, and their least and greatest values.
-use Rattle.std.specs.Prelude.{◌≡◌, ℕ, zero, suc, ◌+◌, ◌-◌, ◌<◌, ◌≤◌, ℤ, pos, negsuc, ◌+ℤ◌, ◌≤ℤ◌, List, [], ◌∷◌, length, map, drop, slice_index, slice_index_or, refl}
+use Rattle.std.specs.Prelude.{◌≡◌, ℕ, zero, suc, ◌+◌, ◌-◌, ◌<◌, ◌≤◌, ℤ, pos, negsuc, ◌+ℤ◌, ◌≤ℤ◌, List, ◌∷◌, length, map, drop, slice_index, slice_index_or, []}
 use Rattle.std.specs.Int.{int_min, int_max}
-use Rattle.std.proofs.Common.{inl, inr, ap, sym, ◌∙◌, subst, arith}
-use Rattle.std.proofs.lemmas.Bool.{cases_eq}
+use Rattle.std.proofs.Common.{sym, subst, arith, rules}
 use Rattle.std.proofs.lemmas.Int.{ints}
 use Rattle.psi_state.specs.Boxes.{IsBetween}
 use Rattle.psi_state.proofs.BoxesLemmas.{below-head, below-tail, below-cons, below-itself}
@@ -15,27 +14,17 @@ use Rattle.psi_reward.proofs.WholeLemmas.{lesser, int_min-left, int_min-right, i
 pub added-drop : {A : Type 0} (term : A → ℕ → ℤ) (parts : List A) (d : A) (queues x : List ℕ) (n : ℕ) → n < length queues → length parts ≡ length queues
     → added (map term (drop n parts)) (held (drop n queues) x)
     ≡ term (slice_index_or parts n d) (slice_index x (slice_index queues n)) +ℤ added (map term (drop (suc n) parts)) (held (drop (suc n) queues) x)
-added-drop term [] d [] x n small same = absurd (omega arith)
-added-drop term [] d (queue ∷ queues) x n small same = absurd (omega arith)
-added-drop term (part ∷ parts) d [] x n small same = absurd (omega arith)
-added-drop term (part ∷ parts) d (queue ∷ queues) x zero small same = refl
 added-drop term (part ∷ parts) d (queue ∷ queues) x (suc n) small same = added-drop term parts d queues x n (omega arith) (omega arith)
+added-drop term parts d queues x n small same = grind arith
 
 pub added-none : {A : Type 0} (term : A → ℕ → ℤ) (parts : List A) (queues x : List ℕ) → length parts ≡ length queues
     → added (map term (drop (length queues) parts)) (held (drop (length queues) queues) x) ≡ pos 0
-added-none term [] [] x same = refl
-added-none term [] (queue ∷ queues) x same = absurd (omega arith)
-added-none term (part ∷ parts) [] x same = absurd (omega arith)
 added-none term (part ∷ parts) (queue ∷ queues) x same = added-none term parts queues x (omega arith)
+added-none term parts queues x same = grind arith
 
 -- an empty sum is 0
 pub spread-none : IsSpread (added []) [] [] (pos 0) (pos 0)
-spread-none = record {
-  above = λ vs between. omega (arith, ints);
-  below = λ vs between. omega (arith, ints);
-  low_at = ([], record { low = below-itself []; high = below-itself [] }, refl);
-  high_at = ([], record { low = below-itself []; high = below-itself [] }, refl);
-}
+spread-none = search (rules, below-itself)
 
 -- the least of a sum is the sum of the least values, and so is the greatest
 pub spread-cons : (f : ℕ → ℤ) (l h : ℕ) (fs : List (ℕ → ℤ)) (ls hs : List ℕ) (a b low high : ℤ) → IsSpan f l h a b → IsSpread (added fs) ls hs low high
@@ -72,53 +61,34 @@ pub spread-drop : {A : Type 0} (term : A → ℕ → ℤ) (parts : List A) (d : 
     → IsSpan (term (slice_index_or parts n d)) (slice_index x (slice_index queues n)) (slice_index y (slice_index queues n)) a b
     → IsSpread (added (map term (drop (suc n) parts))) (held (drop (suc n) queues) x) (held (drop (suc n) queues) y) low high
     → IsSpread (added (map term (drop n parts))) (held (drop n queues) x) (held (drop n queues) y) (a +ℤ low) (b +ℤ high)
-spread-drop term [] d [] x y n a b low high small same span spread = absurd (omega arith)
-spread-drop term [] d (queue ∷ queues) x y n a b low high small same span spread = absurd (omega arith)
-spread-drop term (part ∷ parts) d [] x y n a b low high small same span spread = absurd (omega arith)
-spread-drop term (part ∷ parts) d (queue ∷ queues) x y zero a b low high small same span spread =
-    spread-cons (term part) (slice_index x queue) (slice_index y queue) (map term parts) (held queues x) (held queues y) a b low high span spread
+spread-drop term (part ∷ parts) d (queue ∷ queues) x y zero a b low high small same span spread = search (rules, spread-cons)
 spread-drop term (part ∷ parts) d (queue ∷ queues) x y (suc n) a b low high small same span spread =
     spread-drop term parts d queues x y n a b low high (omega arith) (omega arith) span spread
+spread-drop term parts d queues x y n a b low high small same span spread = absurd (omega arith)
 
 pub spread-end : {A : Type 0} (term : A → ℕ → ℤ) (parts : List A) (queues x y : List ℕ) → length parts ≡ length queues
     → IsSpread (added (map term (drop (length queues) parts))) (held (drop (length queues) queues) x) (held (drop (length queues) queues) y) (pos 0) (pos 0)
 spread-end term [] [] x y same = spread-none
-spread-end term [] (queue ∷ queues) x y same = absurd (omega arith)
-spread-end term (part ∷ parts) [] x y same = absurd (omega arith)
 spread-end term (part ∷ parts) (queue ∷ queues) x y same = spread-end term parts queues x y (omega arith)
+spread-end term parts queues x y same = absurd (omega arith)
 
 -- the values at two of the numbers are below all and above all
 span-ends : (f : ℕ → ℤ) (l h a b : ℕ) (low high : ℤ) → (l ≤ a) × (a ≤ h) → (l ≤ b) × (b ≤ h) → low ≡ f a → high ≡ f b → ((v : ℕ) → l ≤ v → v ≤ h → f a ≤ℤ f v)
     → ((v : ℕ) → l ≤ v → v ≤ h → f v ≤ℤ f b) → IsSpan f l h low high
-span-ends f l h a b low high first last low_is high_is above below = record {
-  above = λ v more less. (let own = above v more less in omega (arith, ints));
-  below = λ v more less. (let own = below v more less in omega (arith, ints));
-  low_at = (a, first.0, first.1, sym low_is);
-  high_at = (b, last.0, last.1, sym high_is);
-}
+span-ends f l h a b low high first last low_is high_is above below = search rules
 
 -- a number of customers with a weight is least and greatest at the ends
 pub weighted-span : (weight : ℤ) (l h : ℕ) → l ≤ h
     → IsSpan (weighted weight) l h (int_min (weighted weight l) (weighted weight h)) (int_max (weighted weight l) (weighted weight h))
-weighted-span (pos n) l h ordered =
-    let rises : weighted (pos n) l ≤ℤ weighted (pos n) h = weighted-rises n l h ordered in
-    span-ends (weighted (pos n)) l h l h _ _ (omega arith, ordered) (ordered, omega arith) (int_min-is_left (weighted (pos n) l) (weighted (pos n) h) rises)
-    (int_max-is_right (weighted (pos n) l) (weighted (pos n) h) rises) (λ v low high. weighted-rises n l v low) (λ v low high. weighted-rises n v h high)
-weighted-span (negsuc n) l h ordered =
-    let falls : weighted (negsuc n) h ≤ℤ weighted (negsuc n) l = weighted-falls n l h ordered in
-    span-ends (weighted (negsuc n)) l h h l _ _ (ordered, omega arith) (omega arith, ordered) (int_min-is_right (weighted (negsuc n) l) (weighted (negsuc n) h) falls)
-    (int_max-is_left (weighted (negsuc n) l) (weighted (negsuc n) h) falls) (λ v low high. weighted-falls n v h high) (λ v low high. weighted-falls n l v low)
+weighted-span (pos n) l h ordered = search (rules, weighted-rises, span-ends, int_min-is_left, int_max-is_right)
+weighted-span (negsuc n) l h ordered = search (rules, weighted-falls, span-ends, int_min-is_right, int_max-is_left)
 
 -- the same in the words of a loop that goes from the last place to the first
 pub sum-step : {A : Type 0} (term : A → ℕ → ℤ) (parts : List A) (d : A) (queues x : List ℕ) (place : ℕ) (value sum : ℤ) → 0 < place → place ≤ length queues → length parts ≡ length queues
     → value ≡ term (slice_index_or parts (place - 1) d) (slice_index x (slice_index queues (place - 1)))
     → sum ≡ added (map term (drop place parts)) (held (drop place queues) x)
     → value +ℤ sum ≡ added (map term (drop (place - 1) parts)) (held (drop (place - 1) queues) x)
-sum-step term parts d queues x zero value sum some within same value_is is = absurd (omega arith)
-sum-step term parts d queues x (suc n) value sum some within same value_is is =
-    let e : suc n - 1 ≡ n = omega arith in
-    let at : value ≡ term (slice_index_or parts n d) (slice_index x (slice_index queues n)) = rw e at value_is in
-    rw e (ap (λ v. v +ℤ sum) at ∙ (ap (λ s. term (slice_index_or parts n d) (slice_index x (slice_index queues n)) +ℤ s) is ∙ sym (added-drop term parts d queues x n (omega arith) same)))
+sum-step term parts d queues x place value sum some within same value_is is = grind (arith, added-drop)
 
 pub spread-step : {A : Type 0} (term : A → ℕ → ℤ) (parts : List A) (d : A) (queues x y : List ℕ) (place : ℕ) (a b low high : ℤ) → 0 < place → place ≤ length queues → length parts ≡ length queues
     → IsSpan (term (slice_index_or parts (place - 1) d)) (slice_index x (slice_index queues (place - 1))) (slice_index y (slice_index queues (place - 1))) a b
@@ -133,19 +103,16 @@ spread-step term parts d queues x y (suc n) a b low high some within same span s
 -- at the loop's start nothing is added yet, and at its end all is
 pub sum-start : {A : Type 0} (term : A → ℕ → ℤ) (parts : List A) (queues x : List ℕ) (place : ℕ) → place ≡ length queues → length parts ≡ length queues
     → pos 0 ≡ added (map term (drop place parts)) (held (drop place queues) x)
-sum-start term parts queues x place is same =
-    sym (ap (λ n. added (map term (drop n parts)) (held (drop n queues) x)) is ∙ added-none term parts queues x same)
+sum-start term parts queues x place is same = grind (arith, added-none)
 
 pub spread-start : {A : Type 0} (term : A → ℕ → ℤ) (parts : List A) (queues x y : List ℕ) (place : ℕ) → place ≡ length queues → length parts ≡ length queues
     → IsSpread (added (map term (drop place parts))) (held (drop place queues) x) (held (drop place queues) y) (pos 0) (pos 0)
-spread-start term parts queues x y place is same =
-    subst (λ n. IsSpread (added (map term (drop n parts))) (held (drop n queues) x) (held (drop n queues) y) (pos 0) (pos 0)) (sym is) (spread-end term parts queues x y same)
+spread-start term parts queues x y place is same = grind (arith, spread-end term parts queues x y same)
 
 pub spread-whole : {A : Type 0} (term : A → ℕ → ℤ) (parts : List A) (queues x y : List ℕ) (place : ℕ) (low high : ℤ) → place ≡ 0
     → IsSpread (added (map term (drop place parts))) (held (drop place queues) x) (held (drop place queues) y) low high
     → IsSpread (added (map term parts)) (held queues x) (held queues y) low high
-spread-whole term parts queues x y place low high is spread =
-    subst (λ n. IsSpread (added (map term (drop n parts))) (held (drop n queues) x) (held (drop n queues) y) low high) is spread
+spread-whole term parts queues x y place low high is spread = search rules
 
 -- a span at numbers that are computed otherwise
 pub span-same : (f : ℕ → ℤ) (l h : ℕ) (low high a b : ℤ) → a ≡ low → b ≡ high → IsSpan f l h low high → IsSpan f l h a b
@@ -157,32 +124,8 @@ spread-same f ls hs low high a b first last spread = subst (λ z. IsSpread f ls 
 -- one number more
 pub span-more : (f : ℕ → ℤ) (l h : ℕ) (low high : ℤ) → l ≤ h → IsSpan f l h low high → IsSpan f l (h + 1) (int_min low (f (h + 1))) (int_max high (f (h + 1)))
 span-more f l h low high ordered span =
-    let low_left = int_min-left low (f (h + 1)) in
-    let low_right = int_min-right low (f (h + 1)) in
-    let high_left = int_max-left high (f (h + 1)) in
-    let high_right = int_max-right high (f (h + 1)) in
-    let low_at = span.low_at in
-    let high_at = span.high_at in
-    record {
-      above = λ v from to. elim (cases_eq v (h + 1)) [
-        | inl e ↦ (let d : f v ≡ f (h + 1) = ap f e in omega (arith, ints))
-        | inr ne ↦ (let old : low ≤ℤ f v = span.above v from (omega arith) in omega (arith, ints))
-      ];
-      below = λ v from to. elim (cases_eq v (h + 1)) [
-        | inl e ↦ (let d : f v ≡ f (h + 1) = ap f e in omega (arith, ints))
-        | inr ne ↦ (let old : f v ≤ℤ high = span.below v from (omega arith) in omega (arith, ints))
-      ];
-      low_at = elim (lesser low (f (h + 1))) [
-        | inl less ↦ (low_at.0, low_at.1, omega arith, low_at.3 ∙ sym (int_min-is_left low (f (h + 1)) less))
-        | inr more ↦ (h + 1, omega arith, omega arith, sym (int_min-is_right low (f (h + 1)) more))
-      ];
-      high_at = elim (lesser (f (h + 1)) high) [
-        | inl less ↦ (high_at.0, high_at.1, omega arith, high_at.3 ∙ sym (int_max-is_left high (f (h + 1)) less))
-        | inr more ↦ (h + 1, omega arith, omega arith, sym (int_max-is_right high (f (h + 1)) more))
-      ];
-    }
+    grind (arith, ints, int_min-left low (f (h + 1)), int_min-right low (f (h + 1)), int_max-left high (f (h + 1)), int_max-right high (f (h + 1)), lesser low (f (h + 1)), lesser (f (h + 1)) high)
 
 -- and one of a part and at ends that are given otherwise
 pub span-at : {A : Type 0} (term : A → ℕ → ℤ) (p q : A) (l m h k : ℕ) (a b : ℤ) → p ≡ q → l ≡ m → h ≡ k → IsSpan (term p) l h a b → IsSpan (term q) m k a b
-span-at term p q l m h k a b part low high span =
-    subst (λ r. IsSpan (term r) m k a b) part (subst (λ n. IsSpan (term p) n k a b) low (subst (λ n. IsSpan (term p) l n a b) high span))
+span-at term p q l m h k a b part low high span = search rules

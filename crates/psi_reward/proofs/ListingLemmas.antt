@@ -1,9 +1,10 @@
 -- The numbers that the states of a box hold in distinct queues: all lists between those of its corners.
-use Rattle.std.specs.Prelude.{◌≡◌, ℕ, suc, ◌<◌, ◌≤◌, ℤ, List, [], ◌∷◌, length, slice_index, slice_set, All, false, nat_eq, refl}
+use Rattle.std.specs.Prelude.{◌≡◌, ℕ, suc, ◌<◌, ◌≤◌, ℤ, List, ◌∷◌, length, slice_index, slice_set, All, false, nat_eq, refl, []}
 use Rattle.std.specs.List.{list_any}
-use Rattle.std.proofs.Common.{inl, inr, ap, ◌∙◌, subst, arith}
+use Rattle.std.proofs.Common.{inl, inr, ◌∙◌, arith}
 use Rattle.std.proofs.lemmas.Bool.{eqb-false, or_parts}
 use Rattle.std.proofs.lemmas.List.{get_or-set_same, get_or-set_other}
+use Rattle.std.proofs.lemmas.Grind.{common_steps}
 use Rattle.psi_state.specs.State.{IsBelow, box}
 use Rattle.psi_state.specs.Members.{In}
 use Rattle.psi_state.specs.Repeats.{repeats}
@@ -66,18 +67,13 @@ held-all (queue ∷ queues) l h (v ∷ vs) once listed ordered between =
 
 reached-from : (f : List ℕ → ℤ) (queues l h : List ℕ) (z : ℤ) → repeats queues ≡ false → AreListed (length l) queues → IsBelow l h
     → (vs : List ℕ) → IsBetween (held queues l) (held queues h) vs → f vs ≡ z → IsReached (λ x. f (held queues x)) (box l h) z
-reached-from f queues l h z once listed ordered vs between is =
-    let found = held-all queues l h vs once listed ordered between in
-    (found.0, In-box l h found.0 found.1.low found.1.high, ap f found.2 ∙ is)
+reached-from f queues l h z once listed ordered vs between is = grind (arith, held-all, In-box)
 
 held-between : (queues l h x : List ℕ) → AreListed (length l) queues → In x (box l h) → IsBetween (held queues l) (held queues h) (held queues x)
 held-between queues l h x listed member =
     let between = In-of_box l h x member in
     let count : length l ≡ length x = between.low.same_length in
-    record {
-      low = held-below queues l x listed between.low;
-      high = held-below queues x h (subst (λ n. AreListed n queues) count listed) between.high;
-    }
+    grind (arith, common_steps, held-below)
 
 -- so the range of a function of the numbers held is that of the function between the numbers that the corners hold
 pub range-from_spread : (f : List ℕ → ℤ) (queues l h : List ℕ) (low high : ℤ) → repeats queues ≡ false → AreListed (length l) queues → IsBelow l h

@@ -1,7 +1,7 @@
 -- The greatest and the least number held, and how many are above a level, rise with the numbers: so their ranges are those of the corners.
-use Rattle.std.specs.Prelude.{◌≡◌, ℕ, suc, ◌+◌, ◌≤◌, ℤ, pos, ◌≤ℤ◌, List, [], ◌∷◌, length, map, count_by, nat_lt, cond, true, false, refl}
+use Rattle.std.specs.Prelude.{◌≡◌, ℕ, suc, ◌+◌, ◌≤◌, ℤ, pos, ◌≤ℤ◌, List, ◌∷◌, length, map, count_by, nat_lt, cond, refl, []}
 use Rattle.std.specs.Int.{int_min, int_max}
-use Rattle.std.proofs.Common.{inl, inr, arith, lt-ltb, le-ltb}
+use Rattle.std.proofs.Common.{arith, lt-ltb, le-ltb}
 use Rattle.std.proofs.lemmas.Bool.{cases_lt}
 use Rattle.std.proofs.lemmas.Int.{ints}
 use Rattle.std.proofs.lemmas.List.Sums.{sum_by-cons}
@@ -17,30 +17,17 @@ pub record IsRising (f : List ℕ → ℤ) : Type 0 where
 
 -- so its least and greatest values are those of the corners
 pub spread-rising : (f : List ℕ → ℤ) (ls hs : List ℕ) → IsRising f → IsBelow ls hs → IsSpread f ls hs (f ls) (f hs)
-spread-rising f ls hs rising ordered = record {
-  above = λ vs between. rising.each ls vs between.low;
-  below = λ vs between. rising.each vs hs between.high;
-  low_at = (ls, record { low = below-itself ls; high = ordered }, refl);
-  high_at = (hs, record { low = ordered; high = below-itself hs }, refl);
-}
+spread-rising f ls hs rising ordered = grind (arith, below-itself)
 
 -- what joins the first number with that of the rest rises with the numbers
 joined-below : (f : List ℤ → ℤ) (join : ℤ → ℤ → ℤ) → ((z : ℤ) → f (z ∷ []) ≡ z) → ((z y : ℤ) (ys : List ℤ) → f (z ∷ y ∷ ys) ≡ join z (f (y ∷ ys)))
     → ((a b c d : ℤ) → a ≤ℤ c → b ≤ℤ d → join a b ≤ℤ join c d) → (vs ws : List ℕ) → IsBelow vs ws → f (map pos vs) ≤ℤ f (map pos ws)
 joined-below f join one more monotone [] [] below = omega (arith, ints)
-joined-below f join one more monotone [] (w ∷ ws) below = absurd (let e : 0 ≡ suc (length ws) = below.same_length in omega arith)
-joined-below f join one more monotone (v ∷ vs) [] below = absurd (let e : suc (length vs) ≡ 0 = below.same_length in omega arith)
-joined-below f join one more monotone (v ∷ []) (w ∷ []) below =
-    let first : v ≤ w = below-head v [] w [] below in
-    rw (one (pos v), one (pos w)) (omega (arith, ints))
-joined-below f join one more monotone (v ∷ []) (w ∷ u ∷ ws) below = absurd (let e : 1 ≡ suc (suc (length ws)) = below.same_length in omega arith)
-joined-below f join one more monotone (v ∷ u ∷ vs) (w ∷ []) below = absurd (let e : suc (suc (length vs)) ≡ 1 = below.same_length in omega arith)
+joined-below f join one more monotone (v ∷ []) (w ∷ []) below = grind (arith, ints, below-head v [] w [] below)
 joined-below f join one more monotone (v ∷ u ∷ vs) (w ∷ t ∷ ws) below =
-    let first : v ≤ w = below-head v (u ∷ vs) w (t ∷ ws) below in
-    let own : pos v ≤ℤ pos w = omega (arith, ints) in
-    rw (more (pos v) (pos u) (map pos vs), more (pos w) (pos t) (map pos ws))
-    (monotone (pos v) (f (map pos (u ∷ vs))) (pos w) (f (map pos (t ∷ ws))) own
-    (joined-below f join one more monotone (u ∷ vs) (t ∷ ws) (below-tail v (u ∷ vs) w (t ∷ ws) below)))
+    let rest = below-tail v (u ∷ vs) w (t ∷ ws) below in
+    grind (arith, ints, below-head v (u ∷ vs) w (t ∷ ws) below, joined-below f join one more monotone (u ∷ vs) (t ∷ ws) rest)
+joined-below f join one more monotone vs ws below = absurd (omega (arith, below.same_length))
 
 greatest-below : (vs ws : List ℕ) → IsBelow vs ws → greatest (map pos vs) ≤ℤ greatest (map pos ws)
 greatest-below vs ws below = joined-below greatest int_max (λ z. refl) (λ z y ys. refl) int_max-monotone vs ws below
@@ -52,21 +39,13 @@ count-cons : (level v : ℕ) (vs : List ℕ) → count_by (λ n. nat_lt level n)
 count-cons level v vs = sum_by-cons (λ n. cond (nat_lt level n) 1 0) v vs
 
 one-below : (level v w : ℕ) → v ≤ w → cond (nat_lt level v) 1 0 ≤ cond (nat_lt level w) 1 0
-one-below level v w ordered = elim (cases_lt level v) [
-  | inl more ↦ (let first : nat_lt level v ≡ true = lt-ltb level v more in let last : nat_lt level w ≡ true = lt-ltb level w (omega arith) in
-      rw (first, last) (omega arith))
-  | inr less ↦ (let first : nat_lt level v ≡ false = le-ltb level v less in rw first (omega arith))
-]
+one-below level v w ordered = grind (arith, cases_lt, lt-ltb, le-ltb)
 
 count-below : (level : ℕ) (vs ws : List ℕ) → IsBelow vs ws → count_by (λ n. nat_lt level n) vs ≤ count_by (λ n. nat_lt level n) ws
 count-below level [] ws below = omega arith
 count-below level (v ∷ vs) [] below = absurd (let e : suc (length vs) ≡ 0 = below.same_length in omega arith)
 count-below level (v ∷ vs) (w ∷ ws) below =
-    let rest : count_by (λ n. nat_lt level n) vs ≤ count_by (λ n. nat_lt level n) ws = count-below level vs ws (below-tail v vs w ws below) in
-    let one : cond (nat_lt level v) 1 0 ≤ cond (nat_lt level w) 1 0 = one-below level v w (below-head v vs w ws below) in
-    let first = count-cons level v vs in
-    let last = count-cons level w ws in
-    omega (arith, first, last, rest, one)
+    grind (arith, count-below level vs ws (below-tail v vs w ws below), one-below level v w (below-head v vs w ws below), count-cons level v vs, count-cons level w ws)
 
 pub greatest-rising : IsRising (λ vs. greatest (map pos vs))
 greatest-rising = record { each = greatest-below }

@@ -1,8 +1,8 @@
 -- Integers: absolute values, products with a number, the lesser and the greater of two.
-use Rattle.std.specs.Prelude.{◌≡◌, ℕ, suc, ◌+◌, ◌-◌, ◌*◌, ◌<◌, ◌≤◌, ◌⊎◌, ℤ, pos, negsuc, ◌+ℤ◌, ◌*ℤ◌, ◌≤ℤ◌, unsigned_abs}
+use Rattle.std.specs.Prelude.{◌≡◌, ℕ, ◌+◌, ◌-◌, ◌*◌, ◌<◌, ◌≤◌, ◌⊎◌, ℤ, pos, negsuc, ◌+ℤ◌, ◌*ℤ◌, ◌≤ℤ◌, unsigned_abs}
 use Rattle.std.specs.Int.{int_min, int_max}
-use Rattle.std.proofs.Common.{inl, inr, arith, mul-le-mul_left}
-use Rattle.std.proofs.Math.IntN.{pos-*ℤ-pos, negsuc-*ℤ-pos}
+use Rattle.std.proofs.Common.{inl, inr, arith, mul-le-mul_left, rules}
+use Rattle.std.proofs.Math.IntN.{negsuc-*ℤ-pos}
 use Rattle.std.proofs.lemmas.Int.{ints, clamps, by_lt_z}
 
 pub unsigned_abs-add : (a b : ℤ) → unsigned_abs (a +ℤ b) ≤ unsigned_abs a + unsigned_abs b
@@ -11,9 +11,7 @@ unsigned_abs-add a b = omega (arith, ints)
 -- a sum that goes from the last place on stays within what is left for the places before
 pub few-step : (place n : ℕ) (sum value rest : ℤ) → sum ≡ value +ℤ rest → unsigned_abs value ≤ 65535000000000 → 0 < place
     → unsigned_abs rest + place * 65535000000000 ≤ n * 65535000000000 → unsigned_abs sum + (place - 1) * 65535000000000 ≤ n * 65535000000000
-few-step place n sum value rest is few some left =
-    let most : unsigned_abs sum ≤ unsigned_abs value + unsigned_abs rest = rw is (unsigned_abs-add value rest) in
-    omega arith
+few-step place n sum value rest is few some left = grind (arith, unsigned_abs-add)
 
 pub int_min-left : (a b : ℤ) → int_min a b ≤ℤ a
 int_min-left a b = omega (arith, ints, clamps)
@@ -51,11 +49,7 @@ lesser a b = by_lt_z a b (λ less. inl (omega (arith, ints))) (λ more. inr more
 
 -- a weight that isn't negative rises with the number, one that is negative falls
 pub weighted-rises : (n v w : ℕ) → v ≤ w → (pos n *ℤ pos v) ≤ℤ (pos n *ℤ pos w)
-weighted-rises n v w ordered =
-    let product : n * v ≤ n * w = mul-le-mul_left n ordered in
-    rw (pos-*ℤ-pos n v, pos-*ℤ-pos n w) (omega (arith, ints))
+weighted-rises n v w ordered = search (rules, mul-le-mul_left)
 
 pub weighted-falls : (n v w : ℕ) → v ≤ w → (negsuc n *ℤ pos w) ≤ℤ (negsuc n *ℤ pos v)
-weighted-falls n v w ordered =
-    let product : suc n * v ≤ suc n * w = mul-le-mul_left (suc n) ordered in
-    rw (negsuc-*ℤ-pos n v, negsuc-*ℤ-pos n w) (omega (arith, ints))
+weighted-falls n v w ordered = search (rules, mul-le-mul_left, negsuc-*ℤ-pos)
