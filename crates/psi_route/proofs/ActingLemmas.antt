@@ -1,7 +1,7 @@
 -- Lemmas. What a route does to a state, place by place.
-use Rattle.std.specs.Prelude.{◌≡◌, ◌≢◌, ◌⊎◌, ℕ, zero, suc, ◌+◌, ◌-◌, ◌<◌, ◌≤◌, List, length, slice_index, slice_set, Option, Some, None, Bool, true, false, ◌&&◌, ◌||◌, nat_eq, nat_lt, is_none, if◌then◌else◌, refl}
+use Rattle.std.specs.Prelude.{◌≡◌, ◌≢◌, ◌⊎◌, ℕ, zero, suc, ◌+◌, ◌-◌, ◌<◌, ◌≤◌, List, length, slice_index, slice_set, Option, Some, None, Bool, true, false, ◌&&◌, ◌||◌, nat_eq, nat_lt, is_none, if◌then◌else◌}
 use Rattle.std.specs.Bool.{then_some}
-use Rattle.std.proofs.Common.{inl, inr, ap, sym, ◌∙◌, subst, arith, length-set, get_or-set_same, get_or-set_other}
+use Rattle.std.proofs.Common.{inl, inr, ap, sym, ◌∙◌, subst, arith, length-set, get_or-set_same, get_or-set_other, rules}
 use Rattle.std.proofs.lemmas.Bool.{cases_lt, cases_eq, cases_order, cases_Bool, lt-ltb, le-ltb, le-leb, lt-leb, eq-eqb, ne_eqb, and_left, and_right, and_from, or_left, or_right, or_from}
 use Rattle.std.proofs.lemmas.List.{set_past}
 use Rattle.psi_event.proofs.ChoiceLemmas.{all_or_some, first_some-none, first_some-found, first_some-of_none}
@@ -17,12 +17,10 @@ pub then_some-false : {A : Type 0} (b : Bool) (a : A) → b ≡ false → then_s
 then_some-false b a is = ap (λ t. then_some t a) is
 
 pub false-then_some : {A : Type 0} (b : Bool) (a : A) → then_some b a ≡ None → b ≡ false
-false-then_some true a is = absurd cc
-false-then_some false a is = refl
+false-then_some b a is = grind arith
 
 pub none-is : {A : Type 0} (o : Option A) → is_none o ≡ true → o ≡ None
-none-is None is = refl
-none-is (Some a) is = absurd cc
+none-is o is = grind arith
 
 pub is-none : {A : Type 0} (o : Option A) → o ≡ None → is_none o ≡ true
 is-none o is = ap (λ t. is_none t) is
@@ -41,47 +39,21 @@ room_or_lacks r i v =
 
 -- one place more, which lacks room
 pub no_room-more : (r : Routing) (x : List ℕ) (n : ℕ) → NoRoom r x n → Lacks r n (slice_index x (r.queue n)) → NoRoom r x (suc n)
-no_room-more r x n before lacks = record {
-  each = λ i small. elim (cases_lt i n) [
-    | inl less ↦ before.each i less
-    | inr more ↦ (let e : n ≡ i = omega arith in subst (λ k. Lacks r k (slice_index x (r.queue k))) e lacks)
-  ];
-}
+no_room-more r x n before lacks = search (rules, cases_lt)
 
 -- which has room as the first one
 pub leads-first : (r : Routing) (x : List ℕ) (n : ℕ) → NoRoom r x n → HasRoom r n (slice_index x (r.queue n)) → Leads r x (suc n) n
-leads-first r x n before room = record {
-  place = omega arith;
-  room = room;
-  others = λ i small other. inl (before.each i (let apart : i ≢ n = other in omega arith));
-}
+leads-first r x n before room = search rules
 
 -- which lacks room, or has a greater key than the best one
 pub leads-still : (r : Routing) (x : List ℕ) (n j : ℕ) → Leads r x n j
     → Lacks r n (slice_index x (r.queue n)) ⊎ (r.key j (slice_index x (r.queue j)) < r.key n (slice_index x (r.queue n))) → Leads r x (suc n) j
-leads-still r x n j best passed = record {
-  place = (let place : j < n = best.place in omega arith);
-  room = best.room;
-  others = λ i small other. elim (cases_lt i n) [
-    | inl less ↦ best.others i less other
-    | inr more ↦ (let e : n ≡ i = omega arith in
-        subst (λ k. Lacks r k (slice_index x (r.queue k)) ⊎ (r.key j (slice_index x (r.queue j)) < r.key k (slice_index x (r.queue k)))) e passed)
-  ];
-}
+leads-still r x n j best passed = search (rules, cases_lt)
 
 -- which has room and a lesser key than the best one
 pub leads-anew : (r : Routing) (x : List ℕ) (n j : ℕ) → Leads r x n j → HasRoom r n (slice_index x (r.queue n))
     → r.key n (slice_index x (r.queue n)) < r.key j (slice_index x (r.queue j)) → Leads r x (suc n) n
-leads-anew r x n j best room less = record {
-  place = omega arith;
-  room = room;
-  others = λ i small other. (let apart : i ≢ n = other in
-      let within : i < n = omega arith in
-      elim (cases_eq i j) [
-        | inl e ↦ inr (subst (λ k. r.key n (slice_index x (r.queue n)) < r.key k (slice_index x (r.queue k))) (sym e) less)
-        | inr ne ↦ elim (best.others i within ne) [ inl lacks ↦ inl lacks | inr more ↦ inr (omega (arith, less, more)) ]
-      ]);
-}
+leads-anew r x n j best room less = search (rules, cases_eq)
 
 -- among the first places one is the best, or none has room
 pub leader : (r : Routing) (x : List ℕ) (n : ℕ) → IsRouting r → n ≤ r.places → ((j : ℕ) × Leads r x n j) ⊎ NoRoom r x n
@@ -111,11 +83,7 @@ best-from_leads r x j lead = record { place = lead.place; room = lead.room; othe
 
 -- so one place is the chosen one, or none has room
 pub best_or_none : (r : Routing) (x : List ℕ) → IsRouting r → ((j : ℕ) × IsBest r x j) ⊎ NoRoom r x r.places
-best_or_none r x is =
-    elim (leader r x r.places is (omega arith)) [
-      | inl found ↦ inl (found.0, best-from_leads r x found.0 found.1)
-      | inr none_has ↦ inr none_has
-    ]
+best_or_none r x is = search (rules, leader, best-from_leads)
 
 -- each place is the chosen one or is passed over
 pub best_or_passed : (r : Routing) (x : List ℕ) (j : ℕ) → IsRouting r → j < r.places → IsBest r x j ⊎ IsPassed r x j
@@ -147,51 +115,19 @@ best_or_passed r x j is place =
 
 -- the chosen place isn't passed over
 pub best-apart : (r : Routing) (x : List ℕ) (j : ℕ) → IsBest r x j → IsPassed r x j → ⊥
-best-apart r x j best passed =
-    elim passed [
-      | inl lacks ↦ absurd (omega (arith, lacks, best.room))
-      | inr found ↦ elim (best.others found.0 found.1 found.2) [
-        | inl lacks ↦ absurd (omega (arith, lacks, found.3))
-        | inr more ↦ absurd (omega (arith, more, found.4))
-      ]
-    ]
+best-apart r x j best passed = search rules
 
 -- no two places are chosen
 pub best-once : (r : Routing) (x : List ℕ) (i j : ℕ) → IsBest r x i → IsBest r x j → i ≡ j
-best-once r x i j first second =
-    elim (cases_eq i j) [
-      | inl e ↦ e
-      | inr ne ↦ absurd (elim (first.others j second.place (λ e. ne (sym e))) [
-        | inl lacks ↦ absurd (omega (arith, lacks, second.room))
-        | inr less ↦ elim (second.others i first.place ne) [
-          | inl lacks ↦ absurd (omega (arith, lacks, first.room))
-          | inr more ↦ absurd (omega (arith, less, more))
-        ]
-      ])
-    ]
+best-once r x i j first second = search (rules, cases_eq)
 
 -- ---- the function that chooses
 
 beats-not : (r : Routing) (x : List ℕ) (i j : ℕ) → IsBest r x j → i < r.places → beats r x j i ≡ false
-beats-not r x i j best small =
-    elim (cases_eq i j) [
-      | inl e ↦ and_right (has_room r x i) (nat_lt (r.key i (slice_index x (r.queue i))) (r.key j (slice_index x (r.queue j))))
-          (subst (λ k. nat_lt (r.key k (slice_index x (r.queue k))) (r.key j (slice_index x (r.queue j))) ≡ false) (sym e)
-          (le-ltb (r.key j (slice_index x (r.queue j))) (r.key j (slice_index x (r.queue j))) (omega arith)))
-      | inr ne ↦ elim (best.others i small ne) [
-        | inl lacks ↦ and_left (has_room r x i) (nat_lt (r.key i (slice_index x (r.queue i))) (r.key j (slice_index x (r.queue j)))) (lacks-is r x i lacks)
-        | inr more ↦ and_right (has_room r x i) (nat_lt (r.key i (slice_index x (r.queue i))) (r.key j (slice_index x (r.queue j))))
-            (le-ltb (r.key i (slice_index x (r.queue i))) (r.key j (slice_index x (r.queue j))) (omega (arith, more)))
-      ]
-    ]
+beats-not r x i j best small = search (rules, cases_eq, and_right, le-ltb, and_left, lacks-is)
 
 best_at-best : (r : Routing) (x : List ℕ) (j : ℕ) → IsBest r x j → best_at r x j ≡ Some j
-best_at-best r x j best =
-    let quiet : first_some (λ i. then_some (beats r x j i) i) 0 r.places ≡ None =
-    first_some-none (λ i. then_some (beats r x j i) i) 0 r.places (λ i low high. then_some-false (beats r x j i) i (beats-not r x i j best (omega arith))) in
-    then_some-true (has_room r x j && is_none (first_some (λ i. then_some (beats r x j i) i) 0 r.places)) j
-    (and_from (has_room r x j) (is_none (first_some (λ i. then_some (beats r x j i) i) 0 r.places)) (room-is r x j best.room)
-    (is-none (first_some (λ i. then_some (beats r x j i) i) 0 r.places) quiet))
+best_at-best r x j best = search (rules, first_some-none, then_some-false, beats-not, then_some-true, and_from, room-is, is-none)
 
 best_at-lacks : (r : Routing) (x : List ℕ) (j : ℕ) → Lacks r j (slice_index x (r.queue j)) → best_at r x j ≡ None
 best_at-lacks r x j lacks =
@@ -282,26 +218,11 @@ leaves_or_remains r x =
     ]
 
 leaves-apart : (r : Routing) (x : List ℕ) → Leaves r x → Remains r x → ⊥
-leaves-apart r x leaves remains =
-    elim leaves [
-      | inl lost ↦ absurd (let stays : r.lost ≡ false = remains.0 in cc)
-      | inr rest ↦ elim rest [
-        | inl empty ↦ absurd (omega (arith, remains.1))
-        | inr found ↦ absurd (let lacks = remains.2 found.0 found.1 in omega (arith, lacks, found.2))
-      ]
-    ]
+leaves-apart r x leaves remains = search rules
 
 -- nothing happens where the source doesn't serve
 routed-idle : (r : Routing) (x : List ℕ) → length x ≡ r.queues → slice_index x r.source < r.least → Routed r x x
-routed-idle r x count idle = record {
-  long = count;
-  idle = λ h. refl;
-  gains = λ j serves chosen. absurd (omega arith);
-  stays = λ j place passed. refl;
-  takes = λ small serves leaves. absurd (omega arith);
-  keeps = λ remains. refl;
-  others = λ p away free. refl;
-}
+routed-idle r x count idle = search rules
 
 routed-some : (r : Routing) (x : List ℕ) (j : ℕ) → IsRouting r → length x ≡ r.queues → r.least ≤ slice_index x r.source → IsBest r x j
     → Routed r x (slice_set (taken r x) (r.queue j) (slice_index x (r.queue j) + r.size))
@@ -333,27 +254,10 @@ routed-some r x j is count serves chosen =
 
 routed-lost : (r : Routing) (x : List ℕ) → IsRouting r → length x ≡ r.queues → r.least ≤ slice_index x r.source → NoRoom r x r.places
     → (Remains r x → ⊥) → Routed r x (taken r x)
-routed-lost r x is count serves none_has gone = record {
-  long = length-taken r x ∙ count;
-  idle = λ h. absurd (omega arith);
-  gains = λ j again chosen. absurd (let lacks = none_has.each j chosen.place in omega (arith, lacks, chosen.room));
-  stays = λ j place passed. taken-other r x (r.queue j) (is.no_source j place);
-  takes = λ small again leaves. (let less : slice_index (taken r x) r.source ≡ slice_index x r.source - 1 = taken-same r x (omega arith) in
-      let some : 1 ≤ r.least = is.counts small in omega arith);
-  keeps = λ remains. absurd (gone remains);
-  others = λ p away free. taken-other r x p away;
-}
+routed-lost r x is count serves none_has gone = search (rules, length-taken, taken-other, taken-same)
 
 routed-stay : (r : Routing) (x : List ℕ) → length x ≡ r.queues → r.least ≤ slice_index x r.source → Remains r x → Routed r x x
-routed-stay r x count serves remains = record {
-  long = count;
-  idle = λ h. refl;
-  gains = λ j again chosen. absurd (let lacks = remains.2 j chosen.place in omega (arith, lacks, chosen.room));
-  stays = λ j place passed. refl;
-  takes = λ small again leaves. absurd (leaves-apart r x leaves remains);
-  keeps = λ r2. refl;
-  others = λ p away free. refl;
-}
+routed-stay r x count serves remains = search (rules, leaves-apart)
 
 -- what the route does to a state, as a relation
 pub act-routed : (r : Routing) → IsRouting r → (x : List ℕ) → length x ≡ r.queues → Routed r x (act r x)

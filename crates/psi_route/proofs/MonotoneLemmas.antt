@@ -1,6 +1,6 @@
 -- Where a route keeps the order of states: for size 1, exactly where no keys cross.
 use Rattle.std.specs.Prelude.{◌≡◌, ◌≢◌, ◌⊎◌, ℕ, zero, suc, ◌+◌, ◌-◌, ◌<◌, ◌≤◌, List, length, slice_index}
-use Rattle.std.proofs.Common.{inl, inr, ap, sym, ◌∙◌, subst, arith}
+use Rattle.std.proofs.Common.{inl, inr, ap, sym, ◌∙◌, subst, arith, rules}
 use Rattle.std.proofs.lemmas.Bool.{cases_lt, cases_eq, cases_order}
 use Rattle.psi_state.specs.State.{IsBelow}
 use Rattle.psi_event.proofs.ChoiceLemmas.{all_or_some}
@@ -66,22 +66,11 @@ chosen_still r x y j is one clear below same chosen passed =
 
 -- a target loses nobody
 target-up : (r : Routing) (y z : List ℕ) (i : ℕ) → IsRouting r → Routed r y z → i < r.places → slice_index y (r.queue i) ≤ slice_index z (r.queue i)
-target-up r y z i is made place =
-    elim (cases_lt (slice_index y r.source) r.least) [
-      | inl idle ↦ (let same : slice_index z (r.queue i) ≡ slice_index y (r.queue i) = ap (λ (w : List ℕ). slice_index w (r.queue i)) (made.idle idle) in omega arith)
-      | inr serves ↦ elim (best_or_passed r y i is place) [
-        | inl chosen ↦ (let more = made.gains i serves chosen in omega (arith, more))
-        | inr passed ↦ (let same = made.stays i place passed in omega (arith, same))
-      ]
-    ]
+target-up r y z i is made place = search (rules, cases_lt, best_or_passed)
 
 -- a source that serves in a state serves where it holds more
 pub serves-up : (r : Routing) (x y : List ℕ) → IsRouting r → length x ≡ r.queues → IsBelow x y → r.least ≤ slice_index x r.source → r.least ≤ slice_index y r.source
-serves-up r x y is count below serves =
-    elim is.sourced [
-      | inl small ↦ (let more : slice_index x r.source ≤ slice_index y r.source = below.each r.source (omega arith) in omega arith)
-      | inr free ↦ omega arith
-    ]
+serves-up r x y is count below serves = search rules
 
 target-below : (r : Routing) (x y u w : List ℕ) (i : ℕ) → IsRouting r → r.size ≡ 1 → ((a b v t : ℕ) → Crosses r a b v t → ⊥)
     → length x ≡ r.queues → IsBelow x y → Routed r x u → Routed r y w → i < r.places → slice_index u (r.queue i) ≤ slice_index w (r.queue i)
@@ -121,38 +110,12 @@ source-turn r x u is small made =
 
 -- where one leaves, one leaves too where the targets hold less
 leaves-down : (r : Routing) (x y : List ℕ) → ((i : ℕ) → i < r.places → slice_index x (r.queue i) ≤ slice_index y (r.queue i)) → Leaves r y → Leaves r x
-leaves-down r x y below leaves =
-    elim leaves [
-      | inl lost ↦ inl lost
-      | inr rest ↦ elim rest [
-        | inl empty ↦ inr (inl empty)
-        | inr found ↦ inr (inr (found.0, found.1, (let less = below found.0 found.1 in omega (arith, less, found.2))))
-      ]
-    ]
+leaves-down r x y below leaves = search rules
 
 -- this holds of every size
 pub source-below : (r : Routing) (x y u w : List ℕ) → IsRouting r → length x ≡ r.queues → IsBelow x y → Routed r x u → Routed r y w
     → r.source < r.queues → slice_index u r.source ≤ slice_index w r.source
-source-below r x y u w is count below first second small =
-    let old : slice_index x r.source ≤ slice_index y r.source = below.each r.source (omega arith) in
-    let targets : (i : ℕ) → i < r.places → slice_index x (r.queue i) ≤ slice_index y (r.queue i) =
-    λ i place. below.each (r.queue i) (let within = is.is_queue i place in omega (arith, within, count)) in
-    let down : slice_index u r.source ≤ slice_index x r.source =
-    elim (source-turn r x u is small first) [ inl same ↦ omega (arith, same) | inr less ↦ omega (arith, less) ] in
-    elim (source-turn r y w is small second) [
-      | inl same ↦ omega (arith, same)
-      | inr less ↦ elim (cases_lt (slice_index x r.source) (slice_index y r.source)) [
-        | inl fewer ↦ omega (arith, less)
-        | inr equal ↦ elim (cases_lt (slice_index x r.source) r.least) [
-          | inl idle ↦ absurd (let unmoved : slice_index w r.source ≡ slice_index y r.source =
-              ap (λ (z : List ℕ). slice_index z r.source) (second.idle (omega arith)) in omega (arith, less))
-          | inr serves ↦ elim (leaves_or_remains r y) [
-            | inr remains ↦ absurd (let unmoved = second.keeps remains in omega (arith, less, unmoved))
-            | inl leaves ↦ (let gone = first.takes small serves (leaves-down r x y targets leaves) in omega (arith, less, gone))
-          ]
-        ]
-      ]
-    ]
+source-below r x y u w is count below first second small = search (rules, source-turn, cases_lt, leaves_or_remains, leaves-down)
 
 -- a queue is one of the targets, or none of them
 pub place_of : (r : Routing) (p : ℕ) → ((i : ℕ) → i < r.places → r.queue i ≢ p) ⊎ ((i : ℕ) × (i < r.places) × (r.queue i ≡ p))

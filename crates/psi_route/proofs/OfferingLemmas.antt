@@ -1,5 +1,5 @@
 -- The least keys that places offer, and what they say of a target's number.
-use Rattle.std.proofs.Common.{◌≡◌, ◌≢◌, ◌⊎◌, ℕ, ◌+◌, ◌<◌, ◌≤◌, List, slice_index, Option, Some, None, is_none, if◌then◌else◌, MatchOption, inl, inr, sym, ◌∙◌, subst, arith}
+use Rattle.std.proofs.Common.{◌≡◌, ◌≢◌, ◌⊎◌, ℕ, ◌+◌, ◌<◌, ◌≤◌, List, slice_index, Option, Some, None, is_none, if◌then◌else◌, MatchOption, inl, inr, sym, ◌∙◌, subst, arith, rules}
 use Rattle.std.specs.Bool.{MatchBool}
 use Rattle.std.proofs.lemmas.Bool.{cases_lt, cases_eq, eq-eqb, ne_eqb}
 use Rattle.psi_route.specs.Routing.{Routing, HasRoom, Lacks}
@@ -16,10 +16,7 @@ NoLesser O key i = O i None ⊎ ((k : Key) × O i (Some k) × (key_of key ≤ ke
 -- the next place is left out, or changes nothing
 least-step : (O : ℕ → Option Key → Type 0) (n j : ℕ) (found : Option Key) → IsLeastOffer O n j found
     → (n ≢ j → MatchOption found (O n None) (λ best. NoLesser O best n)) → IsLeastOffer O (n + 1) j found
-least-step O n j None is last = λ i small ne. elim (cases_lt i n) [
-  | inl old ↦ is i old ne
-  | inr new ↦ (let e : n ≡ i = omega arith in subst (λ m. m ≢ j → O m None) e last ne)
-]
+least-step O n j None is last = search (rules, cases_lt)
 least-step O n j (Some best) is last = record {
   place = (let before = is.place in omega arith);
   other = is.other;
@@ -63,15 +60,7 @@ least-lesser O n j (Some best) key result is at apart own lesser =
 
 -- a place that offers none
 two-kept : (O : ℕ → Option Key → Type 0) (n : ℕ) (first second : Option Key) → AreLeastTwo O n first second → O n None → AreLeastTwo O (n + 1) first second
-two-kept O n None second two own = record { first_is = λ j past. least-step O n j None (two.first_is j (omega arith)) (λ ne. own); second_is = tt }
-two-kept O n (Some best) second two own = record {
-  first_is = λ j past. least-step O n j (Some best) (two.first_is j (omega arith)) (λ ne. inl own);
-  second_is = least-step O n best.place second two.second_is (λ ne. none second);
-}
-  where
-    none : (o : Option Key) → MatchOption o (O n None) (λ other. NoLesser O other n)
-    none None = own
-    none (Some other) = inl own
+two-kept O n first second two own = search (rules, least-step)
 
 -- one whose key isn't less than the least before
 two-old : (O : ℕ → Option Key → Type 0) (n : ℕ) (first second : Option Key) (key : Key) (next : Option Key) → AreLeastTwo O n first second → key.place ≡ n → O n (Some key)
@@ -143,31 +132,19 @@ least-beside O n j (Some key) second small two =
 
 -- a number can stay where the least rival key is less than its own
 pub passed-rival : (r : Routing) (l h : List ℕ) (j v : ℕ) (key : Key) → IsLeastOffer (IsRival r l h) r.places j (Some key) → key_of key < r.key j v → CanPass r l h j v
-passed-rival r l h j v key is less =
-    let own = is.own in
-    let met = own.met in
-    let same : r.key key.place met.0 ≡ key_of key = met.4 in
-    inr (inr (key.place, is.place, is.other, (met.0, met.1, met.2, met.3, omega arith)))
+passed-rival r l h j v key is less = search rules
 
 -- a target's number that passes where there is room and the source serves has a rival with a lesser key
 abbrev HasRival : Routing → List ℕ → List ℕ → ℕ → ℕ → Type 0
 HasRival r l h j v = (i : ℕ) × (i < r.places) × (i ≢ j) × ((w : ℕ) × (slice_index l (r.queue i) ≤ w) × (w ≤ slice_index h (r.queue i)) × HasRoom r i w × (r.key i w < r.key j v))
 
 passed-has_rival : (r : Routing) (l h : List ℕ) (j v : ℕ) → HasRoom r j v → r.least ≤ slice_index l r.source → CanPass r l h j v → HasRival r l h j v
-passed-has_rival r l h j v room serve can = elim can [
-  | inl lacks ↦ absurd (omega arith)
-  | inr rest ↦ elim rest [ inl idle ↦ absurd (omega arith) | inr found ↦ found ]
-]
+passed-has_rival r l h j v room serve can = search rules
 
 -- so it can't where no rival has a lesser key
 pub no_rival-passed : (r : Routing) (l h : List ℕ) (j v : ℕ) → IsLeastOffer (IsRival r l h) r.places j None → HasRoom r j v → r.least ≤ slice_index l r.source
     → CanPass r l h j v → ⊥
-no_rival-passed r l h j v is room serve can =
-    let found = passed-has_rival r l h j v room serve can in
-    let w = found.3 in
-    let fits : HasRoom r found.0 w.0 = w.3 in
-    let lacks : Lacks r found.0 w.0 = is found.0 found.1 found.2 w.0 w.1 w.2 in
-    omega arith
+no_rival-passed r l h j v is room serve can = search (rules, passed-has_rival)
 
 pub rival-passed : (r : Routing) (l h : List ℕ) (j v : ℕ) (key : Key) → IsLeastOffer (IsRival r l h) r.places j (Some key) → r.key j v ≤ key_of key → HasRoom r j v
     → r.least ≤ slice_index l r.source → CanPass r l h j v → ⊥
@@ -184,11 +161,7 @@ rival-passed r l h j v key is most room serve can =
 -- a number can be chosen where there is room, the source serves and no other place always has a lesser key
 pub no_bar-chosen : (r : Routing) (l h : List ℕ) (j v : ℕ) → ((i : ℕ) → i < r.places → slice_index l (r.queue i) ≤ slice_index h (r.queue i))
     → IsLeastOffer (IsBar r l h) r.places j None → HasRoom r j v → r.least ≤ slice_index h r.source → CanChoose r l h j v
-no_bar-chosen r l h j v ordered is room serve = record {
-  room = room;
-  serve = serve;
-  others = λ i small apart. (slice_index h (r.queue i), ordered i small, omega arith, inl (is i small apart));
-}
+no_bar-chosen r l h j v ordered is room serve = search rules
 
 pub bar-chosen : (r : Routing) (l h : List ℕ) (j v : ℕ) (key : Key) → ((i : ℕ) → i < r.places → slice_index l (r.queue i) ≤ slice_index h (r.queue i))
     → IsLeastOffer (IsBar r l h) r.places j (Some key) → r.key j v < key_of key → HasRoom r j v → r.least ≤ slice_index h r.source → CanChoose r l h j v
@@ -262,12 +235,7 @@ high-weighed r l h j u bar ordered offers serve end =
 -- no rival at all: the customers come past every target
 pub rival-passes : (r : Routing) (l h : List ℕ) (first : Option Key) → IsLeastOffer (IsRival r l h) r.places r.places first → r.least ≤ slice_index l r.source
     → ((i : ℕ) → i < r.places → slice_index l (r.queue i) ≤ slice_index h (r.queue i)) → MatchBool (is_none first) (Comes r l r.places) (Misses r l r.places)
-rival-passes r l h None offers serve ordered = record { serve = serve; before = λ i small. offers i small (omega arith) (slice_index l (r.queue i)) (omega arith) (ordered i small) }
-rival-passes r l h (Some key) offers serve ordered =
-    (let own = offers.own in
-    let met = own.met in
-    let low : slice_index l (r.queue key.place) ≤ met.0 = met.1 in
-    let room : HasRoom r key.place met.0 = met.3 in inr (key.place, offers.place, omega arith))
+rival-passes r l h first offers serve ordered = search rules
 
 pub bar-passes : (r : Routing) (l h : List ℕ) (first : Option Key) → IsLeastOffer (IsBar r l h) r.places r.places first → r.least ≤ slice_index h r.source
     → MatchBool (is_none first) (Comes r h r.places) (Misses r h r.places)

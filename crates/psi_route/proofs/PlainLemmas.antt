@@ -1,6 +1,6 @@
 -- Without tables the first target with room is chosen.
 use Rattle.std.specs.Prelude.{◌≡◌, ℕ, ◌<◌, List, [], length, get_or, slice_index}
-use Rattle.std.proofs.Common.{inl, inr, ap, arith}
+use Rattle.std.proofs.Common.{ap, arith, rules}
 use Rattle.std.proofs.lemmas.Bool.{cases_order}
 use Rattle.std.proofs.lemmas.List.{get_or_past}
 use Rattle.psi_route.specs.Routing.{Shape, routing, weight, HasRoom, IsBest}
@@ -15,16 +15,4 @@ weight-none s i v plain =
 -- so the first target with room is chosen
 pub first_best : (s : Shape) (x : List ℕ) (j : ℕ) → length s.tables ≡ 0 → j < length s.targets
     → HasRoom (routing s) j (slice_index x (slice_index s.targets j)) → NoRoom (routing s) x j → IsBest (routing s) x j
-first_best s x j plain place room before = record {
-  place = place;
-  room = room;
-  others = λ i small other. elim (cases_order i j) [
-    | inl e ↦ absurd (other e)
-    | inr rest ↦ elim rest [
-      | inl less ↦ inl (before.each i less)
-      | inr more ↦ inr (let first = weight-none s j (slice_index x (slice_index s.targets j)) plain in
-          let second = weight-none s i (slice_index x (slice_index s.targets i)) plain in
-          omega (arith, first, second))
-    ]
-  ];
-}
+first_best s x j plain place room before = search (rules, cases_order, weight-none)

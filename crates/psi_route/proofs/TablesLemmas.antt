@@ -7,19 +7,15 @@ use Rattle.psi_route.specs.Refusals.{are_tables}
 -- as many, and each as long as its queue's capacity
 pub are_tables-each : (caps qs : List ℕ) (ts : List (List ℕ)) → length ts ≡ length qs
     → ((i : ℕ) → i < length qs → length (get_or ts i []) ≡ slice_index caps (slice_index qs i)) → are_tables caps qs ts ≡ true
-are_tables-each caps [] [] count each = refl
-are_tables-each caps [] (t ∷ ts) count each = absurd (omega arith)
-are_tables-each caps (q ∷ qs) [] count each = absurd (omega arith)
 are_tables-each caps (q ∷ qs) (t ∷ ts) count each =
     and_from (nat_eq (length t) (slice_index caps q)) (are_tables caps qs ts) (eq-eqb (length t) (slice_index caps q) (each 0 (omega arith)))
     (are_tables-each caps qs ts (omega arith) (λ i small. each (suc i) (omega arith)))
+are_tables-each caps qs ts count each = grind arith
 
 -- and only those fit
 pub are_tables-true : (caps qs : List ℕ) (ts : List (List ℕ)) → are_tables caps qs ts ≡ true
     → (length ts ≡ length qs) × ((i : ℕ) → i < length ts → length (get_or ts i []) ≡ slice_index caps (slice_index qs i))
 are_tables-true caps [] [] is = (refl, λ i small. absurd (omega arith))
-are_tables-true caps [] (t ∷ ts) is = absurd cc
-are_tables-true caps (q ∷ qs) [] is = absurd cc
 are_tables-true caps (q ∷ qs) (t ∷ ts) is =
     let both = and_parts (nat_eq (length t) (slice_index caps q)) (are_tables caps qs ts) is in
     let rest = are_tables-true caps qs ts both.1 in
@@ -30,6 +26,7 @@ are_tables-true caps (q ∷ qs) (t ∷ ts) is =
         → (i : ℕ) → i < length (t ∷ ts) → length (get_or (t ∷ ts) i []) ≡ slice_index caps (slice_index (q ∷ qs) i)
     placed caps q qs t ts here there zero small = here
     placed caps q qs t ts here there (suc i) small = there i (omega arith)
+are_tables-true caps qs ts is = absurd cc
 
 -- so not tables that are too few or too many
 pub are_tables-count : (caps qs : List ℕ) (ts : List (List ℕ)) → length ts ≢ length qs → are_tables caps qs ts ≡ false

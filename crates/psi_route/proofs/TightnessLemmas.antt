@@ -1,5 +1,5 @@
 -- The ends of what a route makes of a box are tight: each image lies between them, and each end is met.
-use Rattle.std.proofs.Common.{◌≡◌, ◌≢◌, ◌⊎◌, ℕ, ◌+◌, ◌<◌, ◌≤◌, List, length, slice_index, inl, inr, ap, sym, ◌∙◌, subst, arith, refl}
+use Rattle.std.proofs.Common.{◌≡◌, ◌≢◌, ◌⊎◌, ℕ, ◌+◌, ◌<◌, ◌≤◌, List, length, slice_index, inl, inr, ap, sym, ◌∙◌, subst, arith, refl, rules}
 use Rattle.std.proofs.lemmas.Bool.{cases_lt, cases_eq}
 use Rattle.psi_state.specs.State.{IsBelow, box}
 use Rattle.psi_state.specs.Boxes.{IsBetween}
@@ -29,20 +29,11 @@ between-long : (r : Routing) (l h x : List ℕ) → IsBoxOf r l h → IsBetween 
 between-long r l h x is_box between = sym between.low.same_length ∙ is_box.count
 
 serves_low : (r : Routing) → IsRouting r → (l h x : List ℕ) → IsBoxOf r l h → IsBetween l h x → slice_index x r.source < r.least → slice_index l r.source < r.least
-serves_low r is l h x is_box between idle =
-    elim is.sourced [
-      | inl small ↦ (let count = is_box.count in
-          let least : slice_index l r.source ≤ slice_index x r.source = between.low.each r.source (omega arith) in omega arith)
-      | inr e ↦ absurd (omega arith)
-    ]
+serves_low r is l h x is_box between idle = search rules
 
 holds_at : (r : Routing) → IsRouting r → (l h x : List ℕ) (i : ℕ) → IsBoxOf r l h → IsBetween l h x → i < r.places
     → IsHeld r l h i (slice_index x (r.queue i))
-holds_at r is l h x i is_box between small =
-    let within : r.queue i < r.queues = is.is_queue i small in
-    let count = is_box.count in
-    let same = between.low.same_length in
-    record { place = small; low = between.low.each (r.queue i) (omega arith); high = between.high.each (r.queue i) (omega arith) }
+holds_at r is l h x i is_box between small = search rules
 
 -- a number that can be chosen is chosen in some state of the box
 pub record Chosen (r : Routing) (l h : List ℕ) (j v : ℕ) : Type 0 where
@@ -136,12 +127,7 @@ can_pass r is l h j v is_box held can =
 -- and what stays in some state can stay
 passed_can : (r : Routing) → IsRouting r → (l h x : List ℕ) (j : ℕ) → IsBoxOf r l h → IsBetween l h x → IsPassed r x j
     → CanPass r l h j (slice_index x (r.queue j))
-passed_can r is l h x j is_box between passed =
-    elim passed [
-      | inl lacks ↦ inl lacks
-      | inr rival ↦ (let held = holds_at r is l h x rival.0 is_box between rival.1 in
-          inr (inr (rival.0, rival.1, rival.2, (slice_index x (r.queue rival.0), held.low, held.high, rival.3, rival.4))))
-    ]
+passed_can r is l h x j is_box between passed = search (rules, holds_at)
 
 -- a state of the box raises the number at a place, or leaves it as it is
 data Turn (r : Routing) (l h x y : List ℕ) (j : ℕ) : Type 0 where
