@@ -5,8 +5,8 @@ ghost use Rattle.std.specs.Process.{exit_status};
 ghost use Rattle.psi_program.specs.Run.{HasEnded};
 ghost use Rattle.psi_run.specs.Run.{IsRunOf};
 
-use psi_io::{DiskShelf, Shelf, Sink, StdSink};
-use psi_program::{Program, start};
+use psi_io::{Shelf, Sink};
+use psi_program::{Program, run_program};
 use psi_run::run;
 use std::alloc::Global;
 use std::process::ExitCode;
@@ -36,10 +36,7 @@ impl Program for Psi {
 fn run_psi(rt: &HostRuntime) -> ExitCode
     ensures process { HasEnded IsRunOf (exit_status result) }
 {
-    let mut shelf = DiskShelf::new(rt);
-    let mut out = StdSink::new(rt.stdout());
-    let mut err = StdSink::new(rt.stderr());
-    start(&Psi, rt, &mut shelf, &mut out, &mut err)
+    run_program(&Psi, rt, rt.stdout(), rt.stderr())
 }
 
 fn main(rt: HostRuntime) -> ExitCode {

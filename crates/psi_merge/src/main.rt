@@ -16,8 +16,8 @@ mod reports;
 mod status;
 
 use crate::program::run;
-use psi_io::{DiskShelf, Shelf, Sink, StdSink};
-use psi_program::{Program, start};
+use psi_io::{Shelf, Sink};
+use psi_program::{Program, run_program};
 use std::alloc::Global;
 use std::process::ExitCode;
 
@@ -46,10 +46,7 @@ impl Program for Merging {
 fn run_merge(rt: &HostRuntime) -> ExitCode
     ensures process { HasEnded IsRunOf (exit_status result) }
 {
-    let mut shelf = DiskShelf::new(rt);
-    let mut out = StdSink::new(rt.stdout());
-    let mut err = StdSink::new(rt.stderr());
-    start(&Merging, rt, &mut shelf, &mut out, &mut err)
+    run_program(&Merging, rt, rt.stdout(), rt.stderr())
 }
 
 fn main(rt: HostRuntime) -> ExitCode {

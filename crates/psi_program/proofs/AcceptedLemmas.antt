@@ -1,5 +1,5 @@
 -- The bytes that out and err accepted, from how a reply was written.
-use Rattle.std.specs.Prelude.{◌≡◌, ℕ, List, [], ◌++◌, Some, refl}
+use Rattle.std.specs.Prelude.{◌≡◌, ℕ, List, [], ◌++◌, refl}
 use Rattle.std.proofs.Common.{inl, inr, sym, ◌∙◌, append-nil}
 use Rattle.psi_io.specs.Sink.{TookPrefix}
 use Rattle.psi_program.specs.Seen.{SinkSeen}

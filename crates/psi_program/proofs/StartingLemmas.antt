@@ -2,7 +2,7 @@
 use Rattle.std.specs.Prelude.{◌≡◌, ℕ, List, [], refl}
 use Rattle.std.proofs.Common.{inl, inr}
 use Rattle.psi_io.specs.Shelf.{Read}
-use Rattle.psi_program.specs.Run.{Tally, no_tally, Crossed, Run, IsStarted, wordless, ran, HasEnded}
+use Rattle.psi_program.specs.Run.{no_tally, Crossed, Run, IsStarted, wordless, ran, HasEnded}
 
 -- a program that was started before any read and any write has ended
 pub ended : (Is : Run → Type 0) (before after : Crossed) (status : ℕ) → before.tally ≡ no_tally → IsStarted Is before after status → HasEnded Is status

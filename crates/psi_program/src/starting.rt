@@ -2,13 +2,13 @@
 
 ghost use Rattle.std.specs.Prelude.{ℕ, map, string_bytes};
 ghost use Rattle.std.specs.Process.{exit_status};
-ghost use Rattle.psi_program.specs.Run.{Run, HasRun, IsStarted};
+ghost use Rattle.psi_program.specs.Run.{Run, HasRun, IsStarted, HasEnded};
 
-use psi_io::{Shelf, Sink};
+use psi_io::{DiskShelf, Shelf, Sink, StdSink};
 use std::alloc::Global;
-use std::io::ErrorKind;
+use std::io::{ErrorKind, Write};
 use std::process::ExitCode;
-use std::rt::Env;
+use std::rt::{Env, Files};
 use std::{env, io};
 
 /// The exit status if an allocation for the arguments fails; that of each program if an allocation fails.
@@ -72,4 +72,22 @@ pub fn start<P: Program, R: Env + Alloc<A = Global>, F: Shelf, O: Sink, E: Sink>
     };
     let status = program.run(rt.alloc(), words.as_slice(), shelf, out, err);
     ExitCode::from(status)
+}
+
+/// Runs a program once, over the arguments and the files of the system, and two writers as its outputs.
+///
+/// The process ends because the system has no arguments for it, or as a run of the program: by the bytes that the system
+/// answered to its reads, and those that the writers accepted.
+pub fn run_program<P: Program, R: Env + Files + AllocGlobal, O: Write + Drop, E: Write + Drop>(
+    program: &P,
+    rt: &R,
+    out: O,
+    err: E,
+) -> ExitCode
+    ensures { HasEnded (P.is_run program.now) (exit_status result) }
+{
+    let mut shelf = DiskShelf::new(rt);
+    let mut out = StdSink::new(out);
+    let mut err = StdSink::new(err);
+    start(program, rt, &mut shelf, &mut out, &mut err)
 }

@@ -11,8 +11,8 @@ ghost use Rattle.psi_states.specs.Run.{IsRunOf};
 mod program;
 
 use crate::program::run;
-use psi_io::{DiskShelf, Shelf, Sink, StdSink};
-use psi_program::{Program, start};
+use psi_io::{Shelf, Sink};
+use psi_program::{Program, run_program};
 use std::alloc::Global;
 use std::process::ExitCode;
 
@@ -41,10 +41,7 @@ impl Program for Stating {
 fn run_states(rt: &HostRuntime) -> ExitCode
     ensures process { HasEnded IsRunOf (exit_status result) }
 {
-    let mut shelf = DiskShelf::new(rt);
-    let mut out = StdSink::new(rt.stdout());
-    let mut err = StdSink::new(rt.stderr());
-    start(&Stating, rt, &mut shelf, &mut out, &mut err)
+    run_program(&Stating, rt, rt.stdout(), rt.stderr())
 }
 
 fn main(rt: HostRuntime) -> ExitCode {
