@@ -7,11 +7,13 @@
 mod putting;
 mod rewards;
 mod running;
+mod sample_path;
 mod turning;
 mod walk;
 mod walker;
 
 pub use rewards::Rewards;
+pub use sample_path::SamplePath;
 pub use walk::Walk;
 pub use walker::PathWalker;
 

@@ -9,9 +9,9 @@ ghost use Rattle.psi_path.specs.Sums.{HasCounts, ArePathSums, cleared, worth_at}
 use crate::OutOfMemory;
 use crate::rewards::Rewards;
 use crate::running::Running;
+use crate::sample_path::SamplePath;
 use psi_event::EventLaw;
 use psi_past::Past;
-use psi_rate::System;
 use psi_state::State;
 use std::alloc::Global;
 use std::marker::Model;
@@ -62,27 +62,24 @@ impl Walk {
     /// reward: what the change adds to their sums over all steps that are left (summation by parts, Abel 1826).
     pub fn run<E: EventLaw, P: Past, R: Rewards>(
         &mut self,
-        system: &System<'_, E>,
-        rewards: &R,
-        past: &mut P,
-        start: State,
-        steps: u32,
+        path: &mut SamplePath<'_, E, P, R>,
     ) -> State
-        requires start { IsBelow start system.now.caps }
-        requires steps { steps ≤ 4290772992 }
-        requires rewards { R.capacities rewards.now ≡ system.now.caps }
-        requires counts { HasCounts (length system.now.caps) (length (R.worths rewards.now)) (length system.now.events) self.old }
-        ensures state { result ≡ state_of (path_of E.function system.now (P.words past.old) start) steps }
-        ensures within { IsBelow result system.now.caps }
-        ensures sums { ArePathSums (length system.now.caps) (length (R.worths rewards.now)) (length system.now.events) (R.worths rewards.now)
-            (path_of E.function system.now (P.words past.old) start) steps self.new }
-        ensures counts { HasCounts (length system.now.caps) (length (R.worths rewards.now)) (length system.now.events) self.new }
-        ensures words { P.words past.new ≡ P.words past.old }
+        requires start { IsBelow path.old.start path.old.system.now.caps }
+        requires steps { path.old.steps ≤ 4290772992 }
+        requires rewards { R.capacities path.old.rewards.now ≡ path.old.system.now.caps }
+        requires counts { HasCounts (length path.old.system.now.caps) (length (R.worths path.old.rewards.now)) (length path.old.system.now.events) self.old }
+        ensures state { result ≡ state_of (path_of E.function path.old.system.now (P.words path.old.past) path.old.start) path.old.steps }
+        ensures within { IsBelow result path.old.system.now.caps }
+        ensures sums { ArePathSums (length path.old.system.now.caps) (length (R.worths path.old.rewards.now)) (length path.old.system.now.events) (R.worths path.old.rewards.now)
+            (path_of E.function path.old.system.now (P.words path.old.past) path.old.start) path.old.steps self.new }
+        ensures counts { HasCounts (length path.old.system.now.caps) (length (R.worths path.old.rewards.now)) (length path.old.system.now.events) self.new }
+        ensures words { P.words path.new.past ≡ P.words path.old.past }
     {
         // Called for its clause: the parts fit each other.
-        let _caps = system.caps();
-        self.running.begin(rewards, start, steps);
-        self.running.finish(system, rewards, past, steps);
+        let _caps = path.system.caps();
+        self.running.begin(path.rewards, path.start, path.steps);
+        self.running
+            .finish(path.system, path.rewards, &mut path.past, path.steps);
         self.running.state
     }
 

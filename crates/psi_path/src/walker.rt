@@ -7,10 +7,10 @@ ghost use Rattle.psi_path.specs.Path.{path_of, state_of};
 ghost use Rattle.psi_path.specs.Sums.{Worth, HasCounts, ArePathSums};
 
 use crate::rewards::Rewards;
+use crate::sample_path::SamplePath;
 use crate::walk::Walk;
 use psi_event::EventLaw;
 use psi_past::Past;
-use psi_rate::System;
 use psi_state::State;
 
 /// A way to walk the paths of one network with its rewards, one after another.
@@ -23,23 +23,19 @@ pub trait PathWalker {
     /// Walks a path as [`Walk::run`] does, of the network of this walker, and writes the same sums into `walk`.
     fn run<E: EventLaw, P: Past, R: Rewards>(
         &mut self,
-        system: &System<'_, E>,
-        rewards: &R,
-        past: &mut P,
-        start: State,
-        steps: u32,
+        path: &mut SamplePath<'_, E, P, R>,
         walk: &mut Walk,
     ) -> State
-        requires walker { walks self.old system.now.caps (map E.function system.now.events) (R.worths rewards.now) }
-        requires start { IsBelow start system.now.caps }
-        requires steps { steps ≤ 4290772992 }
-        requires rewards { R.capacities rewards.now ≡ system.now.caps }
-        requires counts { HasCounts (length system.now.caps) (length (R.worths rewards.now)) (length system.now.events) walk.old }
-        ensures state { result ≡ state_of (path_of E.function system.now (P.words past.old) start) steps }
-        ensures within { IsBelow result system.now.caps }
-        ensures sums { ArePathSums (length system.now.caps) (length (R.worths rewards.now)) (length system.now.events) (R.worths rewards.now)
-            (path_of E.function system.now (P.words past.old) start) steps walk.new }
-        ensures counts { HasCounts (length system.now.caps) (length (R.worths rewards.now)) (length system.now.events) walk.new }
-        ensures words { P.words past.new ≡ P.words past.old }
+        requires walker { walks self.old path.old.system.now.caps (map E.function path.old.system.now.events) (R.worths path.old.rewards.now) }
+        requires start { IsBelow path.old.start path.old.system.now.caps }
+        requires steps { path.old.steps ≤ 4290772992 }
+        requires rewards { R.capacities path.old.rewards.now ≡ path.old.system.now.caps }
+        requires counts { HasCounts (length path.old.system.now.caps) (length (R.worths path.old.rewards.now)) (length path.old.system.now.events) walk.old }
+        ensures state { result ≡ state_of (path_of E.function path.old.system.now (P.words path.old.past) path.old.start) path.old.steps }
+        ensures within { IsBelow result path.old.system.now.caps }
+        ensures sums { ArePathSums (length path.old.system.now.caps) (length (R.worths path.old.rewards.now)) (length path.old.system.now.events) (R.worths path.old.rewards.now)
+            (path_of E.function path.old.system.now (P.words path.old.past) path.old.start) path.old.steps walk.new }
+        ensures counts { HasCounts (length path.old.system.now.caps) (length (R.worths path.old.rewards.now)) (length path.old.system.now.events) walk.new }
+        ensures words { P.words path.new.past ≡ P.words path.old.past }
         ensures same { self.new ≡ self.old };
 }

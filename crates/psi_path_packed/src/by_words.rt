@@ -7,7 +7,7 @@ use crate::OutOfMemory;
 use crate::walk::PackedWalk;
 use psi_event::{EventLaw, PiecewiseLaw};
 use psi_past::Past;
-use psi_path::{PathWalker, Rewards, Walk};
+use psi_path::{PathWalker, Rewards, SamplePath, Walk};
 use psi_rate::System;
 use psi_state::State;
 use std::alloc::Global;
@@ -72,18 +72,14 @@ impl PathWalker for ByWords {
 
     fn run<E: EventLaw, P: Past, R: Rewards>(
         &mut self,
-        system: &System<'_, E>,
-        rewards: &R,
-        past: &mut P,
-        start: State,
-        steps: u32,
+        path: &mut SamplePath<'_, E, P, R>,
         walk: &mut Walk,
     ) -> State {
         match self {
-            ByWords::One(own) => own.run(system, rewards, past, start, steps, walk),
-            ByWords::Two(own) => own.run(system, rewards, past, start, steps, walk),
-            ByWords::Three(own) => own.run(system, rewards, past, start, steps, walk),
-            ByWords::Four(own) => own.run(system, rewards, past, start, steps, walk),
+            ByWords::One(own) => own.run(path, walk),
+            ByWords::Two(own) => own.run(path, walk),
+            ByWords::Three(own) => own.run(path, walk),
+            ByWords::Four(own) => own.run(path, walk),
         }
     }
 }

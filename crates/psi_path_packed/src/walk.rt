@@ -11,7 +11,7 @@ use crate::totals::{put_counts, put_customers, put_rewards};
 use psi_event::{EventLaw, PiecewiseLaw};
 use psi_follow_packed::Layout;
 use psi_past::Past;
-use psi_path::{PathWalker, Rewards, Walk};
+use psi_path::{PathWalker, Rewards, SamplePath, Walk};
 use psi_rate::System;
 use psi_state::State;
 use std::alloc::Global;
@@ -98,23 +98,21 @@ impl<const K: usize> PathWalker for PackedWalk<K> {
 
     fn run<E: EventLaw, P: Past, R: Rewards>(
         &mut self,
-        system: &System<'_, E>,
-        rewards: &R,
-        past: &mut P,
-        start: State,
-        steps: u32,
+        path: &mut SamplePath<'_, E, P, R>,
         walk: &mut Walk,
     ) -> State {
         // Called for its clause: the parts fit each other.
-        let _caps = system.caps();
-        self.steps.walk(&self.layout, system, past, &start, steps);
+        let _caps = path.system.caps();
+        let (start, steps) = (&path.start, path.steps);
+        self.steps
+            .walk(&self.layout, path.system, &mut path.past, start, steps);
         let changes = self.steps.changes.as_slice();
-        put_customers(self.queues.as_slice(), changes, &start, steps, walk);
+        put_customers(self.queues.as_slice(), changes, start, steps, walk);
         put_rewards(
             self.rewards.as_slice(),
             changes,
-            rewards,
-            &start,
+            path.rewards,
+            start,
             steps,
             walk,
         );

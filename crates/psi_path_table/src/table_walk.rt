@@ -9,7 +9,7 @@ use crate::filling::{fill, states_in};
 use crate::visits::Visits;
 use psi_event::EventLaw;
 use psi_past::Past;
-use psi_path::{PathWalker, Rewards, Walk};
+use psi_path::{PathWalker, Rewards, SamplePath, Walk};
 use psi_rate::System;
 use psi_state::{Bounds, State};
 use std::alloc::Global;
@@ -83,18 +83,15 @@ impl PathWalker for TableWalk {
 
     fn run<E: EventLaw, P: Past, R: Rewards>(
         &mut self,
-        system: &System<'_, E>,
-        rewards: &R,
-        past: &mut P,
-        start: State,
-        steps: u32,
+        path: &mut SamplePath<'_, E, P, R>,
         walk: &mut Walk,
     ) -> State {
-        let caps = system.caps();
+        let caps = path.system.caps();
         let bounds = Bounds::whole(&caps);
-        let rows = system.events().len() as u32 + 1;
-        self.visits.begin(rows, bounds.rank(&start), steps);
-        self.visits.walk(system, rewards, past, steps, walk);
+        let rows = path.system.events().len() as u32 + 1;
+        self.visits
+            .begin(rows, bounds.rank(&path.start), path.steps);
+        self.visits.walk(path.system, path.rewards, &mut path.past, path.steps, walk);
         bounds.unrank(self.visits.rank)
     }
 }

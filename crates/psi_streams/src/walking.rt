@@ -11,7 +11,7 @@ use crate::rewards::NetRewards;
 use psi_event::{EventLaw, PiecewiseLaw};
 use psi_net_model::Net;
 use psi_past::{Past, SeedPast};
-use psi_path::{OutOfMemory, PathWalker, Rewards, Walk};
+use psi_path::{OutOfMemory, PathWalker, Rewards, SamplePath, Walk};
 use psi_path_packed::ByWords;
 use psi_path_table::TableWalk;
 use psi_rate::System;
@@ -62,17 +62,13 @@ impl PathWalker for Way {
 
     fn run<E: EventLaw, P: Past, R: Rewards>(
         &mut self,
-        system: &System<'_, E>,
-        rewards: &R,
-        past: &mut P,
-        start: State,
-        steps: u32,
+        path: &mut SamplePath<'_, E, P, R>,
         walk: &mut Walk,
     ) -> State {
         match self {
-            Way::Plain => walk.run(system, rewards, past, start, steps),
-            Way::Table(table) => table.run(system, rewards, past, start, steps, walk),
-            Way::Packed(packed) => packed.run(system, rewards, past, start, steps, walk),
+            Way::Plain => walk.run(path),
+            Way::Table(table) => table.run(path, walk),
+            Way::Packed(packed) => packed.run(path, walk),
         }
     }
 }
@@ -126,13 +122,14 @@ impl Walking {
         ensures steps { self.new.steps ≡ self.old.steps }
         ensures way { IsWayOf net.now self.new.way }
     {
-        let system = net.system();
-        let mut past = SeedPast::new(seed, stream);
-        let rewards = NetRewards { net };
-        let (steps, walk) = (self.steps, &mut self.walk);
-        let _end = self
-            .way
-            .run(&system, &rewards, &mut past, start, steps, walk);
+        let mut path = SamplePath {
+            system: &net.system(),
+            rewards: &NetRewards { net },
+            past: SeedPast::new(seed, stream),
+            start,
+            steps: self.steps,
+        };
+        let _end = self.way.run(&mut path, &mut self.walk);
     }
 
     /// Returns the path that was walked last.

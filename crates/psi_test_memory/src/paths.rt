@@ -9,7 +9,7 @@ use psi_event::EventLaw;
 use psi_io::MemorySink;
 use psi_net::Net;
 use psi_past::SeedPast;
-use psi_path::{Rewards, Walk};
+use psi_path::{Rewards, SamplePath, Walk};
 use psi_rate::System;
 use psi_reward::RewardLaw;
 use psi_state::{Outcome, State};
@@ -80,8 +80,14 @@ fn call_walk<E: EventLaw, R: Rewards>(walk: &mut Walk, system: &System<'_, E>, r
     requires capacities { R.capacities rewards.now ≡ system.now.caps }
     requires counts { HasCounts (length system.now.caps) (length (R.worths rewards.now)) (length system.now.events) walk.old }
 {
-    let full = system.caps();
-    let _end = walk.run(system, rewards, &mut SeedPast::new(0, 0), full, STEPS);
+    let mut path = SamplePath {
+        system,
+        rewards,
+        past: SeedPast::new(0, 0),
+        start: system.caps(),
+        steps: STEPS,
+    };
+    let _end = walk.run(&mut path);
 }
 
 fn make_samples(alloc: Global, calls: bool, net: &Net) -> Option<()> {

@@ -15,20 +15,20 @@ use Rattle.psi_path_table.proofs.table_walk.TableWalkPathWalker.run.Goals as goa
 
 pub rank-requires-clause-member : goal.rank-requires-clause-member
 rank-requires-clause-member g c =
-    In-whole c.args.system.now.caps c.caps-caps.result c.args.start c.whole-bounds.result c.whole-bounds.ensures c.caps-caps.ensures.value c.requires.start
+    In-whole c.args.path.now.system.now.caps c.caps-caps.result c.args.path.now.start c.whole-bounds.result c.whole-bounds.ensures c.caps-caps.ensures.value c.requires.start
 
 pub walk-requires : goal.walk-requires
 walk-requires g c κs within =
-    let system = c.args.system.now in
+    let system = c.args.path.now.system.now in
     let self = c.begin.new.self in
-    let path = path_of g.E.EventLaw.function system (g.P.Past.words c.args.past.now) c.args.start in
-    let place = rank-whole system.caps c.caps-caps.result c.args.start c.whole-bounds.result c.rank.result c.whole-bounds.ensures c.caps-caps.ensures.value c.rank.ensures.place in
+    let path = path_of g.E.EventLaw.function system (g.P.Past.words c.args.path.now.past) c.args.path.now.start in
+    let place = rank-whole system.caps c.caps-caps.result c.args.path.now.start c.whole-bounds.result c.rank.result c.whole-bounds.ensures c.caps-caps.ensures.value c.rank.ensures.place in
     let ranks : self.next.items ≡ c.args.self.now.ranks = ap (λ v. v.items) c.begin.ensures.next ∙ ap (λ (t : Table). t.ranks) c.self.view_is in
     let caps : c.self.inside.caps ≡ system.caps = ap (λ (t : Table). t.caps) c.self.view_is ∙ c.requires.walker.same in
     let states : self.states ≡ length (all_states system.caps) = c.begin.ensures.states ∙ c.self.invariant.all ∙ ap (λ (cs : List ℕ). length (all_states cs)) caps in
-    let is = trail-made g.E.EventLaw.capacities g.E.EventLaw.function system (g.P.Past.words c.args.past.now) c.args.start c.args.steps self.states self.next.items self.rank c.args.self.now
+    let is = trail-made g.E.EventLaw.capacities g.E.EventLaw.function system (g.P.Past.words c.args.path.now.past) c.args.path.now.start c.args.path.now.steps self.states self.next.items self.rank c.args.self.now
     g.met.E.EventLaw.closed c.caps-caps.ensures.fit c.requires.walker c.requires.steps ranks states
-    (subst (λ n. IsRank system.caps c.args.start n) (sym c.begin.ensures.rank) place) in (
+    (subst (λ n. IsRank system.caps c.args.path.now.start n) (sym c.begin.ensures.rank) place) in (
       search rules,
       (
         search rules,
@@ -41,7 +41,7 @@ walk-requires g c κs within =
               (
                 refl,
                 (
-                  c.begin.ensures.stands _ (is_trail system.caps path c.args.steps self.states self.next.items self.rank is) refl (sym c.begin.ensures.rank)
+                  c.begin.ensures.stands _ (is_trail system.caps path c.args.path.now.steps self.states self.next.items self.rank is) refl (sym c.begin.ensures.rank)
                       (let rows = ap (λ es. length es) c.events.ensures.value in let count = c.caps-caps.ensures.fit.same_count in omega arith) (sym c.begin.ensures.states)
                       (ap (λ v. v.items) (sym c.begin.ensures.next)) (c.self.invariant.counted ∙ ap (λ v. length v.items) (sym c.begin.ensures.next)),
                   (states, (c.requires.rewards, c.requires.counts)),
@@ -55,18 +55,18 @@ walk-requires g c κs within =
 
 pub returns : goal.returns
 returns g c =
-    let system = c.args.system.now in
+    let system = c.args.path.now.system.now in
     let self = c.begin.new.self in
-    let steps = c.args.steps in
-    let worths = g.R.Rewards.worths c.args.rewards.now in
-    let path = path_of g.E.EventLaw.function system (g.P.Past.words c.args.past.now) c.args.start in
-    let place = rank-whole system.caps c.caps-caps.result c.args.start c.whole-bounds.result c.rank.result c.whole-bounds.ensures c.caps-caps.ensures.value c.rank.ensures.place in
+    let steps = c.args.path.now.steps in
+    let worths = g.R.Rewards.worths c.args.path.now.rewards.now in
+    let path = path_of g.E.EventLaw.function system (g.P.Past.words c.args.path.now.past) c.args.path.now.start in
+    let place = rank-whole system.caps c.caps-caps.result c.args.path.now.start c.whole-bounds.result c.rank.result c.whole-bounds.ensures c.caps-caps.ensures.value c.rank.ensures.place in
     let ranks : self.next.items ≡ c.args.self.now.ranks = ap (λ v. v.items) c.begin.ensures.next ∙ ap (λ (t : Table). t.ranks) c.self.view_is in
     let caps : c.self.inside.caps ≡ system.caps = ap (λ (t : Table). t.caps) c.self.view_is ∙ c.requires.walker.same in
     let states : self.states ≡ length (all_states system.caps) = c.begin.ensures.states ∙ c.self.invariant.all ∙ ap (λ (cs : List ℕ). length (all_states cs)) caps in
-    let is = trail-made g.E.EventLaw.capacities g.E.EventLaw.function system (g.P.Past.words c.args.past.now) c.args.start steps self.states self.next.items self.rank c.args.self.now
+    let is = trail-made g.E.EventLaw.capacities g.E.EventLaw.function system (g.P.Past.words c.args.path.now.past) c.args.path.now.start steps self.states self.next.items self.rank c.args.self.now
     g.met.E.EventLaw.closed c.caps-caps.ensures.fit c.requires.walker c.requires.steps ranks states
-    (subst (λ n. IsRank system.caps c.args.start n) (sym c.begin.ensures.rank) place) in
+    (subst (λ n. IsRank system.caps c.args.path.now.start n) (sym c.begin.ensures.rank) place) in
     let trail = trail_of path steps self.states self.next.items self.rank in
     let valid = is_trail system.caps path steps self.states self.next.items self.rank is in
     let sums = c.walk.ensures.sums in
