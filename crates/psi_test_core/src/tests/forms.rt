@@ -1,72 +1,45 @@
 //! Which events declare the pieces that they are made of, so that states are packed; no clause says so.
 
-ghost use Rattle.std.specs.Prelude.{◌≡◌, ◌≤◌, ◌∷◌, []};
-ghost use Rattle.psi_state.specs.State.{AreCapacities};
-ghost use Rattle.psi_kinds.specs.Kinds.{AreQueues, IsKindOf};
+ghost use Rattle.std.specs.Prelude.{◌∷◌, []};
+ghost use Rattle.psi_kinds.specs.Kinds.{IsKindOf};
 
+use super::states::{queues_of, state_of};
 use psi_event::PiecewiseLaw;
 use psi_follow_packed::{Layout, MaskProgram};
 use psi_guard::{Guarded, Part};
 use psi_kinds::{Kind, KindRefusal, lower};
 use psi_route::{Full, Source};
-use psi_state::{Queues, State};
 use std::alloc::Global;
 use std::process::Abort;
 use std::test::Fail;
 
-// Two queues with room for two customers each.
-fn capacities() -> State
-    ensures value { result ≡ 2 ∷ 2 ∷ [] }
-    ensures valid { AreCapacities result }
+// Whether the event of a kind, for two queues with room for two customers each, declares its pieces.
+fn is_told(alloc: Global, kind: Kind) -> Result<bool, KindRefusal>
+    requires { IsKindOf (2 ∷ 2 ∷ []) kind }
 {
-    let mut caps = State::zero(2);
-    caps.set(0, 2);
-    caps.set(1, 2);
-    caps
-}
-
-// Both queues, or the second alone.
-fn targets(both: bool) -> Queues
-    ensures { AreQueues (2 ∷ 2 ∷ []) result }
-{
-    let mut to = Queues::empty();
-    if both {
-        to.push(0);
-    }
-    to.push(1);
-    to
-}
-
-// Whether the event of a kind declares its pieces.
-fn is_told(alloc: Global, kind: &Kind) -> Result<bool, KindRefusal>
-    requires { IsKindOf (2 ∷ 2 ∷ []) kind.now }
-{
-    Ok(lower(alloc, capacities(), kind)?.piecewise().is_some())
+    let event = lower(alloc, state_of(&[2, 2]), &kind)?;
+    Ok(event.piecewise().is_some())
 }
 
 #[test]
 fn events_of_single_customers_tell_their_pieces(rt: HostRuntime) -> Result<(), Fail> {
     let alloc = rt.alloc();
+    let (both, second) = (queues_of(&[0, 1]), queues_of(&[1]));
     let from = Some(Source { queue: 0, k: 2 });
-    let arrival = Kind::Arrival { to: targets(true) };
-    assert!(rt; is_told(alloc, &arrival)?);
-    let fork = Kind::Fork {
-        from,
-        to: targets(false),
-    };
-    assert!(rt; is_told(alloc, &fork)?);
+    assert!(rt; is_told(alloc, Kind::Arrival { to: both })?);
+    assert!(rt; is_told(alloc, Kind::Fork { from, to: second })?);
     let join = Kind::Join {
-        from: targets(true),
+        from: both,
         to: None,
     };
-    assert!(rt; is_told(alloc, &join)?);
+    assert!(rt; is_told(alloc, join)?);
     for amount in 1..3 {
         let negative = Kind::Negative {
             from,
             on: 1,
             amount,
         };
-        assert_eq!(rt; is_told(alloc, &negative)?, amount == 1);
+        assert_eq!(rt; is_told(alloc, negative)?, amount == 1);
     }
     Ok(())
 }
@@ -74,26 +47,19 @@ fn events_of_single_customers_tell_their_pieces(rt: HostRuntime) -> Result<(), F
 #[test]
 fn events_that_tell_their_pieces_make_a_program(rt: HostRuntime) -> Result<(), Fail> {
     let alloc = rt.alloc();
-    let caps = capacities();
-    let arrival = Kind::Arrival { to: targets(true) };
+    let caps = state_of(&[2, 2]);
+    let arrival = Kind::Arrival {
+        to: queues_of(&[0, 1]),
+    };
     let service = Kind::Service {
         from: Source { queue: 0, k: 1 },
-        to: targets(false),
+        to: queues_of(&[1]),
         full: Full::Stay,
     };
     let events = [lower(alloc, caps, &arrival)?, lower(alloc, caps, &service)?];
     let layout = Layout::<1>::new(caps).ok_or("one word for two queues")?;
     assert!(rt; MaskProgram::new(alloc, layout, &events)?.is_some());
     Ok(())
-}
-
-// One queue with room for three customers.
-fn three() -> State
-    ensures { AreCapacities result }
-{
-    let mut caps = State::zero(1);
-    caps.set(0, 3);
-    caps
 }
 
 // Whether the event of one queue with room for three customers, with this part, declares its pieces.
@@ -106,7 +72,7 @@ fn is_part_told(rt: &impl Abort, guard: (u16, u16), shift: i32, limits: (u16, u1
         floor: limits.0,
         ceiling: limits.1,
     };
-    let event = Guarded::new(three(), &[part]).expect(rt, "an event of one queue");
+    let event = Guarded::new(state_of(&[3]), &[part]).expect(rt, "an event of one queue");
     event.piecewise().is_some()
 }
 
