@@ -47,40 +47,27 @@ fn one_move(from: u8, to: u8) -> Move
 }
 
 fn make_arcs(alloc: Global, calls: bool) -> Option<()> {
-    let Ok(mut all) = Arcs::reserve(alloc, 3, 3) else {
-        return None;
-    };
-    let Ok(mut reach) = Reach::reserve(alloc) else {
-        return None;
-    };
+    let mut all = Arcs::reserve(alloc, 3, 3).ok()?;
+    let mut reach = Reach::reserve(alloc).ok()?;
     if calls {
-        call_arcs(&mut all, &mut reach);
+        // A move of the arcs is called by the diagram's.
+        all.fill(&ring());
+        all.keep_useful(&mut reach);
+        let arc = Arc {
+            level: 0,
+            before: 0,
+            value: 1,
+        };
+        all.insert(arc);
+        let _there = (all.has(arc), all.first(0, 0));
+        let _counts = (all.levels(), all.total(), all.len());
+        all.clear();
     }
     Some(())
 }
 
-// A move of the arcs is called by the diagram's.
-fn call_arcs(all: &mut Arcs, reach: &mut Reach)
-    requires levels { all.old.levels ≡ 3 }
-    requires total { all.old.total ≡ 3 }
-{
-    all.fill(&ring());
-    all.keep_useful(reach);
-    let arc = Arc {
-        level: 0,
-        before: 0,
-        value: 1,
-    };
-    all.insert(arc);
-    let _there = (all.has(arc), all.first(0, 0));
-    let _counts = (all.levels(), all.total(), all.len());
-    all.clear();
-}
-
 fn make_diagram(alloc: Global, calls: bool) -> Option<()> {
-    let Ok(mut diagram) = Diagram::reserve(alloc, ring(), 3) else {
-        return None;
-    };
+    let mut diagram = Diagram::reserve(alloc, ring(), 3).ok()?;
     if calls {
         call_diagram(&mut diagram);
     }
@@ -100,13 +87,9 @@ fn call_diagram(diagram: &mut Diagram)
 
 fn make_plan(alloc: Global, calls: bool) -> Option<()> {
     let moves = [one_move(0, 1), one_move(1, 2), one_move(2, 0)];
-    let Ok(wheel) = Wheel::new(alloc, &[1, 2, 1]) else {
-        return None;
-    };
+    let wheel = Wheel::new(alloc, &[1, 2, 1]).ok()?;
     let past = SeedPast::new(0, 0);
-    let Ok(mut plan) = ClosedPlan::new(alloc, ring(), &moves, &wheel, 6, 3, past) else {
-        return None;
-    };
+    let mut plan = ClosedPlan::new(alloc, ring(), &moves, &wheel, 6, 3, past).ok()?;
     if calls {
         call_plan(&mut plan);
     }

@@ -26,26 +26,18 @@ fn make_words(alloc: Global, calls: bool) -> Option<()> {
     let words = [3, 1, 4].to_vec(alloc).ok()?;
     let mut list = ListPast::new(words);
     let mut past = Windowed::new(SeedPast::new(0, 0));
-    let Ok(mut kept) = Kept::reserve(alloc, SeedPast::new(0, 0), 8) else {
-        return None;
-    };
+    let mut kept = Kept::reserve(alloc, SeedPast::new(0, 0), 8).ok()?;
     if calls {
-        keep(&mut kept);
+        kept.extend_to(5);
+        let _word = kept.at(4);
+        kept.replace(SeedPast::new(1, 1));
+        kept.extend_to(8);
         read(&mut list);
         read(&mut past);
         past.replace(SeedPast::new(1, 1));
         read(&mut past);
     }
     Some(())
-}
-
-fn keep(kept: &mut Kept<SeedPast>)
-    requires { kept.old.most ≡ 8 }
-{
-    kept.extend_to(5);
-    let _word = kept.at(4);
-    kept.replace(SeedPast::new(1, 1));
-    kept.extend_to(8);
 }
 
 fn read<P: Past>(past: &mut P) {
@@ -56,38 +48,26 @@ fn read<P: Past>(past: &mut P) {
 // A table of eight values.
 fn make_table(alloc: Global, calls: bool) -> Option<()> {
     let values = [3, 1, 4, 1, 5, 9, 2, 6].to_vec(alloc).ok()?;
-    let Ok(table) = IndexTable::new(alloc, values) else {
-        return None;
-    };
+    let table = IndexTable::new(alloc, values).ok()?;
     if calls {
-        call_table(&table);
+        let _value = table.at(3);
+        let _ends = (table.least(1, 6), table.greatest(1, 6));
+        let _marks = (table.len(), table.rises(), table.values().len());
+        let _above = (
+            table.first_at_least_near(2, 6),
+            table.first_at_least_between(1, 6, 6),
+        );
+        let _below = (table.past_last_below(1, 6, 4), table.first_below(1, 6, 4));
+        let _passed = (table.first_passed(&table, 1), table.rising_front());
+        let _shared = table.share().is_ok();
     }
     Some(())
 }
 
-fn call_table(table: &IndexTable)
-    requires { length table.now ≡ 8 }
-{
-    let _value = table.at(3);
-    let _ends = (table.least(1, 6), table.greatest(1, 6));
-    let _marks = (table.len(), table.rises(), table.values().len());
-    let _above = (
-        table.first_at_least_near(2, 6),
-        table.first_at_least_between(1, 6, 6),
-    );
-    let _below = (table.past_last_below(1, 6, 4), table.first_below(1, 6, 4));
-    let _passed = (table.first_passed(table, 1), table.rising_front());
-    let _shared = table.share().is_ok();
-}
-
 // An empty set with room for eight states, and a region that is split where it has as few.
 fn make_sets<E: EventLaw>(alloc: Global, calls: bool, event: &E) -> Option<()> {
-    let Ok(mut pool) = Pool::reserve(alloc, 8) else {
-        return None;
-    };
-    let Ok(mut region) = Region::reserve(alloc, 8) else {
-        return None;
-    };
+    let mut pool = Pool::reserve(alloc, 8).ok()?;
+    let mut region = Region::reserve(alloc, 8).ok()?;
     if calls {
         call_pool(&mut pool, event);
         call_region(&mut region, event);
@@ -119,9 +99,7 @@ fn call_region<E: EventLaw>(region: &mut Region, event: &E) {
 
 // A sink in memory, and one over a list that has room.
 fn make_sinks(alloc: Global, calls: bool) -> Option<()> {
-    let Ok(mut sink) = MemorySink::new(alloc, 8, 8, Vec::new(alloc)) else {
-        return None;
-    };
+    let mut sink = MemorySink::new(alloc, 8, 8, Vec::new(alloc)).ok()?;
     let list: Vec<u8> = Vec::with_capacity(alloc, 8).ok()?;
     if calls {
         let _written = write_all(&mut sink, b"text");

@@ -3,7 +3,6 @@
 
 ghost use Rattle.std.specs.Prelude.{◌≡◌, ◌∷◌, [], All, IfSome};
 ghost use Rattle.psi_reward.specs.Refusing.{IsSmall};
-ghost use Rattle.psi_kinds.specs.Kinds.{IsKindOf};
 
 use psi_command::command_of;
 use psi_index::IndexTable;
@@ -74,9 +73,7 @@ fn first() -> Queues
 // One weight, of a reward that isn't refused.
 fn make_weights(alloc: Global, calls: bool) -> Option<()> {
     let mut weights = Numbers::new(alloc);
-    let Ok(()) = weights.push(1) else {
-        return None;
-    };
+    weights.push(1).ok()?;
     if calls {
         let kind = RewardKind::Linear {
             queues: first(),
@@ -92,9 +89,9 @@ fn row(alloc: Global) -> Option<Numbers>
     ensures { IfSome result (All IsSmall) }
 {
     let mut row = Numbers::new(alloc);
-    let (Ok(()), Ok(()), Ok(())) = (row.push(3), row.push(-1), row.push(4)) else {
-        return None;
-    };
+    row.push(3).ok()?;
+    row.push(-1).ok()?;
+    row.push(4).ok()?;
     Some(row)
 }
 
@@ -102,9 +99,7 @@ fn row(alloc: Global) -> Option<Numbers>
 fn make_grid(alloc: Global, calls: bool) -> Option<()> {
     let row = row(alloc)?;
     let mut table = Grid::new(alloc);
-    let Ok(()) = table.push(row) else {
-        return None;
-    };
+    table.push(row).ok()?;
     if calls {
         let kind = RewardKind::Table {
             queues: first(),
@@ -118,9 +113,7 @@ fn make_grid(alloc: Global, calls: bool) -> Option<()> {
 // One table of an index for no and for one customer.
 fn make_route(alloc: Global, calls: bool) -> Option<()> {
     let values = [5, 3].to_vec(alloc).ok()?;
-    let Ok(table) = IndexTable::new(alloc, values) else {
-        return None;
-    };
+    let table = IndexTable::new(alloc, values).ok()?;
     let mut tables = Vec::new(alloc);
     tables.push(table).ok()?;
     if calls {
@@ -133,35 +126,27 @@ fn make_route(alloc: Global, calls: bool) -> Option<()> {
 fn make_kind(alloc: Global, calls: bool) -> Option<()> {
     let values = [5, 3].to_vec(alloc).ok()?;
     let mut table = Tables::new(alloc);
-    let Ok(()) = table.push(values) else {
-        return None;
-    };
+    table.push(values).ok()?;
     if calls {
-        let _told = (table.len(), table.row(0).len());
-        call_kind(&Kind::Index {
+        let _rows = (table.len(), table.row(0).len());
+        let kind = Kind::Index {
             from: None,
             to: first(),
             table,
             full: Full::Stay,
             size: 1,
-        });
+        };
+        let _refusal = refusal_of(&caps(), &kind);
+        let _told = (kind.as_move(), source_of(&kind), index_values(&kind));
     }
     Some(())
-}
-
-fn call_kind(kind: &Kind)
-    requires { IsKindOf (2 ∷ []) kind.now }
-{
-    let _refusal = refusal_of(&caps(), kind);
-    let _told = (kind.as_move(), source_of(kind), index_values(kind));
 }
 
 // Two states of one queue.
 fn make_states(alloc: Global, calls: bool) -> Option<()> {
     let mut states = StateList::new(alloc, 1);
-    let (Ok(()), Ok(())) = (states.push(&State::zero(1)), states.push(&caps())) else {
-        return None;
-    };
+    states.push(&State::zero(1)).ok()?;
+    states.push(&caps()).ok()?;
     if calls {
         let _told = (states.len(), states.get(1), states.is_below_next(0));
         let _within = states.leq(0, &caps());
@@ -172,9 +157,7 @@ fn make_states(alloc: Global, calls: bool) -> Option<()> {
 
 // A table of a file with one key.
 fn make_document(alloc: Global, calls: bool) -> Option<()> {
-    let Ok(table) = table_from_str(alloc, "version = 2") else {
-        return None;
-    };
+    let table = table_from_str(alloc, "version = 2").ok()?;
     if calls {
         let _found = find(&table, "version");
     }

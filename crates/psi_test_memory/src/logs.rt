@@ -30,34 +30,36 @@ pub(crate) fn make(alloc: Global, calls: bool, net: &Net, pair: &Net, ring: &Net
 }
 
 fn make_line(alloc: Global, calls: bool, net: &Net) -> Option<()> {
-    let Ok(mut line) = LineBuf::reserve(alloc) else {
-        return None;
-    };
+    let mut line = LineBuf::reserve(alloc).ok()?;
     if calls {
-        call_line(&mut line, &net.system().caps());
+        let caps = net.system().caps();
+        let whole = Bounds::whole(&caps);
+        let step = Step {
+            number: 1,
+            event: 0,
+        };
+        line.header(&header_of(caps.len(), 1));
+        line.begin(&whole);
+        line.step_box(&step, &whole);
+        line.step_set(&step, &[caps]);
+        line.step_move(&step, &whole, &whole);
+        line.end(&caps);
+        let _length = line.bytes().len();
     }
     Some(())
 }
 
-fn call_line(line: &mut LineBuf, caps: &State) {
-    let whole = Bounds::whole(caps);
-    let step = Step {
-        number: 1,
-        event: 0,
-    };
-    line.header(&Header {
+// The header of a log of so many queues and steps.
+fn header_of(queues: u8, horizon: u32) -> Header
+    ensures { result ≡ record { version = 2; queues = queues; seed = 0; stream = 0; horizon = horizon } }
+{
+    Header {
         version: 2,
-        queues: caps.len(),
+        queues,
         seed: 0,
         stream: 0,
-        horizon: 1,
-    });
-    line.begin(&whole);
-    line.step_box(&step, &whole);
-    line.step_set(&step, &[*caps]);
-    line.step_move(&step, &whole, &whole);
-    line.end(caps);
-    let _length = line.bytes().len();
+        horizon,
+    }
 }
 
 /// What a log is written with.
@@ -70,15 +72,9 @@ struct Writing {
 
 // The room for a line, a block and two logs.
 fn room_to_write(alloc: Global) -> Option<Writing> {
-    let Ok(line) = LineBuf::reserve(alloc) else {
-        return None;
-    };
-    let Ok(block) = Block::reserve(alloc) else {
-        return None;
-    };
-    let Ok(sink) = MemorySink::new(alloc, ROOM, ROOM, Vec::new(alloc)) else {
-        return None;
-    };
+    let line = LineBuf::reserve(alloc).ok()?;
+    let block = Block::reserve(alloc).ok()?;
+    let sink = MemorySink::new(alloc, ROOM, ROOM, Vec::new(alloc)).ok()?;
     Some(Writing { line, block, sink })
 }
 
@@ -87,53 +83,25 @@ fn make_log(alloc: Global, calls: bool, net: &Net, limit: u8) -> Option<()>
     requires { limit ≤ 22 }
 {
     let system = net.system().with_limit(limit);
-    let Ok(mut plan) = plan_of(alloc, net.system().with_limit(limit), SeedPast::new(0, 0)) else {
-        return None;
-    };
+    let mut plan = plan_of(alloc, net.system().with_limit(limit), SeedPast::new(0, 0)).ok()?;
     let mut writing = room_to_write(alloc)?;
     write(&mut plan, &system.caps(), &mut writing);
-    let Ok(log) = read_log(alloc, writing.sink.bytes()) else {
-        return None;
-    };
+    let log = read_log(alloc, writing.sink.bytes()).ok()?;
     if calls {
         write(&mut plan, &system.caps(), &mut writing);
         call_log(&log);
         let _verdict = verdict(&system, &log);
     }
-    let Ok(reader) = LogReader::open(alloc, writing.sink.bytes()) else {
-        return None;
-    };
+    let reader = LogReader::open(alloc, writing.sink.bytes()).ok()?;
     if calls {
-        call_reader(reader);
+        let _header = reader.header();
+        let _before = reader.before();
+        let _region = reader.region();
+        let _stays = reader.stays();
+        let _left = reader.into_cursor();
         let _replay = StreamReplay::new(alloc, &system);
     }
     Some(())
-}
-
-fn call_reader(reader: LogReader<'_>) {
-    let _header = reader.header();
-    let _before = reader.before();
-    let _region = reader.region();
-    let _stays = reader.stays();
-    let _left = reader.into_cursor();
-}
-
-// The header of the longest run of a plan over so many queues.
-fn header_of<E: EventLaw, P: Past + Drop, F: Follower + Drop>(
-    plan: &Plan<'_, E, P, F>,
-    queues: u8,
-) -> Header
-    ensures some { 1 ≤ result.horizon }
-    ensures most { result.horizon ≤ 2 ^ plan.now.system.limit }
-    ensures version { result.version ≡ 2 }
-{
-    Header {
-        version: 2,
-        queues,
-        seed: 0,
-        stream: 0,
-        horizon: 1 << plan.limit(),
-    }
 }
 
 // The log of the longest run, with the state of the sample at its end, where the sample is met, and else the full one.
@@ -146,7 +114,7 @@ fn write<E: EventLaw, P: Past + Drop, F: Follower + Drop>(
         Outcome::Met { state, .. } => state,
         Outcome::NotMet { .. } => *full,
     };
-    let header = header_of(plan, full.len());
+    let header = header_of(full.len(), 1 << plan.limit());
     let _fits = log_fits(plan, &header, &state, &mut writing.line);
     let _written = write_log(
         plan,

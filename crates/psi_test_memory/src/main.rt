@@ -25,35 +25,19 @@ use std::{env, io};
 /// The most bytes that are asked for, one at a time.
 const MOST: u32 = 2_000;
 
-/// Why nothing could be counted.
-enum Missing {
-    Memory,
-    Net,
-    Word,
-}
-
-// Whether the one word is `each` or `none`.
-fn word(rt: &HostRuntime) -> Result<bool, Missing> {
-    let Ok(mut words) = env::args(rt) else {
-        return Err(Missing::Memory);
-    };
-    let _program = words.next();
-    match words.next() {
-        Some(word) if word.as_str() == "each" => Ok(true),
-        Some(word) if word.as_str() == "none" => Ok(false),
-        _ => Err(Missing::Word),
+// Whether the one word is `each`; `None` where it is neither that nor `none`.
+fn are_called(rt: &HostRuntime) -> Option<bool> {
+    match env::args(rt).ok()?.nth(1)?.as_str() {
+        "each" => Some(true),
+        "none" => Some(false),
+        _ => None,
     }
 }
 
 // The network of the file, where it is there and one.
-fn net_of_file(rt: &HostRuntime, name: &str) -> Result<Net, Missing> {
-    let Ok(text) = DiskShelf::new(rt).read(rt.alloc(), name, 65_535) else {
-        return Err(Missing::Net);
-    };
-    match net_of(rt.alloc(), text.as_slice()) {
-        Ok(net) => Ok(net),
-        Err(_) => Err(Missing::Net),
-    }
+fn net_of_file(rt: &HostRuntime, name: &str) -> Option<Net> {
+    let text = DiskShelf::new(rt).read(rt.alloc(), name, 65_535).ok()?;
+    net_of(rt.alloc(), text.as_slice()).ok()
 }
 
 // How often one byte is given before it is refused.
@@ -66,30 +50,11 @@ fn given(alloc: Global) -> u32 {
     MOST
 }
 
-// Makes what is called, group by group, and calls it or not; `None` where memory is wanting.
-fn each_group(
-    alloc: Global,
-    net: &Net,
-    pair: &Net,
-    ring: &Net,
-    fork: &Net,
-    calls: bool,
-) -> Option<()> {
-    networks::make(calls, net);
-    lists::make(alloc, calls)?;
-    keeping::make(alloc, calls, net)?;
-    sampling::make(alloc, calls, net)?;
-    sampling::make(alloc, calls, fork)?;
-    paths::make(alloc, calls, net)?;
-    tallies::make(alloc, calls, net)?;
-    logs::make(alloc, calls, net, pair, ring)?;
-    maps::make(alloc, calls, net)?;
-    closed::make(alloc, calls)
-}
-
-// Makes all that is called, calls it or not, and counts what is given then.
-fn counted(rt: &HostRuntime) -> Result<u32, Missing> {
-    let calls = word(rt)?;
+// Makes what is called, group by group, calls it or not, and counts what is given then; `None` where the word, a network
+// or memory is wanting.
+fn counted(rt: &HostRuntime) -> Option<u32> {
+    let alloc = rt.alloc();
+    let calls = are_called(rt)?;
     let net = net_of_file(rt, "net.toml")?;
     let pair = net_of_file(rt, "pair.toml")?;
     let ring = net_of_file(rt, "ring.toml")?;
@@ -97,18 +62,23 @@ fn counted(rt: &HostRuntime) -> Result<u32, Missing> {
     if calls {
         let _shelf = DiskShelf::new(rt);
     }
-    match each_group(rt.alloc(), &net, &pair, &ring, &fork, calls) {
-        Some(()) => Ok(given(rt.alloc())),
-        None => Err(Missing::Memory),
-    }
+    networks::make(calls, &net);
+    lists::make(alloc, calls)?;
+    keeping::make(alloc, calls, &net)?;
+    sampling::make(alloc, calls, &net)?;
+    sampling::make(alloc, calls, &fork)?;
+    paths::make(alloc, calls, &net)?;
+    tallies::make(alloc, calls, &net)?;
+    logs::make(alloc, calls, &net, &pair, &ring)?;
+    maps::make(alloc, calls, &net)?;
+    closed::make(alloc, calls)?;
+    Some(given(alloc))
 }
 
 fn main(rt: HostRuntime) -> io::Result<()> {
     match counted(&rt) {
-        Ok(MOST) => println!(rt; "none is refused"),
-        Ok(count) => println!(rt; "{count} are given"),
-        Err(Missing::Memory) => println!(rt; "no memory for what is called"),
-        Err(Missing::Net) => println!(rt; "no network"),
-        Err(Missing::Word) => println!(rt; "one word, each or none"),
+        Some(MOST) => println!(rt; "none is refused"),
+        Some(count) => println!(rt; "{count} are given"),
+        None => println!(rt; "no word, no network or no memory for what is called"),
     }
 }

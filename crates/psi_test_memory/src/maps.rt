@@ -14,9 +14,7 @@ use std::alloc::Global;
 /// Makes the table of a map, and calls it or not; `None` where memory is wanting.
 pub(crate) fn make(alloc: Global, calls: bool, net: &Net) -> Option<()> {
     let system = net.system();
-    let Ok(mut table) = MapTable::reserve(alloc, system.caps()) else {
-        return None;
-    };
+    let mut table = MapTable::reserve(alloc, system.caps()).ok()?;
     if calls {
         call_table(&mut table, &system);
         let _survey = survey(&system, &mut SeedPast::new(0, 0), &mut table, 4);

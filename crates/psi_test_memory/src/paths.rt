@@ -3,7 +3,6 @@
 ghost use Rattle.std.specs.Prelude.{◌≡◌, length};
 ghost use Rattle.psi_net_model.specs.Network.{caps_of};
 ghost use Rattle.psi_path.specs.Sums.{HasCounts};
-ghost use Rattle.psi_table.specs.Paths.{AreSumsFor};
 
 use psi_event::EventLaw;
 use psi_io::MemorySink;
@@ -66,9 +65,7 @@ fn make_walk<E: EventLaw, R: Rewards>(
     requires { R.capacities rewards.now ≡ system.now.caps }
 {
     let queues = system.caps().len();
-    let Ok(mut walk) = Walk::new(alloc, queues, rewards.count(), system.wheel().events()) else {
-        return None;
-    };
+    let mut walk = Walk::new(alloc, queues, rewards.count(), system.wheel().events()).ok()?;
     if calls {
         call_walk(&mut walk, system, rewards);
     }
@@ -91,12 +88,8 @@ fn call_walk<E: EventLaw, R: Rewards>(walk: &mut Walk, system: &System<'_, E>, r
 }
 
 fn make_samples(alloc: Global, calls: bool, net: &Net) -> Option<()> {
-    let Ok(mut rows) = Rows::begin(alloc, net) else {
-        return None;
-    };
-    let Ok(mut sink) = MemorySink::new(alloc, ROOM, ROOM, Vec::new(alloc)) else {
-        return None;
-    };
+    let mut rows = Rows::begin(alloc, net).ok()?;
+    let mut sink = MemorySink::new(alloc, ROOM, ROOM, Vec::new(alloc)).ok()?;
     if calls {
         call_samples(&mut rows, net, &net.system().caps(), &mut sink);
     }
@@ -121,35 +114,24 @@ fn call_samples(rows: &mut Rows, net: &Net, caps: &State, sink: &mut MemorySink)
 // The sums of the rows are those of a walk that was not run, so they are 0.
 fn make_paths(alloc: Global, calls: bool, net: &Net) -> Option<()> {
     let queues = net.queues();
-    let Ok(walk) = Walk::new(alloc, queues, net.rewards() as usize, net.events()) else {
-        return None;
-    };
-    let Ok(mut rows) = Rows::begin_paths(alloc, net) else {
-        return None;
-    };
-    let Ok(mut sink) = MemorySink::new(alloc, ROOM, ROOM, Vec::new(alloc)) else {
-        return None;
-    };
+    let walk = Walk::new(alloc, queues, net.rewards() as usize, net.events()).ok()?;
+    let mut rows = Rows::begin_paths(alloc, net).ok()?;
+    let mut sink = MemorySink::new(alloc, ROOM, ROOM, Vec::new(alloc)).ok()?;
     if calls {
         let walked = Walked {
             steps: STEPS,
             walk: &walk,
         };
-        call_paths(&mut rows, net, &walked, &mut sink);
+        let met = Outcome::Met {
+            horizon: 1,
+            state: net.system().caps(),
+        };
+        let unmet = Outcome::NotMet { limit: 1 };
+        let _unmet = rows.put_path(net, 0, &unmet, &walked, &mut sink);
+        for stream in 1..ROWS {
+            let _met = rows.put_path(net, stream, &met, &walked, &mut sink);
+        }
+        let _flushed = rows.flush(&mut sink);
     }
     Some(())
-}
-
-fn call_paths(rows: &mut Rows, net: &Net, walked: &Walked<'_>, sink: &mut MemorySink)
-    requires { AreSumsFor net.now walked.now.walk.now }
-{
-    let met = Outcome::Met {
-        horizon: 1,
-        state: net.system().caps(),
-    };
-    let _unmet = rows.put_path(net, 0, &Outcome::NotMet { limit: 1 }, walked, sink);
-    for stream in 1..ROWS {
-        let _met = rows.put_path(net, stream, &met, walked, sink);
-    }
-    let _flushed = rows.flush(sink);
 }

@@ -15,9 +15,7 @@ use std::alloc::Global;
 
 /// Makes a plan, and calls it or not; `None` where memory is wanting.
 pub(crate) fn make(alloc: Global, calls: bool, net: &Net) -> Option<()> {
-    let Ok(mut plan) = plan_of(alloc, net.system(), SeedPast::new(0, 0)) else {
-        return None;
-    };
+    let mut plan = plan_of(alloc, net.system(), SeedPast::new(0, 0)).ok()?;
     if calls {
         call_plan(&mut plan);
         plan.replace(SeedPast::new(1, 1));
