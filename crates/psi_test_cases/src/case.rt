@@ -112,3 +112,36 @@ impl Case {
         )
     }
 }
+
+/// How many calls agree, and how many differ. The counts stand still at the greatest u64.
+#[derive(Clone, Copy)]
+pub(crate) struct Counts {
+    pub(crate) agreeing: u64,
+    pub(crate) differing: u64,
+}
+
+impl Counts {
+    /// Nothing counted yet.
+    pub(crate) fn none() -> Counts {
+        Counts {
+            agreeing: 0,
+            differing: 0,
+        }
+    }
+
+    /// Counts a call that agrees or differs.
+    pub(crate) fn count(&mut self, agrees: bool) {
+        let place = if agrees {
+            &mut self.agreeing
+        } else {
+            &mut self.differing
+        };
+        *place = place.saturating_add(1);
+    }
+
+    /// Counts the calls that another one has counted.
+    pub(crate) fn add(&mut self, other: Counts) {
+        self.agreeing = self.agreeing.saturating_add(other.agreeing);
+        self.differing = self.differing.saturating_add(other.differing);
+    }
+}

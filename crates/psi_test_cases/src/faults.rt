@@ -5,7 +5,7 @@
 //! to there, the other sink nothing, and the status is that of a failed write; and where each write takes few bytes, the
 //! whole text comes.
 
-use crate::case::Case;
+use crate::case::{Case, Counts};
 use std::alloc::{AllocError, Global};
 
 /// The status of a call that couldn't read a file.
@@ -90,31 +90,18 @@ fn reads(case: &Case) -> u64 {
     }
 }
 
-/// How many calls agree with a case under each fault in turn, and how many differ.
-#[derive(Clone, Copy)]
-pub(crate) struct Tried {
-    pub(crate) agreeing: u64,
-    pub(crate) differing: u64,
-}
-
 /// Tries a case with each fault in turn.
 #[derive(Drop)]
 struct Trial {
     alloc: Global,
     case: Case,
-    tried: Tried,
+    counts: Counts,
 }
 
 impl Trial {
     // Makes the call as the case is now.
     fn call(&mut self) -> anyhow::Result<()> {
-        let agrees = self.case.agrees(self.alloc)?;
-        let place = if agrees {
-            &mut self.tried.agreeing
-        } else {
-            &mut self.tried.differing
-        };
-        *place = place.saturating_add(1);
+        self.counts.count(self.case.agrees(self.alloc)?);
         Ok(())
     }
 
@@ -167,21 +154,18 @@ impl Trial {
 }
 
 /// Makes the call of a case with each read failing that it needs and one more, each with each write failing, sinks that
-/// take 1 to 7 bytes a write, and room that ends anywhere.
+/// take 1 to 7 bytes a write, and room that ends anywhere; counts these calls.
 ///
 /// # Errors
 ///
 /// If an allocation fails.
-pub(crate) fn try_faults(alloc: Global, case: Case) -> anyhow::Result<Tried> {
+pub(crate) fn try_faults(alloc: Global, case: Case) -> anyhow::Result<Counts> {
     let whole = Reply::whole(&case)?;
     let needed = reads(&case);
     let mut trial = Trial {
         alloc,
         case,
-        tried: Tried {
-            agreeing: 0,
-            differing: 0,
-        },
+        counts: Counts::none(),
     };
     trial.write(&whole)?;
     for number in 1..needed.saturating_add(2) {
@@ -194,5 +178,5 @@ pub(crate) fn try_faults(alloc: Global, case: Case) -> anyhow::Result<Tried> {
             trial.call()?;
         }
     }
-    Ok(trial.tried)
+    Ok(trial.counts)
 }
