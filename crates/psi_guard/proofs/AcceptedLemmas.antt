@@ -1,17 +1,17 @@
 -- Parts that are accepted one after another.
-use Rattle.std.specs.Prelude.{◌≡◌, ℕ, zero, suc, ◌+◌, ◌<◌, ◌≤◌, Bool, true, false, cond, nat_eq, List, [], ◌∷◌, ◌++◌, length, drop, Option, Some, None, refl}
-use Rattle.std.proofs.Common.{inl, inr, ap, sym, ◌∙◌, subst, arith, length-append, append_assoc}
+use Rattle.std.specs.Prelude.{◌≡◌, ℕ, zero, suc, ◌+◌, ◌<◌, ◌≤◌, Bool, false, cond, nat_eq, List, ◌∷◌, ◌++◌, length, drop, Option, Some, None, []}
+use Rattle.std.proofs.Common.{sym, subst, arith, length-append, append_assoc, rules}
 use Rattle.std.proofs.lemmas.Bool.Decides.{nat_tests}
 use Rattle.std.proofs.lemmas.Bool.{cases_lt, both_ways}
 use Rattle.std.proofs.lemmas.List.{append-nil, at_drop_more}
 use Rattle.std.proofs.Math.ListN.{get_or-append}
 use Rattle.std.proofs.Math.Seq.{get_or-append_seam}
+use Rattle.std.proofs.lemmas.Grind.{common_steps}
 use Rattle.psi_event.specs.Choice.{first_or}
 use Rattle.psi_guard.specs.declared.parts.Part.{Part}
 use Rattle.psi_guard.specs.declared.guarded.GuardRefusal.{GuardRefusal}
-use Rattle.psi_guard.specs.declared.guarded.GuardRefusal.TheVariants.{Empty, Repeated, OutOfRange}
 use Rattle.psi_guard.specs.Inner.PartsKept.{no_part}
-use Rattle.psi_guard.specs.Refusals.{is_out, names, is_empty, refusal_at, refusal_after, refusal_of, FitsQueue, AreGuards, at}
+use Rattle.psi_guard.specs.Refusals.{names, refusal_at, refusal_after, refusal_of, FitsQueue, AreGuards, at}
 use Rattle.psi_guard.proofs.StepsLemmas.{names-at}
 
 -- so many different numbers below n are at most n
@@ -33,10 +33,7 @@ guards-few caps parts guards =
     few_places (length caps) (length parts) (λ i. (at parts i).queue) (λ i small. (guards.each i small).queue) guards.apart.each
 
 pub guards-empty : (caps : List ℕ) → AreGuards caps []
-guards-empty caps = record {
-  each = λ i small. absurd (omega arith);
-  apart = record { each = λ i j first second same. absurd (omega arith) };
-}
+guards-empty caps = search rules
 
 at-push_old : (kept : List Part) (part : Part) (i : ℕ) → i < length kept → at (kept ++ part ∷ []) i ≡ at kept i
 at-push_old kept part i small = get_or-append kept (part ∷ []) no_part i small
@@ -50,72 +47,21 @@ pub record IsAccepted (caps : List ℕ) (kept : List Part) (part : Part) : Type 
   pub other : names kept part.queue ≡ false
 
 first_none : (a b c : Bool) (p q r : GuardRefusal) → cond a (Some p) (cond b (Some q) (cond c (Some r) None)) ≡ None → (a ≡ false) × (b ≡ false) × (c ≡ false)
-first_none true b c p q r is = absurd cc
-first_none false true c p q r is = absurd cc
-first_none false false true p q r is = absurd cc
-first_none false false false p q r is = (refl, refl, refl)
+first_none a b c p q r is = search rules
 
 pub accepted-at : (caps : List ℕ) (kept : List Part) (part : Part) → refusal_at caps kept part ≡ None → IsAccepted caps kept part
-accepted-at caps kept part none =
-    let tests = first_none (is_out caps part) (names kept part.queue) (is_empty part) OutOfRange Repeated Empty none in
-    let within : is_out caps part ≡ false = tests.0 in
-    let full : is_empty part ≡ false = tests.2 in
-    record {
-      fits = record {
-        queue = grind (arith, nat_tests);
-        guard = grind (arith, nat_tests);
-        most = grind (arith, nat_tests);
-        limits = grind (arith, nat_tests);
-        ceiling = grind (arith, nat_tests);
-        shift = grind (arith, nat_tests);
-      };
-      other = tests.1;
-    }
+accepted-at caps kept part none = search (rules, first_none, nat_tests)
 
 pub guards-push : (caps : List ℕ) (kept : List Part) (part : Part) → AreGuards caps kept → refusal_at caps kept part ≡ None → AreGuards caps (kept ++ part ∷ [])
-guards-push caps kept part guards none =
-    let accepted = accepted-at caps kept part none in
-    let more : length (kept ++ part ∷ []) ≡ length kept + 1 = length-append kept (part ∷ []) in
-    record {
-      each = λ i small. elim (cases_lt i (length kept)) [
-        | inl less ↦ subst (λ (p : Part). FitsQueue caps p) (sym (at-push_old kept part i less)) (guards.each i less)
-        | inr last ↦ (let e : length kept ≡ i = omega arith in
-            subst (λ j. FitsQueue caps (at (kept ++ part ∷ []) j)) e (subst (λ (p : Part). FitsQueue caps p) (sym (at-push_new kept part)) accepted.fits))
-      ];
-      apart = record {
-        each = λ i j first second same. elim (cases_lt i (length kept)) [
-          | inl less ↦ elim (cases_lt j (length kept)) [
-            | inl fewer ↦ guards.apart.each i j less fewer
-                (sym (ap (λ p. p.queue) (at-push_old kept part i less)) ∙ (same ∙ ap (λ p. p.queue) (at-push_old kept part j fewer)))
-            | inr last ↦ absurd (let e : j ≡ length kept = omega arith in
-                clash kept part i accepted.other less (sym (ap (λ p. p.queue) (at-push_old kept part i less)) ∙ (same ∙ newest kept part j e)))
-          ]
-          | inr last ↦ elim (cases_lt j (length kept)) [
-            | inl fewer ↦ absurd (let e : i ≡ length kept = omega arith in
-                clash kept part j accepted.other fewer (sym (ap (λ p. p.queue) (at-push_old kept part j fewer)) ∙ (sym same ∙ newest kept part i e)))
-            | inr latest ↦ omega arith
-          ]
-        ];
-      };
-    }
-  where
-    newest : (kept : List Part) (part : Part) (j : ℕ) → j ≡ length kept → (at (kept ++ part ∷ []) j).queue ≡ part.queue
-    newest kept part j e = ap (λ i. (at (kept ++ part ∷ []) i).queue) e ∙ ap (λ p. p.queue) (at-push_new kept part)
-
-    clash : (kept : List Part) (part : Part) (i : ℕ) → names kept part.queue ≡ false → i < length kept → (at kept i).queue ≡ part.queue → ⊥
-    clash kept part i other small same = both_ways (names kept part.queue) other (names-at kept part.queue i small same)
+guards-push caps kept part guards none = grind (arith, common_steps, accepted-at, length-append, cases_lt, at-push_old, at-push_new, both_ways, names-at)
 
 -- there is room for a part that is accepted
 pub kept-room : (caps : List ℕ) (kept : List Part) (part : Part) → AreGuards caps kept → refusal_at caps kept part ≡ None → length caps ≤ 32 → length kept < 32
-kept-room caps kept part guards none few =
-    let more : length (kept ++ part ∷ []) ≡ length kept + 1 = length-append kept (part ∷ []) in
-    let all : length (kept ++ part ∷ []) ≤ length caps = guards-few caps (kept ++ part ∷ []) (guards-push caps kept part guards none) in
-    omega arith
+kept-room caps kept part guards none few = search (rules, length-append, guards-few, guards-push)
 
 -- where neither of two causes is there, each is absent
 pub first_or-none : {A : Type 0} (a b : Option A) → first_or a b ≡ None → (a ≡ None) × (b ≡ None)
-first_or-none None b is = (refl, is)
-first_or-none (Some a) b is = absurd cc
+first_or-none a b is = search rules
 
 -- parts that follow those of a guarded event and aren't refused are one's with them
 guards-after : (caps : List ℕ) (kept parts : List Part) → AreGuards caps kept → refusal_after caps kept parts ≡ None → AreGuards caps (kept ++ parts)
@@ -136,10 +82,8 @@ refusal-step caps kept parts i small = at_drop_more (refusal_after caps kept) pa
 
 pub refusal-found : (caps : List ℕ) (kept parts : List Part) (i : ℕ) (refusal : GuardRefusal) → i < length parts → refusal_at caps kept (at parts i) ≡ Some refusal
     → refusal_after caps kept (drop i parts) ≡ Some refusal
-refusal-found caps kept parts i refusal small is =
-    refusal-step caps kept parts i small ∙ ap (λ o. first_or o (refusal_after caps (kept ++ at parts i ∷ []) (drop (i + 1) parts))) is
+refusal-found caps kept parts i refusal small is = search (rules, refusal-step)
 
 pub refusal-later : (caps : List ℕ) (kept parts : List Part) (i : ℕ) → i < length parts → refusal_at caps kept (at parts i) ≡ None
     → refusal_after caps kept (drop i parts) ≡ refusal_after caps (kept ++ at parts i ∷ []) (drop (i + 1) parts)
-refusal-later caps kept parts i small none =
-    refusal-step caps kept parts i small ∙ ap (λ o. first_or o (refusal_after caps (kept ++ at parts i ∷ []) (drop (i + 1) parts))) none
+refusal-later caps kept parts i small none = search (rules, refusal-step)

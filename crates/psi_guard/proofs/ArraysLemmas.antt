@@ -1,6 +1,6 @@
 -- Arrays of a fixed length whose front holds a list, with one value after it.
 use Rattle.std.specs.Prelude.{◌≡◌, ℕ, ◌+◌, ◌-◌, ◌<◌, ◌≤◌, List, length, replicate, take, drop, slice_set}
-use Rattle.std.proofs.Common.{ap, ◌∙◌, sym, arith}
+use Rattle.std.proofs.Common.{ap, ◌∙◌, sym, arith, rules}
 use Rattle.std.proofs.lemmas.List.{drop-set-lt, drop-drop, drop-replicate, length-set, length-take-le}
 use Rattle.psi_guard.specs.declared.parts.Part.{Part}
 use Rattle.psi_guard.specs.Inner.PartsKept.{no_part}
@@ -18,6 +18,4 @@ drop-push xs n v d small rest =
 -- so does the array of a list of parts
 pub parts-pushed : (items : List Part) (n : ℕ) (parts : List Part) (part : Part) → (n ≤ 32) × (length items ≡ 32) × (drop n items ≡ replicate (32 - n) no_part) → take n items ≡ parts
     → length parts < 32 → (n + 1 ≤ 32) × (length (slice_set items n part) ≡ 32) × (drop (n + 1) (slice_set items n part) ≡ replicate (32 - (n + 1)) no_part)
-parts-pushed items n parts part kept is fits =
-    let count : length parts ≡ n = sym (ap (length {A = Part}) is) ∙ length-take-le n items (omega arith) in
-    (omega arith, length-set items n part ∙ kept.1, drop-push items n part no_part (omega arith) kept.2)
+parts-pushed items n parts part kept is fits = search (rules, length-take-le, length-set, drop-push)

@@ -1,6 +1,6 @@
 -- The tight box around what an event by queues makes of a box.
 use Rattle.std.specs.Prelude.{◌≡◌, ℕ, ◌<◌, ◌≤◌, min, max, ◌⊎◌, List, length, slice_index, refl}
-use Rattle.std.proofs.Common.{inl, inr, ap, sym, ◌∙◌, subst, arith}
+use Rattle.std.proofs.Common.{inl, inr, ap, sym, ◌∙◌, arith, rules}
 use Rattle.std.proofs.lemmas.Bool.{cases_eq}
 use Rattle.psi_state.specs.State.{IsBelow, box}
 use Rattle.psi_state.specs.Boxes.{IsBetween}
@@ -22,31 +22,11 @@ pub record IsBoxOf (r : Rule) (caps l h : List ℕ) : Type 0 where
 
 -- where a state of the box is moved, each queue's numbers meet its guard
 moving : (r : Rule) (caps l h x : List ℕ) → IsBoxOf r caps l h → IsBetween l h x → AllowsAll r x → CanMoveAll r l h
-moving r caps l h x fit between allowed = record {
-  low = λ p place. (let low : slice_index l p ≤ slice_index x p = between.low.each p (omega (arith, fit.long)) in
-      let most : slice_index x p ≤ r.most p = allowed.high p place in omega arith);
-  high = λ p place. (let there : p < length x = omega (arith, place, fit.longer, between.high.same_length) in
-      let high : slice_index x p ≤ slice_index h p = between.high.each p there in
-      let least : r.least p ≤ slice_index x p = allowed.low p place in omega arith);
-}
+moving r caps l h x fit between allowed = search rules
 
 -- where a state isn't moved, each of its queues may keep its number
 keeping : (r : Rule) (caps l h x : List ℕ) (q : ℕ) → IsBoxOf r caps l h → IsBetween l h x → RefusesSome r x → CanKeep r l h q (slice_index x q)
-keeping r caps l h x q fit between refused =
-    let p = refused.queue in
-    let here : p < length l = omega (arith, refused.place, fit.long) in
-    let there : p < length x = omega (arith, refused.place, fit.longer, between.high.same_length) in
-    let low : slice_index l p ≤ slice_index x p = between.low.each p here in
-    let high : slice_index x p ≤ slice_index h p = between.high.each p there in
-    elim (cases_eq p q) [
-      | inl e ↦ inr (subst (λ i. (slice_index x i < r.least i) ⊎ (r.most i < slice_index x i)) e refused.out)
-      | inr ne ↦ inl (record {
-        queue = p;
-        place = refused.place;
-        other = ne;
-        out = elim refused.out [ inl out ↦ inl (omega arith) | inr out ↦ inr (omega arith) ];
-      })
-    ]
+keeping r caps l h x q fit between refused = search (rules, cases_eq)
 
 low_inside : (r : Rule) (caps : List ℕ) (f : List ℕ → List ℕ) (l h x : List ℕ) (q u : ℕ) → IsRuleOf r caps f → IsBoxOf r caps l h → IsBetween l h x → q < r.queues
     → IsLow r l h q u → u ≤ slice_index (f x) q

@@ -1,6 +1,6 @@
 -- Which queues of a box can hold numbers within and outside their guards.
-use Rattle.std.specs.Prelude.{◌≡◌, ℕ, ◌+◌, ◌-◌, ◌<◌, ◌≤◌, min, max, Bool, true, false, MatchBool, ◌⊎◌, nat_eq, List, length, slice_index, slice_set}
-use Rattle.std.proofs.Common.{inl, inr, ap, sym, ◌∙◌, subst, arith}
+use Rattle.std.specs.Prelude.{◌≡◌, ℕ, ◌+◌, ◌<◌, ◌≤◌, Bool, true, false, MatchBool, ◌⊎◌, nat_eq, List, length, slice_index, slice_set}
+use Rattle.std.proofs.Common.{inl, inr, ap, sym, ◌∙◌, subst, arith, rules}
 use Rattle.std.proofs.lemmas.Bool.{cases_lt, cases_eq, cases_Bool, eqb-false, not-true, not-false, eqb-true, true_from_ne_false, MatchBool-at_true, MatchBool-at_false}
 use Rattle.psi_state.specs.State.{IsBelow, box}
 use Rattle.psi_state.specs.Sets.{image}
@@ -15,7 +15,6 @@ use Rattle.psi_guard.specs.Refusals.{AreGuards, at}
 use Rattle.psi_guard.specs.Places.{IsFree}
 use Rattle.psi_guard.specs.Inner.PlacesLaws.{named_or_free, part_of-each, part_of-at}
 use Rattle.psi_guard.specs.Rule.{Rule, rule}
-use Rattle.psi_guard.specs.Inner.RuleLaws.{moved-rises}
 use Rattle.psi_guard.specs.Envelope.{Leaves, CanMoveAll, MissesSome, OtherLeaves, CanKeep, IsEnd, Knows, others, MayKeep, IsLeastOf, IsGreatestOf, CanTurn}
 use Rattle.psi_guard.proofs.OrderLemmas.{is_rule_of}
 use Rattle.psi_guard.proofs.HullsLemmas.{AreEnds, ends-tight}
@@ -97,19 +96,7 @@ knows-end caps parts l h i (One q) guards within all known =
       λ p place other out. (let by = leaves-by caps parts l h p within place out in
           known.4 by.place (omega (arith, by.small)) (λ same. other (sym by.queue ∙ same)) by.out),
     )
-knows-end caps parts l h i Several guards within all known =
-    let first : known.0 < i = known.2 in
-    let second : known.1 < i = known.3 in
-    let one : known.0 < length parts = omega arith in
-    let two : known.1 < length parts = omega arith in (
-      (at parts known.0).queue,
-      (at parts known.1).queue,
-      (guards.each known.0 one).queue,
-      (guards.each known.1 two).queue,
-      known.4,
-      leaves-at caps parts l h known.0 guards one known.5,
-      leaves-at caps parts l h known.1 guards two known.6,
-    )
+knows-end caps parts l h i Several guards within all known = search (rules, leaves-at)
 
 pub others-true : (r : Rule) (l h : List ℕ) (leaving : Leaving) (q : ℕ) → Knows r l h leaving → others leaving q ≡ true → OtherLeaves r l h q
 others-true r l h Nowhere q known is = absurd cc
@@ -121,11 +108,7 @@ others-true r l h Several q known is =
     ]
 
 pub others-false : (r : Rule) (l h : List ℕ) (leaving : Leaving) (q : ℕ) → Knows r l h leaving → others leaving q ≡ false → OtherLeaves r l h q → ⊥
-others-false r l h Nowhere q known is other = known other.queue other.place other.out
-others-false r l h (One p) q known is other =
-    let e : p ≡ q = eqb-true p q (not-false (nat_eq p q) is) in
-    known.2 other.queue other.place (λ same. other.other (same ∙ e)) other.out
-others-false r l h Several q known is other = absurd cc
+others-false r l h leaving q known is other = search (rules, eqb-true, not-false)
 
 -- what the answers of the two questions to a box mean
 pub record Answers (r : Rule) (l h : List ℕ) (moves : Bool) (leaving : Leaving) : Type 0 where
@@ -134,50 +117,18 @@ pub record Answers (r : Rule) (l h : List ℕ) (moves : Bool) (leaving : Leaving
 
 -- where some queue misses its guard, no state is moved
 moves-all : (r : Rule) (l h : List ℕ) (moves : Bool) → MatchBool moves (CanMoveAll r l h) (MissesSome r l h) → CanMoveAll r l h → moves ≡ true
-moves-all r l h moves turn can =
-    elim (cases_Bool moves) [
-      | inl is ↦ is
-      | inr is ↦ absurd (let missing = MatchBool-at_false (CanMoveAll r l h) (MissesSome r l h) is turn in
-          let low : slice_index l missing.queue ≤ r.most missing.queue = can.low missing.queue missing.place in
-          let high : r.least missing.queue ≤ slice_index h missing.queue = can.high missing.queue missing.place in
-          elim missing.out [ inl out ↦ omega arith | inr out ↦ omega arith ])
-    ]
+moves-all r l h moves turn can = search (rules, cases_Bool, MatchBool-at_false)
 
 -- a queue that misses its guard is queue q or lets every other one stay
 pub can-turn : (caps : List ℕ) (parts : List Part) (l h : List ℕ) (q : ℕ) (moves : Bool) (leaving : Leaving) → Answers (rule caps parts) l h moves leaving → IsBelow l h
     → length l ≡ length caps → CanTurn (part_of caps parts q) (slice_index l q) (slice_index h q) moves (others leaving q)
-can-turn caps parts l h q moves leaving answers ordered long =
-    elim (cases_Bool moves) [
-      | inl move ↦ inl move
-      | inr stays ↦ (let missing = MatchBool-at_false (CanMoveAll (rule caps parts) l h) (MissesSome (rule caps parts) l h) stays answers.turn in
-          elim (cases_eq missing.queue q) [
-            | inl e ↦ inr (inr (subst (λ i. (slice_index h i < (part_of caps parts i).least) ⊎ ((part_of caps parts i).most < slice_index l i)) e missing.out))
-            | inr ne ↦ inr (inl (true_from_ne_false (others leaving q) (λ alone.
-                (let step : slice_index l missing.queue ≤ slice_index h missing.queue = ordered.each missing.queue (omega (arith, long, missing.place)) in
-                others-false (rule caps parts) l h leaving q answers.known alone (record {
-                  queue = missing.queue;
-                  place = missing.place;
-                  other = ne;
-                  out = elim missing.out [ inl out ↦ inl (omega arith) | inr out ↦ inr (omega arith) ];
-                })))))
-          ])
-    ]
+can-turn caps parts l h q moves leaving answers ordered long = search (rules, cases_Bool, MatchBool-at_false, cases_eq, true_from_ne_false, others-false)
 
 -- an end among what becomes of the numbers of a part's queue is one among what becomes of those of the box
 pub end-from : (caps : List ℕ) (parts : List Part) (l h : List ℕ) (q : ℕ) (before : ℕ → ℕ → Type 0) (image u : ℕ) (moves : Bool) (leaving : Leaving) → Answers (rule caps parts) l h moves leaving
     → IsEnd (moves ≡ true) (λ v. MayKeep (part_of caps parts q) (others leaving q) v) before (slice_index l q) (slice_index h q) image u
     → IsEnd (CanMoveAll (rule caps parts) l h) (λ v. CanKeep (rule caps parts) l h q v) before (slice_index l q) (slice_index h q) image u
-end-from caps parts l h q before image u moves leaving answers end = record {
-  moved = λ can. end.moved (moves-all (rule caps parts) l h moves answers.turn can);
-  kept = λ v start stop can. end.kept v start stop (elim can [
-    | inl other ↦ inl (true_from_ne_false (others leaving q) (λ alone. others-false (rule caps parts) l h leaving q answers.known alone other))
-    | inr own ↦ inr own
-  ]);
-  reached = elim end.reached [
-    | inl a ↦ inl (MatchBool-at_true (CanMoveAll (rule caps parts) l h) (MissesSome (rule caps parts) l h) a.0 answers.turn, a.1)
-    | inr b ↦ inr (elim b.0 [ inl other ↦ inl (others-true (rule caps parts) l h leaving q answers.known other) | inr own ↦ inr own ], b.1)
-  ];
-}
+end-from caps parts l h q before image u moves leaving answers end = search (rules, moves-all, true_from_ne_false, others-false, MatchBool-at_true, others-true)
 
 -- the queues of the first i parts have their ends
 pub record AreEnding (parts : List Part) (l h : List ℕ) (moves : Bool) (leaving : Leaving) (i : ℕ) (u w : List ℕ) : Type 0 where
@@ -188,11 +139,7 @@ pub record AreEnding (parts : List Part) (l h : List ℕ) (moves : Bool) (leavin
 own-ends : (caps : List ℕ) (parts : List Part) (l h u w : List ℕ) (i a b : ℕ) (part : Part) (moves stays : Bool) (leaving : Leaving) → AreGuards caps parts
     → AreEnding parts l h moves leaving i u w → i < length parts → part ≡ at parts i → a ≡ slice_index u part.queue → b ≡ slice_index w part.queue → stays ≡ others leaving part.queue
     → (a ≡ slice_index l (at parts i).queue) × (b ≡ slice_index h (at parts i).queue) × (stays ≡ others leaving (at parts i).queue)
-own-ends caps parts l h u w i a b part moves stays leaving guards ending small is first last other = (
-  first ∙ (ap (λ (p : Part). slice_index u p.queue) is ∙ set-next _ _ l u i (length parts) ending.low small guards.apart.each),
-  last ∙ (ap (λ (p : Part). slice_index w p.queue) is ∙ set-next _ _ h w i (length parts) ending.high small guards.apart.each),
-  other ∙ ap (λ (p : Part). others leaving p.queue) is,
-)
+own-ends caps parts l h u w i a b part moves stays leaving guards ending small is first last other = search (rules, set-next)
 
 pub part-turns : (caps : List ℕ) (parts : List Part) (l h u w : List ℕ) (i a b : ℕ) (part : Part) (moves stays : Bool) (leaving : Leaving) → AreGuards caps parts
     → Answers (rule caps parts) l h moves leaving → IsBelow l h → length l ≡ length caps → AreEnding parts l h moves leaving i u w → i < length parts → part ≡ at parts i
@@ -257,26 +204,4 @@ ending-tight caps parts l h u w i moves leaving guards answers ordered within en
 
 -- the least number of a part's queue is at most the greatest: some number is kept, or all are moved
 pub least-greatest : (part : Part) (l h : ℕ) (moves stays : Bool) (u w : ℕ) → l ≤ h → IsLeastOf part l h moves stays u → IsGreatestOf part l h moves stays w → u ≤ w
-least-greatest part l h moves stays u w step least greatest =
-    elim least.reached [
-      | inr kept ↦ greatest.kept u kept.1.0 kept.1.1 kept.0
-      | inl moved ↦ elim (cases_lt l part.least) [
-        | inl low ↦ through l (omega arith) step (inr (inl low))
-        | inr from ↦ elim (cases_lt part.most h) [
-          | inl high ↦ through h step (omega arith) (inr (inr high))
-          | inr to ↦ all_moved from to moved
-        ]
-      ]
-    ]
-  where
-    through : (v : ℕ) → l ≤ v → v ≤ h → MayKeep part stays v → u ≤ w
-    through v start stop may = (let low : u ≤ v = least.kept v start stop may in let high : v ≤ w = greatest.kept v start stop may in omega arith)
-
-    all_moved : part.least ≤ l → h ≤ part.most → (moves ≡ true) × (u ≡ moved part (max l part.least)) → u ≤ w
-    all_moved from to image =
-        let low : max l part.least ≡ l = omega arith in
-        let high : min h part.most ≡ l + (h - l) = omega arith in
-        let rise : moved part l ≤ moved part (l + (h - l)) = moved-rises part l (h - l) in
-        let first : u ≡ moved part l = image.1 ∙ ap (λ v. moved part v) low in
-        let last : moved part (l + (h - l)) ≤ w = subst (λ v. moved part v ≤ w) high (greatest.moved image.0) in
-        omega arith
+least-greatest part l h moves stays u w step least greatest = search (rules, cases_lt)

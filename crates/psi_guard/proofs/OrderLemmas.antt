@@ -1,6 +1,6 @@
 -- When an event by queues keeps the order of states.
 use Rattle.std.specs.Prelude.{◌≡◌, ℕ, ◌+◌, ◌-◌, ◌<◌, ◌≤◌, List, length, slice_index, refl}
-use Rattle.std.proofs.Common.{inl, inr, ap, sym, ◌∙◌, subst, arith}
+use Rattle.std.proofs.Common.{inl, inr, ap, sym, ◌∙◌, subst, arith, rules}
 use Rattle.std.proofs.lemmas.Bool.{cases_lt, cases_eq}
 use Rattle.psi_state.specs.State.{IsBelow}
 use Rattle.psi_state.proofs.BoxesLemmas.{below-through}
@@ -132,10 +132,7 @@ monotone_without r caps f is none = record {
 
 -- no state is both within all guards and outside one
 pub allows-apart : (r : Rule) (x : List ℕ) → AllowsAll r x → RefusesSome r x → ⊥
-allows-apart r x allowed refused =
-    let low = allowed.low refused.queue refused.place in
-    let high = allowed.high refused.queue refused.place in
-    elim refused.out [ inl out ↦ omega arith | inr out ↦ omega arith ]
+allows-apart r x allowed refused = search rules
 
 -- a state whose numbers are all within the guards goes where its queues move, and one with a number outside stays
 pub allowed_moves : (r : Rule) (x y : List ℕ) (q : ℕ) → Makes r x y → AllowsAll r x → q < r.queues → slice_index y q ≡ r.moves q (slice_index x q)

@@ -1,6 +1,6 @@
 -- The pairs of states that the four tests show.
-use Rattle.std.specs.Prelude.{◌≡◌, ℕ, ◌+◌, ◌-◌, ◌<◌, ◌≤◌, Bool, true, false, ◌&&◌, not, cond, nat_eq, nat_lt, List, length, slice_index, slice_set, Option, Some, None, refl}
-use Rattle.std.proofs.Common.{inl, inr, sym, ◌∙◌, subst, arith, length-set, get_or-set_same, get_or-set_other}
+use Rattle.std.specs.Prelude.{◌≡◌, ℕ, ◌+◌, ◌-◌, ◌<◌, ◌≤◌, Bool, true, ◌&&◌, not, cond, nat_eq, nat_lt, List, length, slice_index, slice_set, Option, Some, None, refl}
+use Rattle.std.proofs.Common.{inl, inr, sym, ◌∙◌, subst, arith, length-set, get_or-set_same, get_or-set_other, rules}
 use Rattle.std.proofs.lemmas.Bool.{cases_eq, and_parts, and_from, ltb-true, lt-ltb, eqb-false, ne_eqb, not-true, not_from_false}
 use Rattle.psi_state.specs.State.{IsBelow}
 use Rattle.psi_event.specs.Choice.{first_or}
@@ -21,24 +21,11 @@ record Around (r : Rule) (p v : ℕ) (b x : List ℕ) : Type 0 where
   there : (i : ℕ) → i < r.queues → (i ≡ p → ⊥) → slice_index x i ≡ slice_index b i
 
 around-set : (r : Rule) (p v : ℕ) (b : List ℕ) → length b ≡ r.queues → p < r.queues → Around r p v b (slice_set b p v)
-around-set r p v b long place = record {
-  long = length-set {A = ℕ} b p v ∙ long;
-  here = get_or-set_same {A = ℕ} b p v 0 (omega (arith, long));
-  there = λ i small other. get_or-set_other {A = ℕ} b p i v 0 other;
-}
+around-set r p v b long place = search (rules, length-set, get_or-set_same, get_or-set_other)
 
 -- one that is within the guards stays within them where the number is within queue p's guard
 allows-around : (r : Rule) (p v : ℕ) (b x : List ℕ) → AllowsAll r b → Around r p v b x → r.least p ≤ v → v ≤ r.most p → AllowsAll r x
-allows-around r p v b x all around low high = record {
-  low = λ i small. elim (cases_eq i p) [
-    | inl e ↦ subst (λ j. r.least j ≤ slice_index x j) (sym e) (omega (arith, around.here))
-    | inr ne ↦ (let least = all.low i small in omega (arith, least, around.there i small ne))
-  ];
-  high = λ i small. elim (cases_eq i p) [
-    | inl e ↦ subst (λ j. slice_index x j ≤ r.most j) (sym e) (omega (arith, around.here))
-    | inr ne ↦ (let most = all.high i small in omega (arith, most, around.there i small ne))
-  ];
-}
+allows-around r p v b x all around low high = search (rules, cases_eq)
 
 -- two states of the network, the smaller first
 record IsPair (caps x y : List ℕ) : Type 0 where
@@ -47,31 +34,14 @@ record IsPair (caps x y : List ℕ) : Type 0 where
 
 pair_of : (r : Rule) (caps : List ℕ) (f : List ℕ → List ℕ) (p u v : ℕ) (b x y : List ℕ) → IsRuleOf r caps f → AllowsAll r b
     → Around r p u b x → Around r p v b y → u ≤ v → v ≤ r.cap p → IsPair caps x y
-pair_of r caps f p u v b x y is all first second less room = record {
-  within = record {
-    same_length = second.long ∙ is.queues;
-    each = λ i small. (let there : i < r.queues = omega (arith, second.long) in elim (cases_eq i p) [
-      | inl e ↦ subst (λ j. slice_index y j ≤ slice_index caps j) (sym e) (omega (arith, second.here, is.cap p))
-      | inr ne ↦ (let high = all.high i there in let most = is.lawful.most i there in omega (arith, high, most, second.there i there ne, is.cap i))
-    ]);
-  };
-  ordered = record {
-    same_length = first.long ∙ sym second.long;
-    each = λ i small. (let there : i < r.queues = omega (arith, first.long) in elim (cases_eq i p) [
-      | inl e ↦ subst (λ j. slice_index x j ≤ slice_index y j) (sym e) (omega (arith, first.here, second.here))
-      | inr ne ↦ omega (arith, first.there i there ne, second.there i there ne)
-    ]);
-  };
-}
+pair_of r caps f p u v b x y is all first second less room = search (rules, cases_eq)
 
 -- a test that succeeds, and one that doesn't
 test-some : {A : Type 0} (b : Bool) (a found : A) → cond b (Some a) None ≡ Some found → (b ≡ true) × (a ≡ found)
-test-some true a found is = (refl, cc)
-test-some false a found is = absurd cc
+test-some b a found is = search rules
 
 test-none : {A : Type 0} (b : Bool) (a : A) → cond b (Some a) None ≡ None → b ≡ true → ⊥
-test-none true a is holds = absurd cc
-test-none false a is holds = absurd cc
+test-none b a is holds = absurd cc
 
 abbrev IsShown : List ℕ → List Part → List ℕ × List ℕ → Type 0
 IsShown caps parts pair = IsUpset caps (guarded parts) pair.0 pair.1
@@ -225,27 +195,18 @@ queue-shows caps parts f pair each is =
 
 pairs-show : (caps : List ℕ) (parts : List Part) (f : ℕ → ℕ → Option (List ℕ × List ℕ)) (pair : List ℕ × List ℕ)
     → ((p q : ℕ) (found : List ℕ × List ℕ) → p < length caps → q < length caps → f p q ≡ Some found → IsShown caps parts found) → over_pairs caps f ≡ Some pair → IsShown caps parts pair
-pairs-show caps parts f pair each is = queue-shows caps parts (λ p. over_queues caps (f p)) pair (λ p found place at.
-    queue-shows caps parts (f p) found (λ q last other there. each p q last place other there) at) is
+pairs-show caps parts f pair each is = search (rules, queue-shows)
 
 -- the pair is that of the first test that succeeds, and without one no test does
 first-shows : (caps : List ℕ) (parts : List Part) (a b c d : Option (List ℕ × List ℕ)) → over_queues caps (own_above caps parts) ≡ a → over_pairs caps (other_above caps parts) ≡ b
     → over_queues caps (own_below caps parts) ≡ c → over_pairs caps (other_below caps parts) ≡ d → AreGuards caps parts
     → ShowsUpset caps (guarded parts) (first_or a (first_or b (first_or c d)))
-first-shows caps parts (Some pair) b c d one two three four guards =
-    queue-shows caps parts (own_above caps parts) pair (λ p found place at. own_above-shows caps parts p found guards place at) one
-first-shows caps parts None (Some pair) c d one two three four guards =
-    pairs-show caps parts (other_above caps parts) pair (λ p q found place other at. other_above-shows caps parts p q found guards place other at) two
-first-shows caps parts None None (Some pair) d one two three four guards =
-    queue-shows caps parts (own_below caps parts) pair (λ p found place at. own_below-shows caps parts p found guards place at) three
-first-shows caps parts None None None (Some pair) one two three four guards =
-    pairs-show caps parts (other_below caps parts) pair (λ p q found place other at. other_below-shows caps parts p q found guards place other at) four
-first-shows caps parts None None None None one two three four guards =
-    none-monotone caps parts guards (record { own_above = one; other_above = two; own_below = three; other_below = four })
+first-shows caps parts (Some pair) b c d one two three four guards = search (rules, queue-shows, own_above-shows)
+first-shows caps parts None (Some pair) c d one two three four guards = search (rules, pairs-show, other_above-shows)
+first-shows caps parts None None (Some pair) d one two three four guards = search (rules, queue-shows, own_below-shows)
+first-shows caps parts None None None (Some pair) one two three four guards = search (rules, pairs-show, other_below-shows)
+first-shows caps parts None None None None one two three four guards = search (rules, none-monotone)
 
 pub upset-shows : (caps : List ℕ) (parts : List Part) (o : Option (List ℕ × List ℕ)) → AreGuards caps parts → o ≡ upset_of caps parts → ShowsUpset caps (guarded parts) o
 unfolding upset_of
-upset-shows caps parts o guards is =
-    subst (λ (p : Option (List ℕ × List ℕ)). ShowsUpset caps (guarded parts) p) (sym is)
-    (first-shows caps parts (over_queues caps (own_above caps parts)) (over_pairs caps (other_above caps parts)) (over_queues caps (own_below caps parts)) (over_pairs caps (other_below caps parts))
-    refl refl refl refl guards)
+upset-shows caps parts o guards is = search (rules, first-shows)

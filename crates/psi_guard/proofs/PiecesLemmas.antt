@@ -1,6 +1,6 @@
 -- Lemmas. What the pieces of a guarded event add and take is what it does.
-use Rattle.std.specs.Prelude.{◌≡◌, ◌≢◌, ℕ, zero, suc, ◌+◌, ◌<◌, ◌≤◌, min, max, ℤ, pos, negsuc, ◌⊎◌, List, [], ◌∷◌, length, slice_index, slice_index_or, Bool, true, false, nat_le, nat_lt, if◌then◌else◌, refl}
-use Rattle.std.proofs.Common.{inl, inr, ap, sym, ◌∙◌, subst, arith}
+use Rattle.std.specs.Prelude.{◌≡◌, ◌≢◌, ℕ, zero, suc, ◌+◌, ◌<◌, ◌≤◌, min, max, ℤ, ◌⊎◌, List, ◌∷◌, length, slice_index, slice_index_or, Bool, true, false, nat_le, nat_lt, if◌then◌else◌, []}
+use Rattle.std.proofs.Common.{inl, inr, ap, sym, ◌∙◌, arith, rules}
 use Rattle.std.proofs.lemmas.Bool.Decides.{nat_tests}
 use Rattle.std.proofs.lemmas.Bool.{both_ways, true_from_ne_false, false_from_ne_true, cases_lt, cases_eq, cases_Bool, lt-ltb, le-ltb, le-leb, lt-leb, eq-eqb, ne_eqb, and_parts, and_cases}
 use Rattle.psi_state.specs.State.{AreCapacities, IsBelow}
@@ -15,18 +15,16 @@ use Rattle.psi_guard.specs.Guarding.{shifted, moved, guarded, part_of}
 use Rattle.psi_guard.specs.Refusals.{AreGuards}
 use Rattle.psi_guard.specs.Rule.{rule, FitsGuard, AllowsAll, RefusesSome}
 use Rattle.psi_guard.specs.Inner.RuleLaws.{fits_guard, makes}
-use Rattle.psi_guard.specs.Pieces.{ups, downs, is_exact, is_clipped, guard_side, guard_bound, clip_side, clip_bound, exact_at, clipped_at, SaysOf, exact, own_pieces, AreTold, Tell}
+use Rattle.psi_guard.specs.Pieces.{ups, downs, is_exact, is_clipped, guard_side, guard_bound, clip_side, clip_bound, exact_at, clipped_at, SaysOf, exact, AreTold, Tell}
 
 -- ---- a piece applies where each number is on its side
 
 pub all_on-each : (sides : List Side) (bounds x : List ℕ) (q : ℕ) → length bounds ≡ length sides → length x ≡ length sides → all_on sides bounds x ≡ true → q < length x
     → is_on (slice_index_or sides q Any) (slice_index bounds q) (slice_index x q) ≡ true
-all_on-each [] bounds x q long_bounds long_x on small = absurd (omega arith)
-all_on-each (s ∷ sides) [] x q long_bounds long_x on small = absurd (omega arith)
-all_on-each (s ∷ sides) (b ∷ bounds) [] q long_bounds long_x on small = absurd (omega arith)
 all_on-each (s ∷ sides) (b ∷ bounds) (v ∷ x) zero long_bounds long_x on small = (and_parts (is_on s b v) (all_on sides bounds x) on).0
 all_on-each (s ∷ sides) (b ∷ bounds) (v ∷ x) (suc q) long_bounds long_x on small =
     all_on-each sides bounds x q (omega arith) (omega arith) (and_parts (is_on s b v) (all_on sides bounds x) on).1 (omega arith)
+all_on-each sides bounds x q long_bounds long_x on small = absurd (omega arith)
 
 pub all_on-some : (sides : List Side) (bounds x : List ℕ) → length bounds ≡ length sides → length x ≡ length sides → all_on sides bounds x ≡ false
     → (q : ℕ) × (q < length x) × (is_on (slice_index_or sides q Any) (slice_index bounds q) (slice_index x q) ≡ false)
@@ -42,45 +40,31 @@ all_on-some (s ∷ sides) (b ∷ bounds) (v ∷ x) long_bounds long_x off =
 
 pub all_on-true : (sides : List Side) (bounds x : List ℕ) → length bounds ≡ length sides → length x ≡ length sides
     → ((q : ℕ) → q < length x → is_on (slice_index_or sides q Any) (slice_index bounds q) (slice_index x q) ≡ true) → all_on sides bounds x ≡ true
-all_on-true sides bounds x long_bounds long_x each = true_from_ne_false (all_on sides bounds x) (λ off.
-    (let found = all_on-some sides bounds x long_bounds long_x off in both_ways _ found.2 (each found.0 found.1)))
+all_on-true sides bounds x long_bounds long_x each = search (rules, true_from_ne_false, all_on-some, both_ways)
 
 pub all_on-out : (sides : List Side) (bounds x : List ℕ) (q : ℕ) → length bounds ≡ length sides → length x ≡ length sides → q < length x
     → is_on (slice_index_or sides q Any) (slice_index bounds q) (slice_index x q) ≡ false → all_on sides bounds x ≡ false
-all_on-out sides bounds x q long_bounds long_x small off =
-    false_from_ne_true (all_on sides bounds x) (λ on. both_ways _ off (all_on-each sides bounds x q long_bounds long_x on small))
+all_on-out sides bounds x q long_bounds long_x small off = search (rules, false_from_ne_true, both_ways, all_on-each)
 
 if-zero : (b : Bool) (v : ℕ) → v ≡ 0 → if_on b v ≡ 0
-if-zero true v none = none
-if-zero false v none = refl
+if-zero b v none = search rules
 
 -- ---- what a part makes of a number
 
 shift-exact : (shift : ℤ) (floor ceiling least most v : ℕ) → floor + downs shift ≤ least + ups shift → most + ups shift ≤ ceiling + downs shift → least ≤ v → v ≤ most
     → min ceiling (max floor (shifted shift v)) + downs shift ≡ v + ups shift
-shift-exact (pos n) floor ceiling least most v low high least_v v_most = omega arith
-shift-exact (negsuc n) floor ceiling least most v low high least_v v_most = omega arith
+shift-exact shift floor ceiling least most v low high least_v v_most = search rules
 
 shift-one : (shift : ℤ) (floor ceiling cap v : ℕ) → ups shift + downs shift ≡ 1 → floor ≤ ups shift → cap ≤ ceiling + downs shift → ceiling ≤ cap → v ≤ cap
     → ((ups shift ≡ 0) × (v < 1) × (min ceiling (max floor (shifted shift v)) ≡ v))
     ⊎ (((ups shift ≡ 0) × (1 ≤ v) × (min ceiling (max floor (shifted shift v)) + downs shift ≡ v + ups shift))
     ⊎ (((ups shift ≢ 0) × (v < cap) × (min ceiling (max floor (shifted shift v)) + downs shift ≡ v + ups shift))
     ⊎ ((ups shift ≢ 0) × (cap ≤ v) × (min ceiling (max floor (shifted shift v)) ≡ v))))
-shift-one (pos n) floor ceiling cap v one low high top small =
-    elim (cases_lt v cap) [
-      | inl room ↦ inr (inr (inl (omega arith, room, omega arith)))
-      | inr full ↦ inr (inr (inr (omega arith, full, omega arith)))
-    ]
-shift-one (negsuc n) floor ceiling cap v one low high top small =
-    elim (cases_lt v 1) [
-      | inl none ↦ inl (refl, none, omega arith)
-      | inr some ↦ inr (inl (refl, some, omega arith))
-    ]
+shift-one shift floor ceiling cap v one low high top small = search (rules, cases_lt)
 
 shift-small : (shift : ℤ) (floor ceiling least most cap : ℕ) → floor + downs shift ≤ least + ups shift → most + ups shift ≤ ceiling + downs shift → least ≤ most → most ≤ cap → ceiling ≤ cap
     → (ups shift ≤ cap) × (downs shift ≤ cap)
-shift-small (pos n) floor ceiling least most cap low high guard top over = (omega arith, omega arith)
-shift-small (negsuc n) floor ceiling least most cap low high guard top over = (omega arith, omega arith)
+shift-small shift floor ceiling least most cap low high guard top over = search rules
 
 -- a part of a queue of this capacity
 module _ (cap : ℕ) (part : Part) where
@@ -100,13 +84,7 @@ module _ (cap : ℕ) (part : Part) where
   exact-facts is = record { sided = grind (arith, nat_tests); low = grind (arith, nat_tests); high = grind (arith, nat_tests) }
 
   clipped-facts : is_clipped cap part ≡ true → ClippedFacts
-  clipped-facts is = record {
-    least = grind (arith, nat_tests);
-    most = grind (arith, nat_tests);
-    one = grind (arith, nat_tests);
-    low = grind (arith, nat_tests);
-    high = grind (arith, nat_tests);
-  }
+  clipped-facts is = search (rules, nat_tests)
 
   moved-exact : ExactFacts → (v : ℕ) → part.least ≤ v → v ≤ part.most → moved part v + downs part.shift ≡ v + ups part.shift
   moved-exact facts v low high = shift-exact part.shift part.floor part.ceiling part.least part.most v facts.low facts.high low high
@@ -114,36 +92,16 @@ module _ (cap : ℕ) (part : Part) where
   -- the side of a guard and its bound are of one of three kinds
   guard-by : (P : Side → ℕ → Type 0) → (0 < part.least → P AtLeast part.least) → (part.least ≤ 0 → part.most < cap → P Below (part.most + 1)) → (part.least ≤ 0 → cap ≤ part.most → P Any 0)
       → P (guard_side cap part) (guard_bound cap part)
-  guard-by P from to free = elim (cases_lt 0 part.least) [
-    | inl some ↦ subst (λ b. P (if b then AtLeast else (if nat_lt part.most cap then Below else Any)) (if b then part.least else (if nat_lt part.most cap then part.most + 1 else 0)))
-        (sym (lt-ltb 0 part.least some)) (from some)
-    | inr none ↦ subst (λ b. P (if b then AtLeast else (if nat_lt part.most cap then Below else Any)) (if b then part.least else (if nat_lt part.most cap then part.most + 1 else 0)))
-        (sym (le-ltb 0 part.least none))
-        (elim (cases_lt part.most cap) [
-          | inl below ↦ subst (λ b. P (if b then Below else Any) (if b then part.most + 1 else 0)) (sym (lt-ltb part.most cap below)) (to none below)
-          | inr whole ↦ subst (λ b. P (if b then Below else Any) (if b then part.most + 1 else 0)) (sym (le-ltb part.most cap whole)) (free none whole)
-        ])
-  ]
+  guard-by P from to free = search (rules, cases_lt, lt-ltb, le-ltb)
 
   guard-small : FitsGuard cap part → guard_bound cap part ≤ cap
-  guard-small fits =
-      let guard = fits.guard in
-      let most = fits.most in
-      guard-by (λ s b. b ≤ cap) (λ some. omega arith) (λ none below. omega arith) (λ none whole. omega arith)
+  guard-small fits = search (rules, guard-by)
 
   guard-allows : (v : ℕ) → part.least ≤ v → v ≤ part.most → is_on (guard_side cap part) (guard_bound cap part) v ≡ true
-  guard-allows v low high =
-      guard-by (λ s b. is_on s b v ≡ true) (λ some. le-leb part.least v low) (λ none below. lt-ltb v (part.most + 1) (omega arith)) (λ none whole. refl)
+  guard-allows v low high = search (rules, guard-by, le-leb, lt-ltb)
 
   guard-refuses : ExactFacts → (v : ℕ) → v ≤ cap → (v < part.least) ⊎ (part.most < v) → is_on (guard_side cap part) (guard_bound cap part) v ≡ false
-  guard-refuses facts v small out =
-      guard-by (λ s b. is_on s b v ≡ false)
-      (λ some. lt-leb part.least v (elim out [
-        | inl low ↦ low
-        | inr high ↦ elim facts.sided [ inl none ↦ absurd (omega arith) | inr whole ↦ absurd (omega arith) ]
-      ]))
-      (λ none below. le-ltb v (part.most + 1) (elim out [ inl low ↦ absurd (omega arith) | inr high ↦ omega arith ]))
-      (λ none whole. elim out [ inl low ↦ absurd (omega arith) | inr high ↦ absurd (omega arith) ])
+  guard-refuses facts v small out = search (rules, guard-by, lt-leb, le-ltb)
 
   -- that of a clipped part, one of two
   clip-fall : ups part.shift ≡ 0 → (v : ℕ) → is_on (clip_side cap part) (clip_bound cap part) v ≡ nat_le 1 v
@@ -153,25 +111,13 @@ module _ (cap : ℕ) (part : Part) where
   clip-rise some v = ap (λ b. is_on (if b then AtLeast else Below) (if b then 1 else cap) v) (ne_eqb (ups part.shift) 0 some)
 
   clip-small : 1 ≤ cap → clip_bound cap part ≤ cap
-  clip-small some = elim (cases_eq (ups part.shift) 0) [
-    | inl none ↦ subst (λ b. (if b then 1 else cap) ≤ cap) (sym (eq-eqb (ups part.shift) 0 none)) some
-    | inr up ↦ subst (λ b. (if b then 1 else cap) ≤ cap) (sym (ne_eqb (ups part.shift) 0 up)) (omega arith)
-  ]
+  clip-small some = search (rules, cases_eq, eq-eqb, ne_eqb)
 
   -- on its side the number changes, and on the other one it doesn't
   clip-turns : ClippedFacts → FitsGuard cap part → (v : ℕ) → v ≤ cap
       → ((is_on (clip_side cap part) (clip_bound cap part) v ≡ true) × (moved part v + downs part.shift ≡ v + ups part.shift))
       ⊎ ((is_on (clip_side cap part) (clip_bound cap part) v ≡ false) × (moved part v ≡ v))
-  clip-turns facts fits v small = elim (shift-one part.shift part.floor part.ceiling cap v facts.one facts.low facts.high fits.ceiling small) [
-    | inl a ↦ inr (clip-fall a.0 v ∙ lt-leb 1 v a.1, a.2)
-    | inr rest ↦ elim rest [
-      | inl b ↦ inl (clip-fall b.0 v ∙ le-leb 1 v b.1, b.2)
-      | inr rest ↦ elim rest [
-        | inl c ↦ inl (clip-rise c.0 v ∙ lt-ltb v cap c.1, c.2)
-        | inr d ↦ inr (clip-rise d.0 v ∙ le-ltb v cap d.1, d.2)
-      ]
-    ]
-  ]
+  clip-turns facts fits v small = search (rules, shift-one, clip-fall, lt-leb, le-leb, clip-rise, lt-ltb, le-ltb)
 
 -- ---- the pieces by their queues
 
@@ -200,23 +146,7 @@ module _ (caps : List ℕ) (parts : List Part) (guards : AreGuards caps parts) (
   part_at q = part_of caps parts q
 
   turn-of : (q : ℕ) → q < length caps → ExactTurn caps parts p q ⊎ ClippedTurn caps parts p q
-  turn-of q small =
-      let say : SayAt p q (own_pieces caps parts q) = record { bound = tell.bound_of q small; first = tell.first_of q small; second = tell.second_of q small } in
-      elim (cases_Bool (exact caps parts q)) [
-        | inl is ↦ inl (record {
-          is = is;
-          facts = exact-facts (cap_at q) (part_at q) is;
-          say = subst (λ (b : Bool). SayAt p q (if b then exact_at (cap_at q) (part_at q) else clipped_at (cap_at q) (part_at q))) is say;
-        })
-        | inr is ↦ elim (told.each q small) [
-          | inl other ↦ absurd cc
-          | inr clip ↦ inr (record {
-            is = is;
-            facts = clipped-facts (cap_at q) (part_at q) clip;
-            say = subst (λ (b : Bool). SayAt p q (if b then exact_at (cap_at q) (part_at q) else clipped_at (cap_at q) (part_at q))) is say;
-          })
-        ]
-      ]
+  turn-of q small = search (rules, cases_Bool, exact-facts, clipped-facts)
 
   -- a state
   module _ (x : List ℕ) (below : IsBelow x caps) where
@@ -275,27 +205,14 @@ module _ (caps : List ℕ) (parts : List Part) (guards : AreGuards caps parts) (
       -- an exact part changes its queue in the first piece
       exact-sum : (b : Bool) (q : ℕ) → q < length caps → ExactTurn caps parts p q
           → slice_index y q + slice_index p.first.downs q + if_on b (slice_index p.second.downs q) ≡ slice_index x q + slice_index p.first.ups q + if_on b (slice_index p.second.ups q)
-      exact-sum b q small turn =
-          let made = moved-exact (cap_at q) (part_at q) turn.facts (slice_index x q) (allows.low q small) (allows.high q small) in
-          let at = move q small in
-          let up = turn.say.first.up in
-          let down = turn.say.first.down in
-          let no_up = if-zero b (slice_index p.second.ups q) turn.say.second.up in
-          let no_down = if-zero b (slice_index p.second.downs q) turn.say.second.down in
-          omega (arith, made, at, up, down, no_up, no_down)
+      exact-sum b q small turn = search (rules, moved-exact, if-zero)
 
       clip-at : (q : ℕ) (on : Bool) → ClippedTurn caps parts p q → is_on (clip_side (cap_at q) (part_at q)) (clip_bound (cap_at q) (part_at q)) (slice_index x q) ≡ on → second_is_on q ≡ on
       clip-at q on turn is = rw (turn.say.second.side, turn.say.bound) is
 
       -- where a part is clipped, the second piece applies where its queue is on its side
       clipped-only : (q r : ℕ) → q < length caps → r < length caps → ClippedTurn caps parts p q → second_is_on r ≡ false → second_is_on q ≡ true → ⊥
-      clipped-only q r small r_small turn r_off q_on = elim (turn-of r r_small) [
-        | inl other ↦ (let on : second_is_on r ≡ true = rw (other.say.second.side, other.say.bound)
-            (guard-allows (cap_at r) (part_at r) (slice_index x r) (allows.low r r_small) (allows.high r r_small)) in
-            both_ways (second_is_on r) r_off on)
-        | inr other ↦ (let same = told.alone q r small r_small turn.is other.is in
-            both_ways (second_is_on r) r_off (sym (ap (λ t. second_is_on t) same) ∙ q_on))
-      ]
+      clipped-only q r small r_small turn r_off q_on = search (rules, turn-of, guard-allows, both_ways)
 
       -- where the second piece applies, the clipped part changes its queue
       both-sum : second_on p x ≡ true → IsSum p x y

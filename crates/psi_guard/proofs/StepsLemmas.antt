@@ -1,8 +1,9 @@
 -- What the loops over parts and queues know.
-use Rattle.std.specs.Prelude.{◌≡◌, ℕ, zero, suc, ◌+◌, ◌<◌, ◌≤◌, true, false, ◌⊎◌, nat_eq, List, [], ◌∷◌, length, map, slice_index, slice_set, Option, Some, None, refl}
-use Rattle.std.proofs.Common.{inl, inr, ap, sym, ◌∙◌, subst, arith}
+use Rattle.std.specs.Prelude.{◌≡◌, ℕ, zero, suc, ◌+◌, ◌<◌, ◌≤◌, true, false, ◌⊎◌, nat_eq, List, ◌∷◌, length, map, slice_index, slice_set, Option, Some, None, refl, []}
+use Rattle.std.proofs.Common.{inl, inr, ap, sym, ◌∙◌, subst, arith, rules}
 use Rattle.std.proofs.lemmas.Bool.{eq-eqb, or_left, or_right, true_from_ne_false, false_from_ne_true, cond-false, and_left}
 use Rattle.std.proofs.lemmas.List.{ext_get_or}
+use Rattle.std.proofs.lemmas.Grind.{common_steps}
 use Rattle.psi_state.specs.State.{IsBelow, numbers_from}
 use Rattle.psi_event.proofs.ChoiceLemmas.{first_some-found, first_some-none}
 use Rattle.psi_event.specs.Setting.{AreSet}
@@ -10,7 +11,7 @@ use Rattle.psi_event.proofs.SettingLemmas.{set-next, set-more}
 use Rattle.psi_guard.specs.declared.parts.Part.{Part}
 use Rattle.psi_guard.specs.Guarding.{moved, all_allow, guarded, part_of, leasts, exceeds, falls_short, other_above, other_below, over_queues}
 use Rattle.psi_guard.specs.Refusals.{AreGuards, at, names}
-use Rattle.psi_guard.specs.Inner.PlacesLaws.{named_or_free, all_allow-true, all_allow-false}
+use Rattle.psi_guard.specs.Inner.PlacesLaws.{named_or_free, all_allow-false}
 use Rattle.psi_guard.specs.Rule.{AllowsAll, rule}
 use Rattle.psi_guard.specs.Inner.RuleLaws.{makes, allowed_place}
 use Rattle.psi_guard.proofs.OrderLemmas.{allowed_moves}
@@ -31,9 +32,7 @@ all_allow-from parts x each = true_from_ne_false (all_allow parts x) (λ is.
 
 pub all_allow-out : (parts : List Part) (x : List ℕ) (i : ℕ) → i < length parts
     → (slice_index x (at parts i).queue < (at parts i).least) ⊎ ((at parts i).most < slice_index x (at parts i).queue) → all_allow parts x ≡ false
-all_allow-out parts x i small out = false_from_ne_true (all_allow parts x) (λ is.
-    (let ends = all_allow-true parts x is i small in
-    elim out [ inl low ↦ omega (arith, ends.0) | inr high ↦ omega (arith, ends.1) ]))
+all_allow-out parts x i small out = grind (arith, common_steps, false_from_ne_true)
 
 -- the state y where the first i parts have moved their queues
 abbrev pub AreMoved : List Part → List ℕ → ℕ → List ℕ → Type 0
@@ -41,13 +40,7 @@ AreMoved parts x i y = AreSet (λ k. (at parts k).queue) (λ k v. v ≡ moved (a
 
 pub moving-step : (caps : List ℕ) (parts : List Part) (x y : List ℕ) (i : ℕ) (part : Part) (held to : ℕ) → AreGuards caps parts → IsBelow x caps → AreMoved parts x i y
     → i < length parts → part ≡ at parts i → held ≡ slice_index y part.queue → to ≡ moved part held → AreMoved parts x (i + 1) (slice_set y part.queue to)
-moving-step caps parts x y i part held to guards below before small is was image =
-    let place : (at parts i).queue < length caps = (guards.each i small).queue in
-    let old = set-next (λ k. (at parts k).queue) _ x y i (length parts) before small guards.apart.each in
-    let held_is : held ≡ slice_index x (at parts i).queue = was ∙ (ap (λ (p : Part). slice_index y p.queue) is ∙ old) in
-    subst (λ q. AreMoved parts x (i + 1) (slice_set y q to)) (sym (ap (λ (p : Part). p.queue) is))
-    (set-more (λ k. (at parts k).queue) _ x y i (length parts) to before small guards.apart.each (omega (arith, below.same_length))
-    (image ∙ (ap (λ v. moved part v) held_is ∙ ap (λ p. moved p (slice_index x (at parts i).queue)) is)))
+moving-step caps parts x y i part held to guards below before small is was image = search (rules, set-next, set-more)
 
 pub moving-end : (caps : List ℕ) (parts : List Part) (x y : List ℕ) (i : ℕ) → AreGuards caps parts → IsBelow x caps → all_allow parts x ≡ true
     → AreMoved parts x i y → length parts ≡ i → y ≡ guarded parts x
@@ -82,9 +75,7 @@ pub length-leasts : (caps : List ℕ) (parts : List Part) → length (leasts cap
 length-leasts caps parts = length-map_numbers (λ q. (part_of caps parts q).least) 0 (length caps)
 
 pub slice_index-leasts : (caps : List ℕ) (parts : List Part) (q : ℕ) → q < length caps → slice_index (leasts caps parts) q ≡ (part_of caps parts q).least
-slice_index-leasts caps parts q place =
-    (let e : 0 + q ≡ q = omega arith in
-    slice_index-map_numbers (λ p. (part_of caps parts p).least) 0 (length caps) q place ∙ ap (λ p. (part_of caps parts p).least) e)
+slice_index-leasts caps parts q place = search (rules, slice_index-map_numbers)
 
 pub leasts-from : (caps : List ℕ) (parts : List Part) (x : List ℕ) → length x ≡ length caps
     → ((q : ℕ) → q < length caps → slice_index x q ≡ (part_of caps parts q).least) → x ≡ leasts caps parts

@@ -1,10 +1,8 @@
 -- Lemmas. What the loops over the queues know that ask for pieces and make them.
 use Rattle.std.specs.Prelude.{◌≡◌, ◌≢◌, ℕ, ◌+◌, ◌<◌, List, length, replicate, slice_index, slice_set, Bool, true, false, refl}
-use Rattle.std.proofs.Common.{inl, inr, ap, sym, ◌∙◌, subst, arith, below_more, length-set, get_or-set_same, get_or-set_other}
+use Rattle.std.proofs.Common.{inl, inr, ap, sym, ◌∙◌, subst, arith, below_more, length-set, get_or-set_same, get_or-set_other, rules}
 use Rattle.std.proofs.lemmas.Bool.{cases_eq, both_ways}
 use Rattle.std.proofs.lemmas.List.{length-replicate}
-use Rattle.psi_event.specs.declared.sides.Side.{Side}
-use Rattle.psi_event.specs.declared.sides.Side.TheVariants.{Any}
 use Rattle.psi_event.specs.declared.piecewise.Piece.{Piece}
 use Rattle.psi_event.specs.declared.piecewise.Piecewise.{Piecewise}
 use Rattle.psi_event.specs.Piecewise.{empty_piece}
@@ -24,11 +22,7 @@ module _ (caps : List ℕ) (parts : List Part) where
     pub one : is_one_clipped ≡ true → (q : ℕ) × (q < n) × (exact caps parts q ≡ false)
 
   pub telling-start : IsTelling 0 false
-  telling-start = record {
-    told = record { each = λ q small. absurd (omega arith); alone = λ q r small_q small_r. absurd (omega arith) };
-    none = λ is q small. absurd (omega arith);
-    one = λ is. absurd cc;
-  }
+  telling-start = search rules
 
   pub exact-by : (n cap : ℕ) (part : Part) (b : Bool) → cap ≡ slice_index caps n → part ≡ part_of caps parts n → is_exact cap part ≡ b → exact caps parts n ≡ b
   exact-by n cap part b is_cap is_part is = sym (ap (λ c. is_exact c part) is_cap ∙ ap (λ p. is_exact (slice_index caps n) p) is_part) ∙ is
@@ -71,43 +65,20 @@ module _ (caps : List ℕ) (parts : List Part) where
 -- ---- the pieces
 
 long-empty : (n m : ℕ) (p : Piece) → p ≡ empty_piece m → m ≡ n → IsLong n p
-long-empty n m p is same = record {
-  sides = ap (λ (x : Piece). length x.sides) is ∙ length-replicate {A = Side} m Any ∙ same;
-  ups = ap (λ (x : Piece). length x.ups) is ∙ length-replicate {A = ℕ} m 0 ∙ same;
-  downs = ap (λ (x : Piece). length x.downs) is ∙ length-replicate {A = ℕ} m 0 ∙ same;
-}
+long-empty n m p is same = search (rules, length-replicate)
 
 pub tell-start : (caps : List ℕ) (parts : List Part) (m : ℕ) (bounds : List ℕ) (first second : Piece) → bounds ≡ replicate m 0 → first ≡ empty_piece m → second ≡ empty_piece m → m ≡ length caps
     → Tell caps parts 0 (record { bounds = bounds; first = first; second = second })
-tell-start caps parts m bounds first second is is_first is_second same = record {
-  bounds = ap (λ (x : List ℕ). length x) is ∙ length-replicate {A = ℕ} m 0 ∙ same;
-  first = long-empty (length caps) m first is_first same;
-  second = long-empty (length caps) m second is_second same;
-  bound_of = λ q small. absurd (omega arith);
-  first_of = λ q small. absurd (omega arith);
-  second_of = λ q small. absurd (omega arith);
-}
+tell-start caps parts m bounds first second is is_first is_second same = search (rules, length-replicate, long-empty)
 
 long-with : (n : ℕ) (p : Piece) (q : ℕ) (own : PieceAt) → IsLong n p → IsLong n (piece_with p q own)
-long-with n p q own long = record {
-  sides = length-set {A = Side} p.sides q own.side ∙ long.sides;
-  ups = length-set {A = ℕ} p.ups q own.up ∙ long.ups;
-  downs = length-set {A = ℕ} p.downs q own.down ∙ long.downs;
-}
+long-with n p q own long = search (rules, length-set)
 
 says-same : (n : ℕ) (p : Piece) (q : ℕ) (own : PieceAt) → IsLong n p → q < n → SaysOf (piece_with p q own) q own
-says-same n p q own long small = record {
-  side = get_or-set_same {A = Side} p.sides q own.side Any (let is = long.sides in omega arith);
-  up = get_or-set_same {A = ℕ} p.ups q own.up 0 (let is = long.ups in omega arith);
-  down = get_or-set_same {A = ℕ} p.downs q own.down 0 (let is = long.downs in omega arith);
-}
+says-same n p q own long small = search (rules, get_or-set_same)
 
 says-other : (p : Piece) (q k : ℕ) (own other : PieceAt) → k ≢ q → SaysOf p k other → SaysOf (piece_with p q own) k other
-says-other p q k own other apart says = record {
-  side = get_or-set_other {A = Side} p.sides q k own.side Any apart ∙ says.side;
-  up = get_or-set_other {A = ℕ} p.ups q k own.up 0 apart ∙ says.up;
-  down = get_or-set_other {A = ℕ} p.downs q k own.down 0 apart ∙ says.down;
-}
+says-other p q k own other apart says = search (rules, get_or-set_other)
 
 tell-step : (caps : List ℕ) (parts : List Part) (n : ℕ) (p : Piecewise) (own : PiecesAt) → Tell caps parts n p → n < length caps → own ≡ own_pieces caps parts n
     → Tell caps parts (n + 1) (record { bounds = slice_set p.bounds n own.bound; first = piece_with p.first n own.first; second = piece_with p.second n own.second })

@@ -1,4 +1,5 @@
 -- Answers in the proof of `GuardedEventLaw::upset`.
+use Rattle.std.proofs.Common.{rules}
 use Rattle.psi_guard.specs.Guarding.{upset_of}
 use Rattle.psi_guard.proofs.PairsLemmas.{upset-shows}
 use Rattle.psi_guard.proofs.event.GuardedEventLaw.upset.Goals as goal
@@ -12,27 +13,21 @@ returns-in-Some-clause-shown c = upset-shows c.args.self.now.caps c.args.self.no
 
 pub returns-in-Some-first_other_above-clause-value : goal.returns-in-Some-first_other_above-clause-value
 unfolding upset_of
-returns-in-Some-first_other_above-clause-value c =
-    rw (← c.first_own_above.ensures, c.in_default.is, ← c.first_other_above.ensures, c.in-Some-first_other_above.is)
+returns-in-Some-first_other_above-clause-value c = search rules
 
 pub returns-in-Some-first_other_above-clause-shown : goal.returns-in-Some-first_other_above-clause-shown
-returns-in-Some-first_other_above-clause-shown c =
-    upset-shows c.args.self.now.caps c.args.self.now.parts _ c.args.self.now.guards (returns-in-Some-first_other_above-clause-value c)
+returns-in-Some-first_other_above-clause-shown c = search (rules, upset-shows, returns-in-Some-first_other_above-clause-value)
 
 pub returns-in-Some-first_own_below-clause-value : goal.returns-in-Some-first_own_below-clause-value
 unfolding upset_of
-returns-in-Some-first_own_below-clause-value c =
-    rw (← c.first_own_above.ensures, c.in_default.is, ← c.first_other_above.ensures, c.in_default-first_other_above.is, ← c.first_own_below.ensures, c.in-Some-first_own_below.is)
+returns-in-Some-first_own_below-clause-value c = search rules
 
 pub returns-in-Some-first_own_below-clause-shown : goal.returns-in-Some-first_own_below-clause-shown
-returns-in-Some-first_own_below-clause-shown c =
-    upset-shows c.args.self.now.caps c.args.self.now.parts _ c.args.self.now.guards (returns-in-Some-first_own_below-clause-value c)
+returns-in-Some-first_own_below-clause-shown c = search (rules, upset-shows, returns-in-Some-first_own_below-clause-value)
 
 pub returns-clause-value : goal.returns-clause-value
 unfolding upset_of
-returns-clause-value c =
-    rw (← c.first_own_above.ensures, c.in_default.is, ← c.first_other_above.ensures, c.in_default-first_other_above.is, ← c.first_own_below.ensures, c.in_default-first_own_below.is)
-    c.first_other_below.ensures
+returns-clause-value c = search rules
 
 pub returns-clause-shown : goal.returns-clause-shown
 returns-clause-shown c = upset-shows c.args.self.now.caps c.args.self.now.parts _ c.args.self.now.guards (returns-clause-value c)

@@ -1,5 +1,5 @@
 -- Answers in the proof of `Guarded::leasts`.
-use Rattle.std.proofs.Common.{ℕ, length, replicate, ap, ◌∙◌, arith}
+use Rattle.std.proofs.Common.{ℕ, length, replicate, ◌∙◌, arith, rules}
 use Rattle.std.proofs.lemmas.List.{length-replicate}
 use Rattle.psi_event.proofs.SettingLemmas.{set-none, set-more}
 use Rattle.psi_guard.proofs.StepsLemmas.{leasts-from}
@@ -12,15 +12,10 @@ pub set-requires : goal.set-requires
 set-requires c = omega (arith, c.loop-q.invariant.count, length-replicate {A = ℕ} (length c.args.self.now.caps) 0, c.len-q-end.ensures.value)
 
 pub loop-q-preserved : goal.loop-q-preserved
-loop-q-preserved c =
-    let event = c.args.self.now in
-    rw c.set.ensures
-    (set-more (λ q. q) _ (replicate (length event.caps) 0) c.loop-q.x c.loop-q.q (length event.caps) c.part_of.result.least c.loop-q.invariant (omega (arith, c.len-q-end.ensures.value))
-    (λ i j first second same. same) (omega (arith, length-replicate {A = ℕ} (length event.caps) 0, c.len-q-end.ensures.value)) (ap (λ p. p.least) c.part_of.ensures.value))
+loop-q-preserved c = search (rules, set-more, length-replicate)
 
 pub returns-clause-length : goal.returns-clause-length
 returns-clause-length c = c.loop-q.invariant.count ∙ length-replicate {A = ℕ} (length c.args.self.now.caps) 0
 
 pub returns-clause-value : goal.returns-clause-value
-returns-clause-value c =
-    leasts-from c.args.self.now.caps c.args.self.now.parts c.loop-q.x (returns-clause-length c) (λ q place. c.loop-q.invariant.set q (omega (arith, c.len-q-end.ensures.value)))
+returns-clause-value c = search (rules, leasts-from, returns-clause-length)

@@ -1,5 +1,5 @@
 -- Answers in the proof of `Guarded::move_ends`.
-use Rattle.std.proofs.Common.{◌+◌, sym, ◌∙◌, subst, arith}
+use Rattle.std.proofs.Common.{◌+◌, sym, ◌∙◌, subst, arith, rules}
 use Rattle.psi_state.specs.State.{Corners, IsBelow}
 use Rattle.psi_event.proofs.LawLemmas.{tight-corners}
 use Rattle.psi_event.proofs.SettingLemmas.{set-none}
@@ -28,10 +28,7 @@ loop-i-preserved c =
     c.part-part.ensures.value c.least-l.ensures.value c.greatest-h.ensures.value c.others.ensures c.ends-low.ensures.least c.ends-low.ensures.greatest)
 
 pub returns-clause-tight : goal.returns-clause-tight
-returns-clause-tight c =
-    ending-tight c.args.self.now.caps c.args.self.now.parts c.args.b.now.lo c.args.b.now.hi c.loop-i.b.lo c.loop-i.b.hi c.loop-i.i c.can_move-moves.result c.leaving-leaving.result
-    c.args.self.now.guards (record { turn = c.can_move-moves.ensures; known = c.leaving-leaving.ensures }) c.len-queues.ensures.ordered c.requires c.loop-i.invariant
-    (omega (arith, c.loop-i.auto.i-end))
+returns-clause-tight c = search (rules, ending-tight)
 
 pub returns-clause-hull : goal.returns-clause-hull
 returns-clause-hull c = sym (tight-corners (guarded c.args.self.now.parts) c.args.b.now.lo c.args.b.now.hi _ _ c.len-queues.ensures.ordered (returns-clause-tight c))

@@ -1,5 +1,6 @@
 -- Answers in the proof of `Guarded::new`.
-use Rattle.std.proofs.Common.{◌≡◌, ◌≤◌, ℕ, suc, ◌+◌, List, [], ◌∷◌, ◌++◌, length, take, drop, ap, sym, ◌∙◌, subst, arith, None, take-suc, take_all, drop_of_length-le}
+use Rattle.std.proofs.Common.{◌≡◌, ◌≤◌, ℕ, suc, ◌+◌, List, ◌∷◌, ◌++◌, length, take, drop, ap, sym, ◌∙◌, subst, arith, None, take-suc, take_all, drop_of_length-le, rules, []}
+use Rattle.std.proofs.lemmas.Grind.{common_steps}
 use Rattle.psi_guard.specs.declared.parts.Part.{Part}
 use Rattle.psi_guard.specs.Guarding.{guarded, upset_of}
 use Rattle.psi_guard.specs.Inner.PartsKept.{no_part}
@@ -15,13 +16,10 @@ loop-part-init c = record {
 }
 
 pub returns-in-Some-clause-refused : goal.returns-in-Some-clause-refused
-returns-in-Some-clause-refused c =
-    sym c.loop-part.invariant.left
-    ∙ refusal-found c.args.caps c.loop-part.kept c.args.parts.now c.loop-part.part-index c.in-Some.refusal c.loop-part-test.true (sym c.refusal.ensures ∙ c.in-Some.is)
+returns-in-Some-clause-refused c = grind (arith, common_steps, refusal-found)
 
 pub push-requires : goal.push-requires
-push-requires c =
-    kept-room c.args.caps c.loop-part.kept (at c.args.parts.now c.loop-part.part-index) c.loop-part.invariant.guards (sym c.refusal.ensures ∙ c.in_default.is) c.requires.few
+push-requires c = search (rules, kept-room)
 
 pub loop-part-preserved : goal.loop-part-preserved
 loop-part-preserved c =
@@ -63,5 +61,4 @@ returns-clause-upset_pair c =
     ∙ ap (λ (p : List Part). upset_of c.args.caps p) (whole c.loop-part.part-index c.args.parts.now c.loop-part.kept (omega arith) c.loop-part.invariant.kept)
 
 pub returns-clause-accepted : goal.returns-clause-accepted
-returns-clause-accepted c =
-    none-left c.args.caps c.loop-part.part-index c.args.parts.now c.loop-part.kept (omega arith) c.loop-part.invariant.left
+returns-clause-accepted c = search (rules, none-left)

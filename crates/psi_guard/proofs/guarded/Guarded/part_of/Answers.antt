@@ -1,5 +1,5 @@
 -- Answers in the proof of `Guarded::part_of`.
-use Rattle.std.proofs.Common.{inl, inr, ap, sym, ◌∙◌, arith, below_more}
+use Rattle.std.proofs.Common.{inl, inr, ap, sym, ◌∙◌, arith, below_more, rules}
 use Rattle.psi_guard.specs.Guarding.{free_part}
 use Rattle.psi_guard.specs.Inner.PlacesLaws.{part_of-named, named_or_free}
 use Rattle.psi_guard.proofs.guarded.Guarded.part_of.Goals as goal
@@ -16,8 +16,7 @@ returns-then-part-queue-2-clause-value c =
     part_of-named c.args.self.now.caps c.args.self.now.parts c.loop-i.i _ c.args.queue c.args.self.now.guards.apart (omega arith) c.part-part-in-loop-i.ensures.value c.if-part-queue-2.true
 
 pub loop-i-preserved : goal.loop-i-preserved
-loop-i-preserved c =
-    below_more _ _ c.loop-i.invariant (λ same. c.if-part-queue-2.false (ap (λ p. p.queue) c.part-part-in-loop-i.ensures.value ∙ same))
+loop-i-preserved c = search (rules, below_more)
 
 pub returns-clause-value : goal.returns-clause-value
 returns-clause-value c =

@@ -1,14 +1,11 @@
 -- Answers in the proof of `Guarded::pieces`.
-use Rattle.std.proofs.Common.{◌≡◌, ap, sym, ◌∙◌, arith}
-use Rattle.psi_event.specs.Piecewise.{empty_piece}
+use Rattle.std.proofs.Common.{arith}
+use Rattle.std.proofs.lemmas.Grind.{common_steps}
 use Rattle.psi_guard.proofs.TellingLemmas.{tell-start, tell-next}
 use Rattle.psi_guard.proofs.guarded.Guarded.pieces.Goals as goal
 
 pub loop-queue-init : goal.loop-queue-init
-loop-queue-init c =
-    let empty : c.empty-first.result ≡ empty_piece c.len.result = c.empty-first.ensures ∙ ap (λ n. empty_piece n) (c.len-2.ensures.value ∙ sym c.len.ensures.value) in
-    tell-start c.args.self.now.caps c.args.self.now.parts c.len.result c.zero-bounds.result c.empty-first.result c.empty-first.result
-    c.zero-bounds.ensures empty empty c.len.ensures.value
+loop-queue-init c = grind (arith, common_steps, tell-start)
 
 pub loop-queue-preserved : goal.loop-queue-preserved
 loop-queue-preserved c =
