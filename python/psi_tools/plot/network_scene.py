@@ -85,27 +85,22 @@ class Scene:
 
 def scene_of(net: Network) -> Scene:
     """The scene of a network that psi accepts."""
-    return Builder(net).built()
+    builder, events = Builder(net), net.table["event"]
+    served = {name for event in events if event["kind"] in OF_SERVERS for name in names_in(event.get("from"))}
+    for queue in net.table["queue"]:
+        key, is_served = builder.keys[queue["name"]], queue["name"] in served
+        builder.scene.nodes.append(SceneNode(key, Node.QUEUE, queue=queue, is_served=is_served))
+    for number, event in enumerate(events):
+        getattr(builder, f"add_{event['kind']}")(number, event)
+    return builder.scene
 
 
 class Builder:
     """Builds a scene, event by event."""
 
     def __init__(self, net: Network) -> None:
-        self.net = net
         self.keys = {name: f"q{place}" for place, name in enumerate(net.queues)}
         self.scene = Scene([], [])
-
-    def built(self) -> Scene:
-        """The whole scene."""
-        events: list[Table] = self.net.table["event"]
-        served = {name for event in events if event["kind"] in OF_SERVERS for name in names_in(event.get("from"))}
-        for queue in self.net.table["queue"]:
-            key, name = self.keys[queue["name"]], queue["name"]
-            self.scene.nodes.append(SceneNode(key, Node.QUEUE, queue=queue, is_served=name in served))
-        for number, event in enumerate(events):
-            getattr(self, f"add_{event['kind']}")(number, event)
-        return self.scene
 
     def node(self, key: str, kind: Node, lines: tuple[str, ...] = ()) -> str:
         """Adds a node that is no queue, and returns its key."""
