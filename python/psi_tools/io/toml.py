@@ -9,7 +9,10 @@ from collections.abc import Iterator
 from typing import Any, NoReturn
 
 BARE = re.compile(r"[A-Za-z0-9_-]+")
-BLANK = re.compile(r"[ \t]*")
+BLANK, END = re.compile(r"[ \t]*"), re.compile(r"\r?\n")
+DOT, EQUALS = re.compile(r"[ \t]*\.[ \t]*"), re.compile(r"[ \t]*=[ \t]*")
+# Blanks with a comment, if there is one, up to the end of the line; and ends of lines that a backslash joins.
+COMMENT, JOINED = re.compile(r"[ \t]*(?:#[^\n]*?(?=\r?(?:\n|\Z)))?"), re.compile(r"(?:[ \t]*\r?\n)+[ \t]*")
 INTEGER = re.compile(
     r"[+-]?(?:0|[1-9](?:_?[0-9])*)|0x[0-9A-Fa-f](?:_?[0-9A-Fa-f])*|0o[0-7](?:_?[0-7])*|0b[01](?:_?[01])*"
 )
@@ -97,29 +100,15 @@ class Reader:
 
     def skip(self) -> None:
         """Passes blanks, ends of lines and comments."""
-        while True:
-            self.take(BLANK)
-            if self.peek() == "#":
-                self.comment()
-            if not self.end_of_line():
-                return
-
-    def end_of_line(self) -> bool:
-        """Passes the end of a line, if it is here."""
-        for end in ("\n", "\r\n"):
-            if self.text.startswith(end, self.at):
-                self.at += len(end)
-                return True
-        return False
+        self.comment()
+        while self.take(END):
+            self.comment()
 
     def comment(self) -> None:
-        end = self.text.find("\n", self.at)
-        end = len(self.text) if end < 0 else end
-        text = self.text[self.at : end].removesuffix("\r")
-        wrong = CONTROLS.search(text)
-        if wrong:
+        """Passes blanks, and a comment if there is one."""
+        found = self.take(COMMENT)
+        if found and CONTROLS.search(found[0]):
             self.fail("a comment has a character that is not allowed there")
-        self.at += len(text)
 
     def document(self) -> Table:
         """The table of the whole text."""
@@ -133,10 +122,8 @@ class Reader:
                 here = self.header(root)
             else:
                 self.pair(here)
-            self.take(BLANK)
-            if self.peek() == "#":
-                self.comment()
-            if self.at < len(self.text) and not self.end_of_line():
+            self.comment()
+            if self.at < len(self.text) and not self.take(END):
                 self.fail("more text follows on the line")
 
     def header(self, root: Table) -> Table:
@@ -188,12 +175,7 @@ class Reader:
     def keys(self) -> list[str]:
         """A key, as its parts between dots."""
         found = [self.key()]
-        while True:
-            self.take(BLANK)
-            if self.peek() != ".":
-                break
-            self.at += 1
-            self.take(BLANK)
+        while self.take(DOT):
             found.append(self.key())
         if len(found) > DEEPEST:
             self.fail("the key has too many parts")
@@ -214,10 +196,8 @@ class Reader:
         """A key and its value, taken into a table."""
         line = self.line()
         keys = self.keys()
-        if self.peek() != "=":
+        if not self.take(EQUALS):
             self.fail("`=` is expected after a key")
-        self.at += 1
-        self.take(BLANK)
         value = self.value()
         table = self.below(table, keys[:-1], line, "dotted")
         if keys[-1] in table:
@@ -295,7 +275,7 @@ class Reader:
         is_long = self.peek(3) == quote * 3
         self.at += 3 if is_long else 1
         if is_long:
-            self.end_of_line()
+            self.take(END)
         parts: list[str] = []
         while True:
             if self.at >= len(self.text):
@@ -340,12 +320,8 @@ class Reader:
             if len(digits) == DIGITS[char] and 0 <= code < 0x110000 and not 0xD800 <= code < 0xE000:
                 return chr(code)
         self.at = begin + 1
-        if is_long:
-            self.take(BLANK)
-            if self.end_of_line():
-                while self.take(BLANK) and self.end_of_line():
-                    pass
-                return ""
+        if is_long and self.take(JOINED):
+            return ""
         self.fail("a backslash begins an unknown escape", begin)
 
 
