@@ -273,16 +273,16 @@ class Reader:
         """A text in quotes of any of the four forms."""
         quote, begin = self.peek(), self.at
         is_long = self.peek(3) == quote * 3
+        # A long text may end with one or two quotes.
+        closing = re.compile(quote + "{3,5}" if is_long else quote)
         self.at += 3 if is_long else 1
         if is_long:
             self.take(END)
         parts: list[str] = []
-        while True:
-            if self.at >= len(self.text):
-                self.fail("the text in quotes doesn't end", begin)
+        while self.at < len(self.text):
             char = self.peek()
-            if char == quote and (not is_long or self.peek(3) == quote * 3):
-                return "".join(parts) + self.closed(quote, is_long)
+            if char == quote and (end := self.take(closing)):
+                return "".join(parts) + end[0][3:]
             if char == "\\" and quote == '"':
                 parts.append(self.escaped(is_long))
                 continue
@@ -293,17 +293,7 @@ class Reader:
                 self.fail("the text in quotes has a character that is not allowed there")
             parts.append(char)
             self.at += 1
-
-    def closed(self, quote: str, is_long: bool) -> str:
-        """Passes the closing quotes; a long text may end with one or two of them."""
-        if not is_long:
-            self.at += 1
-            return ""
-        count = 3
-        while count < 5 and self.text.startswith(quote, self.at + count):
-            count += 1
-        self.at += count
-        return quote * (count - 3)
+        self.fail("the text in quotes doesn't end", begin)
 
     def escaped(self, is_long: bool) -> str:
         """What an escape stands for."""
