@@ -78,19 +78,24 @@ RANGES = {
 LIKE = 0.6
 
 
+def item_at(document: Table, found: Finding) -> Any:
+    """What stands in the place of the table that is refused; none where there is nothing."""
+    tables, number = document.get(found["section"]), found["number"]
+    return tables[number - 1] if type(tables) is Array and 1 <= number <= len(tables) else None
+
+
 def place_of(document: Table, found: Finding) -> Place:
     """The line of what is refused in a document, and a remark on it, or none."""
-    section, key, name = found["section"], found["key"], found["name"]
+    section, place, key, name = found["section"], found["number"] - 1, found["key"], found["name"]
     if section == "top":
         return place_at_top(document, name, key)
-    tables = document.get(section)
-    if type(tables) is not Array or not 1 <= found["number"] <= len(tables):
+    table = item_at(document, found)
+    if table is None:
         return document.places.get(section), None
-    table = tables[found["number"] - 1]
     if type(table) is not Table:
-        return tables.places[found["number"] - 1], None
+        return document[section].places[place], None
     if name == "DuplicateName":
-        return place_of_name(tables, found["number"] - 1)
+        return place_of_name(document[section], place)
     if section == "event" and in_parts(table, name, key):
         return place_in_parts(document, table, name, key)
     if name == "UnknownKey" and key == "-":
@@ -282,27 +287,12 @@ def range_of(document: Table, table: Table, key: str) -> tuple[int, int] | None:
 
 def table_at(document: Table, found: Finding) -> Table | None:
     """The table in which psi refuses something; of an event's parts the part that offends."""
-    if found["section"] == "top":
-        return document
-    tables = document.get(found["section"])
-    if type(tables) is not Array or not 1 <= found["number"] <= len(tables):
-        return None
-    table = tables[found["number"] - 1]
-    if type(table) is not Table or found["section"] != "event":
-        return table if type(table) is Table else None
-    if in_parts(table, found["name"], found["key"]):
-        place = offending(document, table["part"], found["name"], found["key"])
+    section, name, key = found["section"], found["name"], found["key"]
+    table = document if section == "top" else item_at(document, found)
+    if section == "event" and type(table) is Table and in_parts(table, name, key):
+        place = offending(document, table["part"], name, key)
         table = None if place is None else table["part"][place]
     return table if type(table) is Table else None
-
-
-def remark_on_value(document: Table, found: Finding) -> str | None:
-    """The remark on the value that psi refuses, beside the guide's sentence; none where
-    there is nothing."""
-    table = table_at(document, found)
-    if table is None or found["name"] not in REMARKS:
-        return None
-    return REMARKS[found["name"]](document, table, found["key"], found)
 
 
 def keys_known(table: Table, found: Finding) -> tuple[str, ...]:
@@ -444,8 +434,8 @@ def line_of(data: bytes, found: Finding) -> Place:
     if found["name"] == "NotToml":
         return None, "the line is not known"
     line, remark = place_of(document, found)
-    own = remark_on_value(document, found)
-    table = table_at(document, found)
+    table, on_value = table_at(document, found), REMARKS.get(found["name"])
+    own = on_value(document, table, found["key"], found) if table is not None and on_value else None
     if found["name"] == "MissingKey" and table is not None:
         # A key that is misspelt is the line to look at, not the header of its table.
         near = misspelt(table, found["key"], found)
