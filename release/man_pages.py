@@ -32,7 +32,7 @@ from psi_tools.cli.completion import kinds_of, options_of
 TOP = pathlib.Path(__file__).resolve().parent.parent
 ITEM = re.compile(r"( *)(-|\d+\.) +")
 # The name of another page, which isn't broken over two lines.
-PAGE = re.compile(r"psi-[a-z]+\(\d\)")
+PAGE = re.compile(r"(psi-[a-z]+\(\d\))")
 INLINE = re.compile(r"`([^`]+)`|\*\*(.+?)\*\*|\*(.+?)\*|!?\[((?:[^\]`]|`[^`]*`)*)\]\(([^)\s]*)\)")
 # The most characters that a table may have beside one another.
 MOST_WIDE = 64
@@ -91,12 +91,8 @@ def escaped(text: str) -> str:
 
 def plain(text: str) -> str:
     """A text in sentences: a hyphen there isn't one of code, but in names of other pages."""
-    parts: list[str] = []
-    end = 0
-    for found in PAGE.finditer(text):
-        parts += [escaped(text[end : found.start()]).replace("\\-", "-"), whole(found[0])]
-        end = found.end()
-    return "".join(parts) + escaped(text[end:]).replace("\\-", "-")
+    pieces = enumerate(PAGE.split(text))
+    return "".join(whole(piece) if place % 2 else escaped(piece).replace("\\-", "-") for place, piece in pieces)
 
 
 def whole(code: str) -> str:
