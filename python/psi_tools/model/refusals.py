@@ -79,7 +79,7 @@ LIKE = 0.6
 
 
 def item_at(document: Table, found: Finding) -> Any:
-    """What stands in the place of the table that is refused; none where there is nothing."""
+    """The value at the place of the table that is refused, which need not be a table; none where there is none."""
     tables, number = document.get(found["section"]), found["number"]
     return tables[number - 1] if type(tables) is Array and 1 <= number <= len(tables) else None
 
