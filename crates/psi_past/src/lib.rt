@@ -8,6 +8,8 @@
 //! that were drawn, so that a longer run meets them again.
 #![tactic(auto)]
 
+#[cfg(test)]
+mod counting;
 mod drawing;
 mod kept;
 mod list;
