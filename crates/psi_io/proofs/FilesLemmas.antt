@@ -185,11 +185,17 @@ count-fault None absent = refl
 count-fault (Some file) absent = refl
 
 -- a failed read raises the count of its name by one
-pub faults-after_failed :
+faults-after_failed :
     (shelf : ShelfContents) (name : List ℕ) (most : ℕ) → faults_of (after_failed_read shelf name most) name ≡ counted (faults_of shelf name)
 faults-after_failed shelf name most =
     let own : bytes_eq name name ≡ true = (bytes_eq-Decides name name).1 refl in
     rw (find-changed with_fault (λ _. refl) name name shelf.files, own) (count-fault (file_of shelf name) shelf.absent)
+
+-- so a shelf that equals the one after a failed read has one fault more of the name
+pub raised-after_failed :
+    {new : ShelfContents} (shelf : ShelfContents) (name : List ℕ) (most : ℕ)
+    → new ≡ after_failed_read shelf name most → faults_of new name ≡ counted (faults_of shelf name)
+raised-after_failed shelf name most failed = ap (λ (s : ShelfContents). faults_of s name) failed ∙ faults-after_failed shelf name most
 
 -- a failed read changes nothing that is told
 bytes-kept :

@@ -4,7 +4,7 @@ use Rattle.std.specs.Prelude.{position}
 use Rattle.psi_io.specs.Counts.{counted}
 use Rattle.psi_io.proofs.CountsLemmas.{counted-still, rose-counted}
 use Rattle.psi_io.specs.MemoryShelf.{ShelfContents, has_name, told_of, faults_of}
-use Rattle.psi_io.proofs.FilesLemmas.{fail-place, fail-absent, faults-after_failed, told-after_failed, counts-after_failed, faults-at, told-at, told-none, reads-at, read-place, no-fault, ok-no_fault}
+use Rattle.psi_io.proofs.FilesLemmas.{fail-place, fail-absent, raised-after_failed, told-after_failed, counts-after_failed, faults-at, told-at, told-none, reads-at, read-place, no-fault, ok-no_fault}
 use Rattle.psi_io.proofs.memory_shelf.MemoryShelfShelf.feed.Goals as goal
 
 pub returns-in-Some-clause-after_failed : goal.returns-in-Some-clause-after_failed
@@ -14,9 +14,7 @@ returns-in-Some-clause-after_failed g c = λ _.
     (rw c.as_slice.ensures.value at (sym c.in-Some.ensures)) c.index_mut.ensures.value)
 
 pub returns-in-Some-clause-raised : goal.returns-in-Some-clause-raised
-returns-in-Some-clause-raised g c = λ is.
-    ap (λ (shelf : ShelfContents). faults_of shelf c.args.name.now) (returns-in-Some-clause-after_failed g c is)
-    ∙ faults-after_failed c.args.self.now c.args.name.now c.args.most
+returns-in-Some-clause-raised g c = λ is. raised-after_failed c.args.self.now c.args.name.now c.args.most (returns-in-Some-clause-after_failed g c is)
 
 pub returns-in-Some-clause-failed : goal.returns-in-Some-clause-failed
 returns-in-Some-clause-failed g c = λ is. rose-counted _ _ (returns-in-Some-clause-raised g c is)
@@ -72,9 +70,7 @@ returns-in-None-clause-fails g c =
     (λ _. inr (told-none c.args.self.now c.args.name.now none), λ _. refl)
 
 pub returns-in-None-clause-raised : goal.returns-in-None-clause-raised
-returns-in-None-clause-raised g c = λ is.
-    ap (λ (shelf : ShelfContents). faults_of shelf c.args.name.now) (returns-in-None-clause-after_failed g c is)
-    ∙ faults-after_failed c.args.self.now c.args.name.now c.args.most
+returns-in-None-clause-raised g c = λ is. raised-after_failed c.args.self.now c.args.name.now c.args.most (returns-in-None-clause-after_failed g c is)
 
 pub returns-in-None-clause-failed : goal.returns-in-None-clause-failed
 returns-in-None-clause-failed g c = λ is. rose-counted _ _ (returns-in-None-clause-raised g c is)
