@@ -1,5 +1,5 @@
 -- Answers in the proof of `DiskShelfShelf::TheImpl`.
-use Rattle.std.proofs.Common.{Result, Ok, Err, IfOk, refl}
+use Rattle.std.proofs.Common.{◌≡◌, ℕ, List, Result, Ok, Err, IfOk, rules}
 use Rattle.std.specs.Prelude.{⊤, OnOk}
 use Rattle.psi_io.proofs.disk_shelf.DiskShelfShelf.TheImpl.Goals as goal
 
@@ -14,33 +14,13 @@ nothing_anyhow (Ok value) = tt
 nothing_anyhow (Err error) = tt
 
 pub feed-tells : goal.feed-tells
-feed-tells g c = record {
-  bytes = nothing_anyhow c.result;
-  front = c.ensures.front;
-  bound = c.ensures.bound;
-  setting = c.ensures.setting;
-  failed = c.ensures.failed;
-  counts = λ other. c.ensures.counts;
-  same = refl;
-  noted = c.ensures.noted;
-  gave = c.ensures.gave;
-  gave_none = c.ensures.gave_none;
-  given = λ gives. absurd gives;
-  spared = λ gives. absurd gives;
-  gives_on = λ other gives. gives;
-}
+feed-tells g c =
+    let bytes : OnOk c.result ⊤ = nothing_anyhow c.result in
+    let spared : ⊥ → ◌≡◌ {A = List ℕ → ℕ} (λ name. c.new.self.now.count) (λ name. c.args.self.now.count) = λ gives. absurd gives in
+    search rules
 
 pub read-tells : goal.read-tells
-read-tells g c = record {
-  bytes = ok_anyhow c.result;
-  bound = c.ensures.bound;
-  failed = c.ensures.failed;
-  counts = λ other. c.ensures.counts;
-  same = refl;
-  noted = c.ensures.noted;
-  gave = c.ensures.gave;
-  gave_none = c.ensures.gave_none;
-  given = λ gives. absurd gives;
-  spared = λ gives. absurd gives;
-  gives_on = λ other gives. gives;
-}
+read-tells g c =
+    let bytes : IfOk c.result (λ _. ⊤) = ok_anyhow c.result in
+    let spared : ⊥ → ◌≡◌ {A = List ℕ → ℕ} (λ name. c.new.self.now.count) (λ name. c.args.self.now.count) = λ gives. absurd gives in
+    search rules
