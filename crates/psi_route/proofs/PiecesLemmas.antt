@@ -178,16 +178,14 @@ module _ (s : Shape) (is : IsRouteShape s) where
     pub room-test : (i : ℕ) → i < length s.targets → HasRoom (routing s) i (slice_index x (target i))
         → (nat_lt (slice_index x (target i)) (bound_of s i) ≡ true) × (nat_le (bound_of s i) (slice_index x (target i)) ≡ false)
     room-test i place room =
-        let sized = is.sized in
-        let fits = is.fits i place in
-        (lt-ltb (slice_index x (target i)) (bound_of s i) (omega arith), lt-leb (bound_of s i) (slice_index x (target i)) (omega arith))
+        let less : slice_index x (target i) < bound_of s i = omega (arith, is.sized, is.fits i place) in
+        (lt-ltb (slice_index x (target i)) (bound_of s i) less, lt-leb (bound_of s i) (slice_index x (target i)) less)
 
     pub lacks-test : (i : ℕ) → i < length s.targets → Lacks (routing s) i (slice_index x (target i))
         → (nat_lt (slice_index x (target i)) (bound_of s i) ≡ false) × (nat_le (bound_of s i) (slice_index x (target i)) ≡ true)
     lacks-test i place lacks =
-        let sized = is.sized in
-        let fits = is.fits i place in
-        (le-ltb (slice_index x (target i)) (bound_of s i) (omega arith), le-leb (bound_of s i) (slice_index x (target i)) (omega arith))
+        let most : bound_of s i ≤ slice_index x (target i) = omega (arith, is.sized, is.fits i place) in
+        (le-ltb (slice_index x (target i)) (bound_of s i) most, le-leb (bound_of s i) (slice_index x (target i)) most)
 
     -- where there is no target
     leaving-sum : length s.targets ≡ 0 → IsSum (leaving s) x y
