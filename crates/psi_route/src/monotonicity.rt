@@ -73,6 +73,20 @@ impl Route {
         requires tables { 0 < length self.now.tables.items }
         ensures { result ≡ pair_between (shape_of self.now) a b }
     {
+        let found = self.least_fall(a, b);
+        match found {
+            None => None,
+            Some((v, w)) => Some(self.pair_of(a, b, v, w)),
+        }
+    }
+
+    // The least fall of a key of place `a` past one of place `b`, if there is one.
+    fn least_fall(&self, a: u8, b: u8) -> Option<(u16, u16)>
+        requires first { a < length self.now.targets }
+        requires second { b < length self.now.targets }
+        requires tables { 0 < length self.now.tables.items }
+        ensures { AreFalls (shape_of self.now) a b (slice_index self.now.caps (slice_index self.now.targets b)) result }
+    {
         let clear = self.clear(a, b);
         let rising = self.tables[a as usize].rising_front();
         let mut found = None;
@@ -84,10 +98,7 @@ impl Route {
             let fall = self.first_fall(a, b, w, past);
             found = self.earlier(a, b, w, past, fall, found);
         }
-        match found {
-            None => None,
-            Some((v, w)) => Some(self.pair_of(a, b, v, w)),
-        }
+        found
     }
 
     // How many numbers of customers at place `b` at least have keys past which no key of place `a` falls: all where the
