@@ -45,7 +45,7 @@ fn digits_of(n: u32) -> Digits
     }
 }
 
-/// Puts a comma and the decimal digits of a number.
+/// Puts a comma and the decimal digits of a number. Of one of the table four bytes are written, however many it has.
 #[inline]
 pub(crate) fn put_next(out: &mut [u8], at: usize, table: &[Digits], n: u16) -> usize
     requires room { at + 6 ≤ length out.old }
@@ -53,21 +53,9 @@ pub(crate) fn put_next(out: &mut [u8], at: usize, table: &[Digits], n: u16) -> u
     ensures text { Puts out.old out.new at result (44 ∷ decimal n) }
     ensures short { result ≤ at + 6 }
 {
-    if (n as usize) < table.len() {
-        return put_small(out, at, table, n);
+    if (n as usize) >= table.len() {
+        return put_long(out, at, n);
     }
-    put_long(out, at, n)
-}
-
-// Puts a comma and the decimal digits of a number of the table. Four bytes are written, whatever their number.
-#[inline]
-fn put_small(out: &mut [u8], at: usize, table: &[Digits], n: u16) -> usize
-    requires room { at + 6 ≤ length out.old }
-    requires table { AreDigits table.now }
-    requires there { n < length table.now }
-    ensures text { Puts out.old out.new at result (44 ∷ decimal n) }
-    ensures short { result ≤ at + 6 }
-{
     let digits = table[n as usize];
     let _end = put(out, at, &digits.bytes);
     at + digits.len as usize
