@@ -24,13 +24,17 @@ arrival_event = record { name = codes "in"; server = 1; rate = 8; kind = Arrival
 abbrev pub full_behind : ℕ → Full
 full_behind i = if i % 2 == 1 then Stay else Lost
 
--- the service of the i-th queue that isn't the last: customers go on to the next queue
+-- the service of the i-th queue at a rate: customers go on to these queues
+abbrev pub service_event : ℕ → ℕ → List ℕ → Full → NamedEvent
+service_event i rate to full = record { name = codes "s" ++ decimal i; server = 1; rate = rate; kind = Service (server_of i) to full }
+
+-- that of a queue that isn't the last: customers go on to the next queue
 abbrev pub passing_event : ℕ → NamedEvent
-passing_event i = record { name = codes "s" ++ decimal i; server = 1; rate = 10; kind = Service (server_of i) (i ∷ []) (full_behind i) }
+passing_event i = service_event i 10 (i ∷ []) (full_behind i)
 
 -- the service of the last queue: customers leave the network
 abbrev pub leaving_event : ℕ → NamedEvent
-leaving_event last = record { name = codes "s" ++ decimal last; server = 1; rate = 12; kind = Service (server_of last) [] Lost }
+leaving_event last = service_event last 12 [] Lost
 
 -- three customers at once join the first queue
 abbrev pub bulk_event : NamedEvent

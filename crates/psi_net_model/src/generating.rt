@@ -7,7 +7,7 @@ ghost use Rattle.psi_state.specs.State.{AreCapacities, numbers_from};
 ghost use Rattle.psi_net_model.specs.Name.{is_name};
 ghost use Rattle.psi_net_model.specs.Expansion.{source_of, expanded};
 ghost use Rattle.psi_net_model.specs.Draft.{named};
-ghost use Rattle.psi_net_model.specs.Generated.{queue_count, nth_queue, generated_queues, server_of, arrival_event, full_behind, passing_event, leaving_event, bulk_event, negative_event, odd_events, generated_events, total_reward, generated_network};
+ghost use Rattle.psi_net_model.specs.Generated.{queue_count, nth_queue, generated_queues, server_of, arrival_event, full_behind, service_event, passing_event, bulk_event, negative_event, odd_events, generated_events, total_reward, generated_network};
 
 use crate::OutOfMemory;
 use crate::building::{accepted_reward, capacities};
@@ -100,45 +100,26 @@ fn full_behind(i: u8) -> Full
     if i % 2 == 1 { Full::Stay } else { Full::Lost }
 }
 
-// The service of the i-th queue: customers go on to the next one.
+// The service of the i-th queue at a rate: customers go on to these queues.
 #[tactic(auto, using(crate::proofs::MakingLemmas::service_name))]
-fn passing_event(alloc: Global, i: u8) -> Result<NamedEvent, OutOfMemory>
+fn service_event(
+    alloc: Global,
+    i: u8,
+    rate: u32,
+    to: Queues,
+    full: Full,
+) -> Result<NamedEvent, OutOfMemory>
     requires some { 1 ≤ i }
     requires few { i ≤ 16 }
-    ensures { IfOk result (λ event. event ≡ passing_event i) }
+    ensures { IfOk result (λ event. event ≡ service_event i rate to full) }
 {
     let name = numbered(alloc, "s", i)?;
-    let mut to = Queues::empty();
-    to.push(i);
+    let from = server_of(i);
     Ok(NamedEvent {
         name,
         server: 1,
-        rate: 10,
-        kind: Kind::Service {
-            from: server_of(i),
-            to,
-            full: full_behind(i),
-        },
-    })
-}
-
-// The service of the last queue: customers leave the network.
-#[tactic(auto, using(crate::proofs::MakingLemmas::service_name))]
-fn leaving_event(alloc: Global, last: u8) -> Result<NamedEvent, OutOfMemory>
-    requires some { 1 ≤ last }
-    requires few { last ≤ 16 }
-    ensures { IfOk result (λ event. event ≡ leaving_event last) }
-{
-    let name = numbered(alloc, "s", last)?;
-    Ok(NamedEvent {
-        name,
-        server: 1,
-        rate: 12,
-        kind: Kind::Service {
-            from: server_of(last),
-            to: Queues::empty(),
-            full: Full::Lost,
-        },
+        rate,
+        kind: Kind::Service { from, to, full },
     })
 }
 
@@ -202,7 +183,10 @@ fn push_passing(
     ensures { OnOk result (events.new.items ≡ events.old.items ++ flat_map (expanded queues.now) (map passing_event (numbers_from 1 count))) }
 {
     for place in 0..count {
-        let event = passing_event(alloc, place + 1)?;
+        let next = place + 1;
+        let mut to = Queues::empty();
+        to.push(next);
+        let event = service_event(alloc, next, 10, to, full_behind(next))?;
         push_event(alloc, queues, events, &event)?;
     }
     Ok(())
@@ -236,7 +220,7 @@ fn all_events(alloc: Global, number: u16, queues: &[Queue]) -> Result<Vec<NamedE
     let mut events = Vec::new(alloc);
     push_event(alloc, queues, &mut events, &arrival_event())?;
     push_passing(alloc, queues, &mut events, last - 1)?;
-    let leaving = leaving_event(alloc, last)?;
+    let leaving = service_event(alloc, last, 12, Queues::empty(), Full::Lost)?;
     push_event(alloc, queues, &mut events, &leaving)?;
     push_odd(alloc, number, queues, &mut events)?;
     Ok(events)
