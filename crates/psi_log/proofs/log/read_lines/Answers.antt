@@ -13,7 +13,6 @@ pub returns-in-Err-clause-refused : goal.returns-in-Err-clause-refused
 returns-in-Err-clause-refused c =
     let first = c.args.reader.now in
     let kept = c.loop-done.invariant in
-    let test = c.loop-done-test.true in
     let size : c.header-header.result.horizon ≡ first.header.horizon = ap (λ (h : Header). h.horizon) c.header-header.ensures.value in
     lines_fail c.loop-done.reader first.header c.loop-done.done first.region c.loop-done.steps.items c.loop-done.regions.regions _ kept.header kept.done (omega arith) kept.value
     c.in-Err.error c.in-Err.ensures.refused
@@ -22,7 +21,6 @@ pub loop-done-preserved : goal.loop-done-preserved
 loop-done-preserved c =
     let first = c.args.reader.now in
     let kept = c.loop-done.invariant in
-    let test = c.loop-done-test.true in
     let size : c.header-header.result.horizon ≡ first.header.horizon = ap (λ (h : Header). h.horizon) c.header-header.ensures.value in
     let more = lines_more c.loop-done.reader first.header c.loop-done.done first.region c.loop-done.steps.items c.loop-done.regions.regions _ kept.header kept.done (omega arith) kept.value
     c.next.new.self c.in-Ok.step c.push-in-loop-done.new.self.items c.push-in-loop-done-2.new.self.regions c.in-Ok.ensures.value kept.begin kept.count c.in_ok-push-2.ensures.items
@@ -40,7 +38,6 @@ pub returns-clause-value : goal.returns-clause-value
 returns-clause-value c =
     let first = c.args.reader.now in
     let kept = c.loop-done.invariant in
-    let test = c.loop-done-test.false in
     let size : c.header-header.result.horizon ≡ first.header.horizon = ap (λ (h : Header). h.horizon) c.header-header.ensures.value in
     sym kept.value
     ∙ steps_end first.header (first.header.horizon - c.loop-done.done) (7 + c.loop-done.done) (box_before first.header.version c.loop-done.reader.region) c.loop-done.reader.rest
