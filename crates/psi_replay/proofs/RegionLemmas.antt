@@ -1,12 +1,12 @@
 -- Regions of a log, and the tests of their states by corners or one after another.
-use Rattle.std.specs.Prelude.{◌≡◌, ◌↔◌, ℕ, suc, ◌+◌, ◌<◌, ◌≤◌, List, [], ◌∷◌, length, drop, Bool, true, false, ◌==◌, nat_le, IsTrue, Option, Some, None, is_some, MatchOption, slice_get, slice_index, refl}
+use Rattle.std.specs.Prelude.{◌≡◌, ◌↔◌, ℕ, suc, ◌+◌, ◌<◌, ◌≤◌, List, [], ◌∷◌, length, drop, Bool, true, false, nat_le, IsTrue, Option, Some, None, MatchOption, slice_get, slice_index, refl}
 use Rattle.std.specs.List.{list_all}
 use Rattle.std.specs.Cmp.Lexicographic.{pointwise}
 use Rattle.std.proofs.Common.{sym, subst, arith}
-use Rattle.std.proofs.lemmas.Bool.{eq-eqb, eqb-true, le-leb, lt-leb, leb-true, and_parts, and_from}
+use Rattle.std.proofs.lemmas.Bool.{le-leb, leb-true, and_parts, and_from}
 use Rattle.psi_state.specs.State.{Corners, IsBelow, box}
 use Rattle.psi_state.specs.Members.{In}
-use Rattle.psi_state.proofs.BoxesLemmas.{In-low, In-high, In-of_box, below-through}
+use Rattle.psi_state.proofs.BoxesLemmas.{In-high, In-of_box, below-through}
 use Rattle.psi_region.specs.Covering.{Covers}
 use Rattle.psi_event.specs.Idle.{unchanged}
 use Rattle.psi_log_format.specs.Log.{LogRegion, in_box, in_set, IsSet}
@@ -76,24 +76,6 @@ within_each caps region x all member = below_found x caps (all_each (λ (y : Lis
 
 pub within_high : (caps : List ℕ) (b : Corners) → is_within caps (in_box b) ≡ true → IsBelow b.lo b.hi → IsBelow b.hi caps
 within_high caps b all ordered = within_each caps (in_box b) b.hi all (In-high b.lo b.hi ordered)
-
--- the count of a box, where it is told up to a number
-pub told_some : (n most : ℕ) (o : Option ℕ) → MatchOption o (most < n) (λ count. (count ≡ n) × (count ≤ most)) → is_some o ≡ nat_le n most
-told_some n most (Some count) tells = (let first = tells.0 in let second = tells.1 in let small : n ≤ most = omega arith in sym (le-leb n most small))
-told_some n most None tells = sym (lt-leb n most tells)
-
--- a box has a state, so it has one exactly where it has at most one
-pub one_state : (b : Corners) → IsBelow b.lo b.hi → nat_le (length (box b.lo b.hi)) 1 ≡ (length (box b.lo b.hi) == 1)
-one_state b ordered = at_most_one (length (box b.lo b.hi)) (some (box b.lo b.hi) b.lo (In-low b.lo b.hi ordered))
-  where
-    some : (xs : List (List ℕ)) (x : List ℕ) → In x xs → 1 ≤ length xs
-    some [] x member = absurd member
-    some (y ∷ ys) x member = omega arith
-
-    at_most_one : (n : ℕ) → 1 ≤ n → nat_le n 1 ≡ (n == 1)
-    at_most_one n least = same_test (nat_le n 1) (n == 1)
-        (λ few. (let most = leb-true n 1 few in eq-eqb n 1 (omega arith)))
-        (λ one. (let is = eqb-true n 1 one in le-leb n 1 (omega arith)))
 
 -- the test of a box by its corners is that of its states
 pub box_holds : (b : Corners) (x : List ℕ) (r : Bool) → (IsTrue r ↔ In x (box b.lo b.hi)) → r ≡ has (box b.lo b.hi) x

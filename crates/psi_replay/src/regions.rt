@@ -96,7 +96,8 @@ fn set_is_within(rows: &Rows<'_>, caps: &State) -> bool
 fn is_one_state(bounds: &Bounds) -> bool
     ensures { result ≡ (length (box bounds.now.lo bounds.now.hi) == 1) }
 {
-    // Called for its clause: the corners are in order, so there is a state.
-    let _queues = bounds.len();
-    bounds.volume_at_most(1).is_some()
+    match bounds.volume_at_most(1) {
+        Some(count) => count == 1,
+        None => false,
+    }
 }
