@@ -126,29 +126,8 @@ fn push_row(
     Ok(())
 }
 
-// The rows of an index's table.
-#[tactic(auto, using(psi_net_document::proofs::TurnLemmas::turn, crate::proofs::ErrorLemmas::turn_errs, psi_net_document::proofs::TurnLemmas::turn_ends))]
-fn all_rows(
-    alloc: Global,
-    place: Place,
-    caps: &State,
-    to: &Queues,
-    values: &[Value],
-) -> Result<Tables, NetError>
-    requires among { are_below (length caps.now) to.now ≡ true }
-    requires count { length values.now ≡ length to.now }
-    ensures { Reads (λ rows. rows) result (each (row_step place caps.now to.now) 1 [] (map view values.now)) }
-{
-    let mut rows = Tables::new(alloc);
-    for number in 0..to.len() {
-        let value = &values[number as usize];
-        read!(push_row(alloc, place, caps, to, number, &mut rows, value));
-    }
-    Ok(rows)
-}
-
 // `table` of an index: one row for each target.
-#[tactic(auto, unfolding(crate::specs::KindTables::table_of))]
+#[tactic(auto, using(psi_net_document::proofs::TurnLemmas::turn, crate::proofs::ErrorLemmas::turn_errs, psi_net_document::proofs::TurnLemmas::turn_ends), unfolding(crate::specs::KindTables::table_of))]
 fn table_of(
     alloc: Global,
     place: Place,
@@ -161,7 +140,12 @@ fn table_of(
 {
     let value = judged!(present(place, "table", value));
     let values = judged!(counted_in(place, "table", to.len() as usize, value));
-    all_rows(alloc, place, caps, to, values)
+    let mut rows = Tables::new(alloc);
+    for number in 0..to.len() {
+        let element = &values[number as usize];
+        read!(push_row(alloc, place, caps, to, number, &mut rows, element));
+    }
+    Ok(rows)
 }
 
 // Whether each target has a capacity of at least `size`.
@@ -297,8 +281,8 @@ pub(crate) fn fork(place: Place, known: &KnownNames, table: &Table) -> Result<Ki
     ensures { Gives (λ kind. kind) result (fork_of place known.now.list.keys (table_view table.now)) }
 {
     let from = read!(source(place, known, find(table, "from")));
-    let sources = queue_of_source(from);
-    let to = read!(required_targets(place, "to", known, &sources, find(table, "to")));
+    let found = find(table, "to");
+    let to = read!(required_targets(place, "to", known, &queue_of_source(from), found));
     Ok(Kind::Fork { from, to })
 }
 

@@ -8,9 +8,8 @@ ghost use Rattle.toml.specs.View.{view, table_view};
 ghost use Rattle.psi_net_document.specs.Refusal.{Gives};
 ghost use Rattle.psi_net.specs.Errors.{Reads};
 ghost use Rattle.psi_net_document.specs.Values.{seen, no_unknown, required, each};
-ghost use Rattle.psi_net_document.specs.Targets.{AreTargets, are_below};
+ghost use Rattle.psi_net_document.specs.Targets.{are_below};
 ghost use Rattle.psi_net_model.specs.Draft.{named};
-ghost use Rattle.psi_net_document.specs.References.{some_targets_in};
 ghost use Rattle.psi_net.specs.RewardTables.{reward_named, reward_kind_in, reward_keys, integer_step, weights_in, grid_step, grid_in, reward_kind_of, reward_of, reward_step, rewards_in, rewards_of};
 
 use crate::judged;
@@ -19,8 +18,8 @@ use crate::net_error::NetError;
 use crate::words::RewardWord;
 use indexmap::IndexSet;
 use psi_net_document::{
-    KnownNames, NetCause, NetRefusal, Place, Section, array_in, counted_in, find, integer_in,
-    no_unknown, present, read, required_name, required_number, some_targets_in, table_in, text_in,
+    NetCause, NetRefusal, Place, Section, array_in, counted_in, find, integer_in, no_unknown,
+    present, read, required_name, required_number, required_targets, table_in, text_in,
     unless_taken,
 };
 use psi_net_model::{Name, RewardEntry, accepted_reward};
@@ -155,29 +154,8 @@ fn push_grid_row(
     Ok(())
 }
 
-// The rows of `table`.
-#[tactic(auto, using(psi_net_document::proofs::TurnLemmas::turn, crate::proofs::ErrorLemmas::turn_errs, psi_net_document::proofs::TurnLemmas::turn_ends))]
-fn all_grid_rows(
-    alloc: Global,
-    place: Place,
-    caps: &State,
-    queues: &Queues,
-    values: &[Value],
-) -> Result<Grid, NetError>
-    requires among { are_below (length caps.now) queues.now ≡ true }
-    requires count { length values.now ≡ length queues.now }
-    ensures { Reads (λ rows. rows) result (each (grid_step place caps.now queues.now) 1 [] (map view values.now)) }
-{
-    let mut rows = Grid::new(alloc);
-    for number in 0..queues.len() {
-        let value = &values[number as usize];
-        read!(push_grid_row(alloc, place, caps, queues, number, &mut rows, value));
-    }
-    Ok(rows)
-}
-
 // `table`: one row for each queue.
-#[tactic(auto, unfolding(crate::specs::RewardTables::grid_in))]
+#[tactic(auto, using(psi_net_document::proofs::TurnLemmas::turn, crate::proofs::ErrorLemmas::turn_errs, psi_net_document::proofs::TurnLemmas::turn_ends), unfolding(crate::specs::RewardTables::grid_in))]
 fn grid(
     alloc: Global,
     place: Place,
@@ -190,7 +168,12 @@ fn grid(
 {
     let value = judged!(present(place, "table", value));
     let values = judged!(counted_in(place, "table", queues.len() as usize, value));
-    all_grid_rows(alloc, place, caps, queues, values)
+    let mut rows = Grid::new(alloc);
+    for number in 0..queues.len() {
+        let element = &values[number as usize];
+        read!(push_grid_row(alloc, place, caps, queues, number, &mut rows, element));
+    }
+    Ok(rows)
 }
 
 // The key of its own that a kind has.
@@ -228,19 +211,6 @@ fn reward_kind_of(
     }
 }
 
-// `queues`: a list of at least one name.
-fn reward_queues(
-    place: Place,
-    known: &KnownNames,
-    value: Option<&Value>,
-) -> Result<Queues, NetRefusal>
-    ensures value { Gives (λ qs. qs) result (required place (codes "queues") (some_targets_in place (codes "queues") known.now.list.keys []) (seen value.entry)) }
-    ensures valid { IfOk result (AreTargets (length known.now.list.keys) []) }
-{
-    let value = read!(present(place, "queues", value));
-    some_targets_in(place, "queues", known, &Queues::empty(), value)
-}
-
 // A reward's table, with its place and the names of the rewards before it.
 #[tactic(auto, using(crate::proofs::KeptRewardsLemmas::reward_kept), unfolding(crate::specs::RewardTables::reward_of))]
 fn reward(
@@ -258,7 +228,8 @@ fn reward(
     judged!(no_unknown_reward_key(place, word, table));
     let name = judged!(required_name(place, "name", find(table, "name")));
     judged!(unless_taken(place, earlier, name));
-    let queues = judged!(reward_queues(place, &known.names, find(table, "queues")));
+    let found = find(table, "queues");
+    let queues = judged!(required_targets(place, "queues", &known.names, &Queues::empty(), found));
     let kind = read!(reward_kind_of(alloc, place, word, &known.caps, queues, table));
     Ok(RewardEntry {
         name,

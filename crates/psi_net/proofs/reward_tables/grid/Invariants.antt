@@ -1,9 +1,9 @@
--- Invariants of the loops of `all_grid_rows`.
+-- Invariants of the loops of `grid`.
 use Rattle.std.proofs.Common.{◌≡◌, ◌+◌, [], length, map, drop}
 use Rattle.toml.specs.View.{view}
 use Rattle.psi_net_document.specs.Values.{each}
 use Rattle.psi_net.specs.RewardTables.{grid_step}
-use Rattle.psi_net.proofs.reward_tables.all_grid_rows.Given as goal
+use Rattle.psi_net.proofs.reward_tables.grid.Given as goal
 
 abbrev pub invariant-loop-number : goal.invariant-loop-number
 invariant-loop-number l =

@@ -1,9 +1,9 @@
--- Invariants of the loops of `all_rows`.
+-- Invariants of the loops of `table_of`.
 use Rattle.std.proofs.Common.{◌≡◌, ◌+◌, [], length, map, drop}
 use Rattle.toml.specs.View.{view}
 use Rattle.psi_net_document.specs.Values.{each}
 use Rattle.psi_net.specs.KindTables.{row_step}
-use Rattle.psi_net.proofs.kind_tables.all_rows.Given as goal
+use Rattle.psi_net.proofs.kind_tables.table_of.Given as goal
 
 abbrev pub invariant-loop-number : goal.invariant-loop-number
 invariant-loop-number l =
