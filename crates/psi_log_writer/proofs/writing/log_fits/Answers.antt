@@ -26,7 +26,6 @@ returns-in-None-clause-fits g c =
     let h = c.args.header.now in
     let state = c.args.state.now in
     let place = c.loop-place.place in
-    let small = c.loop-place-test.true in
     let kept = c.loop-place.invariant in
     let line = line-only g.E.EventLaw.function _ system _ words h state place c.clear.new.self c.next_line.new.line c.bytes.result.now
     (ap (λ p. p.system) c.surely_fits.ensures.same ∙ kept.system) (ap (λ p. g.P.Past.words p.past) c.surely_fits.ensures.same ∙ kept.words) c.clear.ensures c.next_line.ensures.line

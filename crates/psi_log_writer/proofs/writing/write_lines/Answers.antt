@@ -31,7 +31,6 @@ returns-in_err-pass_on-clause-sent g c =
     let state = c.args.state.now in
     let text = log_text (log_of g.E.EventLaw.function system words h state) in
     let place = c.loop-place.place in
-    let small = c.loop-place-test.true in
     let rest = text_before-rest system.split (system_functions g.E.EventLaw.function system words) system.caps (event_numbers system words) h state place c.requires.version (omega arith) in
     sends-stopped c.from_residual.result _ _ [] text c.from_residual.ensures.0
     (stopped-on _ _ _ (c.loop-place.block ++ c.loop-place.line) (text_in g.E.EventLaw.function system words h state place) rest.0 text rest.1 c.loop-place.invariant.sent
@@ -67,7 +66,6 @@ pub returns-clause-sent : goal.returns-clause-sent
 returns-clause-sent g c =
     let system = c.args.plan.now.system in
     let words = g.P.Past.words c.args.plan.now.past in
-    let past = c.loop-place-test.false in
     let text = log_text (log_of g.E.EventLaw.function system words c.args.header.now c.args.state.now) in
     let whole = text_before-whole system.split (system_functions g.E.EventLaw.function system words) system.caps (event_numbers system words) c.args.header.now c.args.state.now c.loop-place.place
     c.requires.version (omega arith) in
