@@ -16,19 +16,14 @@ loop-place-init c =
 pub loop-place-preserved : goal.loop-place-preserved
 loop-place-preserved c =
     let place = c.loop-place.place in
-    let some = c.if-value-eq0.false in
-    let few = c.if-value-gt999999.false in
     let small = c.in-Some.ensures.small in
-    let test = c.loop-place-test.true in
     record {
       small = omega arith;
-      there = digit_more c.args.text.now 5 (5 + place) (5 + (place + 1)) c.loop-place.value c.in-Some.digit (omega arith) few small c.loop-place.invariant.there
+      there = digit_more c.args.text.now 5 (5 + place) (5 + (place + 1)) c.loop-place.value c.in-Some.digit (omega arith) c.if-value-gt999999.false small c.loop-place.invariant.there
           (digit_behind c.args.text.now place c.in-Some.digit (omega arith) (omega arith) c.in-Some.ensures.value);
     }
 
 pub returns-clause-there : goal.returns-clause-there
 returns-clause-there c =
-    let test = c.loop-place-test.false in
-    let most = c.loop-place.auto.place-end in
     let last : c.loop-place.place ≡ 7 = omega arith in
     subst (λ (k : ℕ). Stands c.args.text.now 5 (5 + k) (decimal c.loop-place.value)) last c.loop-place.invariant.there

@@ -22,7 +22,6 @@ returns-then-queue-row-clause-there c =
     let next = c.pass-next.result.0 in
     let len = c.pass-next.result.1 in
     let count = c.in_ok-here.ensures.count in
-    let last = c.if-queue-row.true in
     let like = like_pass c.args.text.now c.args.word.now c.loop.row c.args.at c.loop.here c.loop.place c.loop.queue next c.alike-same.result len c.loop.invariant.like c.pass-next.ensures.after
     c.pass-next.ensures.within c.pass-next.ensures.len c.pass-next.ensures.room c.alike-same.ensures.same in
     like_last c.args.text.now c.args.word.now c.loop.row c.read_number.new.row c.args.at (c.loop.here + len) c.in_ok-here.here (c.loop.place + len) next like (omega arith) count
@@ -33,11 +32,7 @@ loop-preserved c =
     let next = c.pass-next.result.0 in
     let len = c.pass-next.result.1 in
     let count = c.in_ok-here.ensures.count in
-    let more = c.if-queue-row.false in
     let inside = c.pass-next.ensures.within in
-    let after = c.pass-next.ensures.after in
-    let passed = c.pass-next.ensures.len in
-    let bytes = c.bytes_of-bytes.ensures.value in
     let longer = front_longer c.loop.row next inside in
     let like = like_pass c.args.text.now c.args.word.now c.loop.row c.args.at c.loop.here c.loop.place c.loop.queue next c.alike-same.result len c.loop.invariant.like c.pass-next.ensures.after
     c.pass-next.ensures.within c.pass-next.ensures.len c.pass-next.ensures.room c.alike-same.ensures.same in

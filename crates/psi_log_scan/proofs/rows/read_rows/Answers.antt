@@ -32,7 +32,6 @@ loop-preserved c =
     let new = c.next_run.new.states.states in
     let row = c.next_row.new.row in
     let next = subst (λ (o : Option ℕ). IfSome o (λ next. IsNextRow c.len-first.result c.args.text.now (c.loop.end + 1) next row old mid)) c.in-Some.is c.in_ok-next.ensures.next in
-    let is = c.len-first.ensures in
     let made = next.states in
     let count = c.next_row.ensures.count ∙ c.loop.invariant.count in
     let word = then (32 ∷ []) (numbers_text row) (32 ∷ numbers_text row) (c.if-not-has_byte.ensures.there refl) next.there refl in
@@ -42,7 +41,6 @@ loop-preserved c =
       | inr none ↦ (let more = c.loop.invariant.rows.more in rising_one old mid row first made (omega arith))
     ] in
     let size = ap length made ∙ length-append old (row ∷ []) in
-    let more = c.loop.invariant.rows.more in
     let read = subst (λ (k : ℕ). IsRead k text c.in-Some.next c.in_ok-end.end mid new) count c.in_ok-end.ensures.read in
     record {
       queues = c.in_ok-end.ensures.queues ∙ c.next_row.ensures.queues ∙ c.loop.invariant.queues;

@@ -9,11 +9,7 @@ loop-place-init c = record { value = sym (front_short c.args.row.now); few = ome
 pub loop-place-preserved : goal.loop-place-preserved
 loop-place-preserved c =
     let place = c.loop-place.place in
-    let test = c.loop-place-test.true in
-    let queue = c.requires.queue in
     let longer = front_longer c.args.row.now place (omega arith) in
-    let digits = c.width.ensures.value in
-    let short = c.width.ensures.few in
     let value = c.loop-place.invariant.value in
     let few = c.loop-place.invariant.few in
     record { value = omega arith; few = omega arith }

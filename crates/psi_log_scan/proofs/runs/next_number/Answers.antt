@@ -8,6 +8,5 @@ pub returns-clause-there : goal.returns-clause-there
 returns-clause-there c =
     let run = c.args.run.now in
     let within = c.if-not-is_alike.ensures.within refl in
-    let few = c.requires.few in
     word_stands c.args.text.now c.args.row.now run c.args.at c.in_ok-number.number c.requires (omega arith) (c.if-not-is_alike.ensures.alike refl)
     (subst (λ (k : ℕ). Stands c.args.text.now (c.args.at + c.args.run.now.from) k (decimal c.in_ok-number.number)) (omega arith) c.in_ok-number.ensures)

@@ -5,8 +5,5 @@ use Rattle.psi_log_scan.proofs.runs.number_of.Goals as goal
 
 pub returns : goal.returns
 returns c =
-    let within = c.requires in
-    let two = c.if-width-ne2.false in
-    let other = c.if-first-eq0.false in
     two_stand c.args.text.now c.args.at (c.args.at + c.args.width) c.in_ok-first.first c.in_ok-second.second (omega arith) (omega arith)
     c.in_ok-first.ensures.value c.in_ok-second.ensures.value c.in_ok-first.ensures.small c.in_ok-second.ensures.small (omega arith)

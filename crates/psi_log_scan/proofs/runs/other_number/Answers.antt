@@ -5,6 +5,4 @@ use Rattle.psi_log_scan.proofs.runs.other_number.Goals as goal
 
 pub returns : goal.returns
 returns c =
-    let within = c.requires in
-    let one = c.if-width-ne1.false in
     one_stands c.args.text.now c.args.at (c.args.at + c.args.width) c.in_ok-first.first (omega arith) (omega arith) c.in_ok-first.ensures.value c.in_ok-first.ensures.small

@@ -6,16 +6,11 @@ use Rattle.psi_log_scan.proofs.runs.run_of.Goals as goal
 
 pub around-requires-clause-within : goal.around-requires-clause-within
 around-requires-clause-within c =
-    let place = c.requires.there.place in
     let within = digits_within c.args.row.now c.args.queue c.requires.queue in
     omega (arith, c.front_len-from.ensures.value, c.width-width.ensures.value)
 
 pub returns : goal.returns
 returns c =
-    let place = c.requires.there.place in
-    let within = c.requires.within in
-    let more = c.if-text-at-lt128.false in
-    let few = c.if-len-ge128.false in
     let part = drop c.args.at c.args.text.now in
     let size = length-take-le (c.args.at + 128 - c.args.at) part (omega (arith, length-drop c.args.at c.args.text.now)) in
     run_is c.args.text.now c.args.row.now c.args.at c.args.end _ (omega arith) c.requires.queue c.requires.there refl c.if-len-ge128.false

@@ -12,12 +12,10 @@ loop-init c = record {
 
 pub loop-preserved : goal.loop-preserved
 loop-preserved c =
-    let some = c.if-value-eq0.false in
-    let few = c.if-value-gt999999.false in
     let small = c.in-Some.ensures.small in
     let within = c.in-Some.ensures.within in
     record {
       within = omega arith;
       small = omega arith;
-      there = digit_more c.args.text.now c.args.at c.loop.end (c.loop.end + 1) c.loop.value c.in-Some.digit (omega arith) few small c.loop.invariant.there c.in-Some.ensures.there;
+      there = digit_more c.args.text.now c.args.at c.loop.end (c.loop.end + 1) c.loop.value c.in-Some.digit (omega arith) c.if-value-gt999999.false small c.loop.invariant.there c.in-Some.ensures.there;
     }

@@ -19,7 +19,6 @@ loop-queue-preserved c =
     let row = c.loop-queue.row in
     let number = c.in-Some.number in
     let count = c.loop-queue.invariant.count in
-    let test = c.loop-queue-test.true in
     record {
       count = length-set row queue number ∙ count;
       within = c.in-Some.ensures.within;
@@ -31,10 +30,6 @@ pub returns-clause-there : goal.returns-clause-there
 returns-clause-there c =
     let row = c.loop-queue.row in
     let most = length c.args.row.now - 1 in
-    let count = c.loop-queue.invariant.count in
-    let some = c.requires.some in
-    let test = c.loop-queue-test.false in
-    let end = c.loop-queue.auto.queue-end in
     let last : c.loop-queue.queue ≡ most = omega arith in
     commas_last c.args.text.now c.args.at c.loop-queue.end c.in_ok-number.end most c.in_ok-number.number row (slice_set row most c.in_ok-number.number) (omega arith) refl
     (subst (λ (k : ℕ). Stands c.args.text.now c.args.at c.loop-queue.end (with_commas (take k row))) last c.loop-queue.invariant.there) c.in_ok-number.ensures.there
