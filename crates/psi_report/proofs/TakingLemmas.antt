@@ -47,15 +47,16 @@ summaries_figures-take trio met (suc i) (n ∷ names) (s ∷ summaries) name d n
     ∙ ap (λ (rest : List Figure). summary_figures trio met n s ++ rest)
     (summaries_figures-take trio met i names summaries name d named (omega arith))
 
-pub summaries_more : {A : Type 0} (name_of : A → List ℕ) (figures : List Figure) (trio : Trio) (met i : ℕ) (xs : List A) (summaries : List Summary) (name : List ℕ) (d : Summary)
+pub summaries_more : {A : Type 0} (name_of : A → List ℕ) (first now next : List Figure) (trio : Trio) (met i : ℕ) (xs : List A) (summaries : List Summary) (name : List ℕ) (d : Summary)
+    → now ≡ first ++ summaries_figures trio met (take i (map name_of xs)) (take i summaries) → next ≡ now ++ summary_figures trio met name (get_or summaries i d)
     → option_map name_of (slice_get xs i) ≡ Some name → i < length summaries
-    → (figures ++ summaries_figures trio met (take i (map name_of xs)) (take i summaries)) ++ summary_figures trio met name (get_or summaries i d)
-    ≡ figures ++ summaries_figures trio met (take (i + 1) (map name_of xs)) (take (i + 1) summaries)
-summaries_more name_of figures trio met i xs summaries name d named small =
+    → next ≡ first ++ summaries_figures trio met (take (i + 1) (map name_of xs)) (take (i + 1) summaries)
+summaries_more name_of first now next trio met i xs summaries name d are is named small =
     let found : slice_get (map name_of xs) i ≡ Some name = slice_get-map name_of xs i ∙ named in
-    append_assoc figures (summaries_figures trio met (take i (map name_of xs)) (take i summaries)) (summary_figures trio met name (get_or summaries i d))
-    ∙ ap (λ (rest : List Figure). figures ++ rest) (summaries_figures-take trio met i (map name_of xs) summaries name d found small)
-    ∙ ap (λ j. figures ++ summaries_figures trio met (take j (map name_of xs)) (take j summaries)) (sym (add-one i))
+    is ∙ ap (λ (figures : List Figure). figures ++ summary_figures trio met name (get_or summaries i d)) are
+    ∙ append_assoc first (summaries_figures trio met (take i (map name_of xs)) (take i summaries)) (summary_figures trio met name (get_or summaries i d))
+    ∙ ap (λ (rest : List Figure). first ++ rest) (summaries_figures-take trio met i (map name_of xs) summaries name d found small)
+    ∙ ap (λ j. first ++ summaries_figures trio met (take j (map name_of xs)) (take j summaries)) (sym (add-one i))
 
 -- and at first there are none
 pub no_summaries : (figures : List Figure) (trio : Trio) (met : ℕ) (summaries : List Summary) → figures ≡ figures ++ summaries_figures trio met [] summaries
