@@ -21,7 +21,6 @@ returns-in-Err-clause-refused g c =
     let words = g.P.Past.words c.args.past.now in
     let reader = c.loop-done.reader in
     let kept = c.loop-done.invariant in
-    let test = c.loop-done-test.true in
     let size : c.header-horizon.result.horizon ≡ c.args.reader.now.header.horizon = ap (λ (k : Header). k.horizon) c.header-horizon.ensures.value in
     let same : reader.header.horizon ≡ c.args.reader.now.header.horizon = ap (λ (k : Header). k.horizon) kept.header in
     subst (λ (k : Cursor). IsLogError c.in-Err.error (left_with g.E.EventLaw.function system words k k.rest c.loop-done.judged)) (sym c.in-Err.ensures.kept)
@@ -50,7 +49,6 @@ loop-done-preserved g c =
     let h = c.args.reader.now.header in
     let done = c.loop-done.done in
     let kept = c.loop-done.invariant in
-    let test = c.loop-done-test.true in
     let size : c.header-horizon.result.horizon ≡ h.horizon = ap (λ (k : Header). k.horizon) c.header-horizon.ensures.value in
     let before = c.loop-done.reader in
     let after = c.next.new.self in

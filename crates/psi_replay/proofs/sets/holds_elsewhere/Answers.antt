@@ -33,7 +33,6 @@ loop-low-preserved c =
     let least = c.middle_of-middle.ensures.least in
     let below = c.middle_of-middle.ensures.most in
     let kept = c.loop-low.invariant in
-    let test = c.loop-low-test.true in
     let most = kept.most in
     record {
       most = omega arith;
@@ -48,5 +47,4 @@ returns c =
     (let old = c.loop-low.invariant.between k is in
     let first = old.0 in
     let second = old.1 in
-    let over = c.loop-low-test.false in
     omega arith)))
