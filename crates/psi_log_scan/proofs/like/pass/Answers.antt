@@ -7,6 +7,4 @@ pub loop-queue-preserved : goal.loop-queue-preserved
 loop-queue-preserved c =
     let queue = c.loop-queue.queue in
     let longer = front_longer c.args.row.now queue (omega arith) in
-    let value = c.loop-queue.invariant.value in
-    let few = c.loop-queue.invariant.few in
     record { value = omega arith; room = omega arith; few = omega arith }

@@ -10,6 +10,4 @@ pub loop-place-preserved : goal.loop-place-preserved
 loop-place-preserved c =
     let place = c.loop-place.place in
     let longer = front_longer c.args.row.now place (omega arith) in
-    let value = c.loop-place.invariant.value in
-    let few = c.loop-place.invariant.few in
     record { value = omega arith; few = omega arith }
