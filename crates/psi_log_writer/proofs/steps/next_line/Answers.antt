@@ -22,15 +22,11 @@ returns-then-place-eq1-clause-line g c =
 
 pub returns-then-place-header-clause-line : goal.returns-then-place-header-clause-line
 returns-then-place-header-clause-line g c =
-    let none = c.if-place-eq0.false in
-    let one = c.if-place-eq1.false in
     walking-line g.E.EventLaw.function g.P.Past.words c.args.plan.now c.args.header.now c.args.state.now c.args.place c.args.told.now c.args.line.now _ (omega arith)
     c.if-place-header.true c.requires.walking c.step_line.ensures.line
 
 pub returns-then-place-header-clause-walking : goal.returns-then-place-header-clause-walking
 returns-then-place-header-clause-walking g c =
-    let none = c.if-place-eq0.false in
-    let one = c.if-place-eq1.false in
     walking-step g.E.EventLaw.function g.P.Past.words c.args.plan.now c.step_line.new.plan c.args.header.now.horizon c.args.place c.args.told.now c.step_line.new.told (omega arith)
     c.if-place-header.true c.requires.walking c.step_line.ensures.run c.step_line.ensures.told
 
@@ -38,8 +34,5 @@ pub returns-else-place-header-clause-line : goal.returns-else-place-header-claus
 returns-else-place-header-clause-line g c =
     let system = c.args.plan.now.system in
     let words = g.P.Past.words c.args.plan.now.past in
-    let none = c.if-place-eq0.false in
-    let one = c.if-place-eq1.false in
-    let past = c.if-place-header.false in
     line-end system.split (system_functions g.E.EventLaw.function system words) system.caps (event_numbers system words) c.args.header.now c.args.state.now _ _ c.args.place
     (omega arith) c.requires.held c.end.ensures

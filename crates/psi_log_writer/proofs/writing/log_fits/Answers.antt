@@ -59,7 +59,6 @@ loop-place-preserved g c =
 
 pub returns-clause-fits : goal.returns-clause-fits
 returns-clause-fits g c =
-    let past = c.loop-place-test.false in
     let whole = ap (λ (t : List ℕ). length t)
     (text_before-whole c.args.plan.now.system.split (system_functions g.E.EventLaw.function c.args.plan.now.system (g.P.Past.words c.args.plan.now.past)) c.args.plan.now.system.caps (event_numbers c.args.plan.now.system (g.P.Past.words c.args.plan.now.past)) c.args.header.now c.args.state.now c.loop-place.place c.requires.version (omega arith)) in
     let room = c.loop-place.invariant.room in
