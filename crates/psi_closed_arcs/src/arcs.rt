@@ -4,7 +4,7 @@ ghost use Rattle.std.specs.Prelude.{◌≡◌, ◌+◌, ◌*◌, ◌<◌, ◌≤
 ghost use Rattle.psi_state.specs.Members.{In};
 ghost use Rattle.psi_state.specs.Ascending.{IsDistinct};
 ghost use Rattle.psi_closed_arcs.specs.Sums.{has, Leads};
-ghost use Rattle.psi_closed_arcs.specs.Held.{Listed, AreRanged, IsThis, IsFirst};
+ghost use Rattle.psi_closed_arcs.specs.Held.{Listed, AreRanged, IsSized, IsThis, IsFirst};
 ghost use Rattle.psi_closed_arcs.specs.Inner.RowsKept.{keeps, arc_number, arcs_below, AreEmpty};
 
 use crate::OutOfMemory;
@@ -158,6 +158,8 @@ impl Arcs {
 
     /// Puts an arc into the set: it stays as it is where the arc is there already. The arc has to be one of the
     /// queues, with at most `total` customers in all.
+    ///
+    /// Its last clause is how a caller learns how many customers there are at most.
     #[inline]
     pub fn insert(&mut self, arc: Arc)
         requires level { arc.level < self.old.levels }
@@ -165,6 +167,7 @@ impl Arcs {
         ensures levels { self.new.levels ≡ self.old.levels }
         ensures total { self.new.total ≡ self.old.total }
         ensures arcs { (l s v : ℕ) → Listed self.new.arcs l s v ↔ (Listed self.old.arcs l s v ⊎ IsThis arc l s v) }
+        ensures small { self.new.total ≤ 256 }
     {
         let mut row = self.row(arc.level, arc.before);
         row.insert(arc.before + arc.value);
@@ -173,10 +176,13 @@ impl Arcs {
 
     /// The customers at queue `level` of an arc that leaves it with `before` customers before it, and whether there is
     /// another such arc; `None` where there is none.
+    ///
+    /// Its last clause is how a caller learns that each arc is in range.
     pub fn first(&self, level: u8, before: u16) -> Option<(u16, bool)>
         requires level { level < self.now.levels }
         requires before { before ≤ self.now.total }
-        ensures { MatchOption result ((v : ℕ) → Listed self.now.arcs level before v → ⊥) (λ p. IsFirst self.now.arcs level before p.0 p.1) }
+        ensures value { MatchOption result ((v : ℕ) → Listed self.now.arcs level before v → ⊥) (λ p. IsFirst self.now.arcs level before p.0 p.1) }
+        ensures sized { IsSized self.now }
     {
         let total = self.total();
         let row = self.row(level, before);
