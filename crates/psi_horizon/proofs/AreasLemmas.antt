@@ -1,6 +1,6 @@
 -- A region that is followed through the events of the numbers that are kept ends with the states of the run over all places.
-use Rattle.std.specs.Prelude.{◌≡◌, ℕ, zero, suc, ◌-◌, List, [], ◌∷◌, ◌++◌, length, slice_index_or, map, ◌||◌, Bool, true, false, nat_le, if◌then◌else◌, refl}
-use Rattle.std.proofs.Common.{inl, inr, ap, ap₂, sym, ◌∙◌, subst, arith}
+use Rattle.std.specs.Prelude.{◌≡◌, ℕ, zero, suc, ◌-◌, ◌≤◌, List, [], ◌∷◌, ◌++◌, length, slice_index_or, map, ◌||◌, Bool, true, false, nat_le, if◌then◌else◌, refl}
+use Rattle.std.proofs.Common.{inl, inr, ap, sym, ◌∙◌, subst, arith}
 use Rattle.std.proofs.lemmas.Bool.{cases_lt, lt-ltb, le-ltb, true≢false}
 use Rattle.std.proofs.lemmas.List.{get_or_past, append-nil, length-map}
 use Rattle.psi_state.specs.State.{zeros}
@@ -22,8 +22,11 @@ use Rattle.psi_region.proofs.FollowedLemmas.{follow_areas-append}
 use Rattle.psi_region.proofs.RegionLemmas.{start-area, step-area, image-length, rested}
 use Rattle.psi_horizon.specs.Runs.{follow, region_at}
 use Rattle.psi_horizon.specs.Planned.{network_of}
+use Rattle.psi_horizon.specs.Inner.PlanKept.{IsRun}
 use Rattle.psi_rate.specs.Numbers.{numbers_below}
-use Rattle.psi_rate.proofs.NumbersLemmas.{numbers-all}
+use Rattle.psi_rate.specs.Keeping.{KeepsNumbers}
+use Rattle.psi_rate.specs.declared.numbers.EventNumbers.{EventNumbers}
+use Rattle.psi_rate.proofs.NumbersLemmas.{numbers-all, keeps-fewer}
 
 -- an unsplit region is its own hull
 abbrev IsOwnHull : Area → Type 0
@@ -88,27 +91,26 @@ numbers-follow split caps functions rates words (suc t) a same closed is own =
           ∙ ap (λ (b : Bool). (follow_areas split functions (before ++ (if b then number ∷ [] else [])) a).states) (sym (le-ltb number (length rates) past)))
     ]
 
+-- numbers that are kept are so by the same rates and words, and those of fewer places
+pub keeps-as : {rates own : List ℕ} {words drawn : ℕ → ℕ} {most few : ℕ} {numbers : EventNumbers} → KeepsNumbers own words most numbers → few ≤ most → rates ≡ own → drawn ≡ words
+    → KeepsNumbers rates drawn few numbers
+keeps-as {rates} {own} {words} {drawn} {most} {few} {numbers} keeps less same_rates same_words =
+    subst (λ (rs : List ℕ). KeepsNumbers rs drawn few numbers) (sym same_rates)
+    (subst (λ (ws : ℕ → ℕ). KeepsNumbers own ws few numbers) (sym same_words) (keeps-fewer own words most few numbers keeps less))
+
 -- the numbers of the run of a horizon of a network
-module _ {E : Type 0} {rates : List ℕ} {drawn : ℕ → ℕ} (capacities : E → List ℕ) (function : E → Function) (system : SystemParts E) (words : ℕ → ℕ) (t : ℕ) (numbers : List ℕ)
-    (network : Followed) (fit : IsSystem capacities system) (stands : network ≡ network_of function system) (are : numbers ≡ numbers_below rates drawn t) (same_rates : rates ≡ system.rates)
-    (same_words : drawn ≡ words) where
-  numbers-are : numbers ≡ numbers_below system.rates words t
-  numbers-are = are ∙ ap₂ (λ (rs : List ℕ) (ws : ℕ → ℕ). numbers_below rs ws t) same_rates same_words
-
-  -- each is an event's
-  pub run-events : AreEvents (length network.functions) numbers
-  run-events =
-      let same : length system.rates ≡ length network.functions =
-      fit.same_count ∙ sym (length-map system.events function) ∙ sym (ap (λ (n : Followed). length n.functions) stands) in
-      subst (λ (ns : List ℕ). AreEvents (length network.functions) ns) (sym numbers-are)
-      (subst (λ n. AreEvents n (numbers_below system.rates words t)) same (record { each = λ i small. numbers-all system.rates words t i 0 small }))
-
-  -- and the run over them ends with the states of that over all places
-  pub run-states : ((event : E) → IsClosed (capacities event) (function event))
-      → states_of network numbers ≡ (region_at system.split (system_functions function system words) system.caps t).states
-  run-states closed =
-      let functions = map function system.events in
-      ap (λ (n : Followed). states_of n numbers) stands
-      ∙ ap (λ (ns : List ℕ). (follow_areas system.split functions ns (start system.caps)).states) numbers-are
-      ∙ sym (numbers-follow system.split system.caps functions system.rates words t (start system.caps) (fit.same_count ∙ sym (length-map system.events function))
-      (functions-closed capacities function system words closed fit.same_caps) (start-area system.caps) (start-own system.caps))
+pub is-run : {E : Type 0} {rates : List ℕ} (capacities : E → List ℕ) (function : E → Function) (system : SystemParts E) (words : ℕ → ℕ) (t : ℕ) (numbers : List ℕ) (network : Followed)
+    → ((event : E) → IsClosed (capacities event) (function event)) → IsSystem capacities system → network ≡ network_of function system → numbers ≡ numbers_below rates words t
+    → rates ≡ system.rates → IsRun function system words t network numbers
+is-run capacities function system words t numbers network closed fit stands are same_rates =
+    let numbers_are : numbers ≡ numbers_below system.rates words t = are ∙ ap (λ (rs : List ℕ). numbers_below rs words t) same_rates in
+    let functions = map function system.events in
+    let count : length system.rates ≡ length functions = fit.same_count ∙ sym (length-map system.events function) in
+    record {
+      events = subst (λ (ns : List ℕ). AreEvents (length network.functions) ns) (sym numbers_are) (subst (λ n. AreEvents n (numbers_below system.rates words t))
+          (count ∙ sym (ap (λ (n : Followed). length n.functions) stands)) (record { each = λ i small. numbers-all system.rates words t i 0 small }));
+      states = ap (λ (n : Followed). states_of n numbers) stands
+          ∙ ap (λ (ns : List ℕ). (follow_areas system.split functions ns (start system.caps)).states) numbers_are
+          ∙ sym (numbers-follow system.split system.caps functions system.rates words t (start system.caps) count
+          (functions-closed capacities function system words closed fit.same_caps) (start-area system.caps) (start-own system.caps));
+    }

@@ -20,7 +20,7 @@ ghost use Rattle.psi_horizon.specs.contracts.plan.Plan.{the_row};
 ghost use mir.Syntax.{named};
 
 use crate::OutOfMemory;
-use crate::runs::{ending, ends};
+use crate::runs::{keep, run_of};
 use crate::trace::{Progress, Trace};
 use psi_event::EventLaw;
 use psi_past::{Past, Windowed};
@@ -190,13 +190,9 @@ impl<'n, E: EventLaw, P: Past + Drop, F: Follower + Drop> Plan<'n, E, P, F> {
         ensures run { self.new.run ≡ None }
     {
         self.trace.run = None;
-        ending(
-            &self.system,
-            &mut self.past,
-            &mut self.numbers,
-            &mut self.follower,
-            horizon,
-        )
+        keep(&self.system, &mut self.past, &mut self.numbers, horizon);
+        let run = run_of(&self.system, &mut self.past, &self.numbers, horizon);
+        self.follower.ending(run)
     }
 
     /// Returns the least and the greatest state with which the region run of this horizon, 1 to 2 to the power `limit`
@@ -216,13 +212,9 @@ impl<'n, E: EventLaw, P: Past + Drop, F: Follower + Drop> Plan<'n, E, P, F> {
         ensures run { self.new.run ≡ None }
     {
         self.trace.run = None;
-        ends(
-            &self.system,
-            &mut self.past,
-            &mut self.numbers,
-            &mut self.follower,
-            horizon,
-        )
+        keep(&self.system, &mut self.past, &mut self.numbers, horizon);
+        let run = run_of(&self.system, &mut self.past, &self.numbers, horizon);
+        self.follower.ends(run)
     }
 
     /// Returns the exponent of the greatest horizon, 0 to 22.

@@ -1,15 +1,16 @@
 -- What every plan keeps: what it draws samples with, and its trace.
-use Rattle.std.specs.Prelude.{◌≡◌, ℕ, ◌≤◌, ◌^◌, List, Option, IfSome, option_map}
+use Rattle.std.specs.Prelude.{◌≡◌, ℕ, ◌≤◌, ◌^◌, List, length, Option, IfSome, option_map}
 use Rattle.psi_event.specs.Law.{Function}
+use Rattle.psi_event.specs.Numbers.{AreEvents}
 use Rattle.psi_rate.specs.Composition.{Functions, SystemParts, system_functions}
 use Rattle.psi_rate.specs.System.{IsSystem}
 use Rattle.psi_rate.specs.declared.numbers.EventNumbers.{EventNumbers}
 use Rattle.psi_rate.specs.Keeping.{KeepsNumbers}
 use Rattle.psi_region.specs.Region.{Regional}
-use Rattle.psi_region.specs.Followed.{Followed}
+use Rattle.psi_region.specs.Followed.{Followed, states_of}
 use Rattle.psi_horizon.specs.declared.trace.Progress.{Progress}
 use Rattle.psi_horizon.specs.declared.trace.Trace.{Trace}
-use Rattle.psi_horizon.specs.Runs.{region_after}
+use Rattle.psi_horizon.specs.Runs.{region_at, region_after}
 use Rattle.psi_horizon.specs.Planned.{Running, network_of}
 
 -- the run that was begun, as its plan is seen
@@ -35,3 +36,8 @@ pub record IsPlan {E P : Type 0} (capacities : E → List ℕ) (function : E →
   pub kept : KeepsNumbers system.rates (words past) (2 ^ system.limit) numbers
   pub follower : network ≡ network_of function system
   pub traced : IsTrace (system_functions function system (words past)) system trace
+
+-- the numbers are those of a network's events, and the region of all states ends after these with the states of the run of a horizon
+pub record IsRun {E : Type 0} (function : E → Function) (system : SystemParts E) (words : ℕ → ℕ) (horizon : ℕ) (network : Followed) (numbers : List ℕ) : Type 0 where
+  pub events : AreEvents (length network.functions) numbers
+  pub states : states_of network numbers ≡ (region_at system.split (system_functions function system words) system.caps horizon).states

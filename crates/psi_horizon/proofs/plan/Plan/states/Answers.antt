@@ -13,8 +13,7 @@ states-requires g c =
     let held = c.self.inside in
     let plan = c.args.self.now in
     let f = system_functions g.E.EventLaw.function plan.system (g.P.Past.words plan.past) in
-    let seen = plan-seen g.E.EventLaw.capacities g.E.EventLaw.function g.P.Past.words held.system held.past held.numbers (g.F.Follower.stands_for held.follower) held.trace plan
-    g.met.E.EventLaw.closed c.self.invariant c.self.view_is in
+    let seen = plan-seen c.self.invariant g.met.E.EventLaw.closed c.self.view_is in
     if_some-both (λ r. held.trace.region.area ≡ region_after plan.system.split f plan.system.caps r.horizon r.done)
     (λ r. (region_after plan.system.split f plan.system.caps r.horizon r.done).is_split ≡ true) (held.trace.region.area.is_split ≡ true) plan.run
     (λ r is split. ap (λ (a : Area). a.is_split) is ∙ split) c.requires.begun seen.at c.requires.split
@@ -24,8 +23,7 @@ returns g c =
     let held = c.self.inside in
     let plan = c.args.self.now in
     let f = system_functions g.E.EventLaw.function plan.system (g.P.Past.words plan.past) in
-    let seen = plan-seen g.E.EventLaw.capacities g.E.EventLaw.function g.P.Past.words held.system held.past held.numbers (g.F.Follower.stands_for held.follower) held.trace plan
-    g.met.E.EventLaw.closed c.self.invariant c.self.view_is in
+    let seen = plan-seen c.self.invariant g.met.E.EventLaw.closed c.self.view_is in
     let room : held.trace.region.split ≡ plan.system.split = c.self.invariant.traced.split ∙ ap (λ (p : Planned g.row.E.Denot g.row.P.Denot). p.system.split) c.self.view_is in (
       (refl, λ w. tt, c.self.view_is),
       record {
