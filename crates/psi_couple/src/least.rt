@@ -42,14 +42,13 @@ pub fn least_horizon<E: EventLaw, P: Past + Drop, F: Follower + Drop>(
     ensures words { P.words plan.new.past ≡ P.words plan.old.past }
     ensures over { IsOver plan.new.run }
 {
-    // Called for its clause: the system's parts fit each other.
-    let _limit = plan.limit();
+    let limit = plan.limit();
     match plan.sample() {
         Outcome::Met { horizon, state } => Coupled::At {
             horizon: least_up_to(plan, horizon, state),
             state,
         },
-        Outcome::NotMet { limit } => Coupled::NotAt { limit },
+        Outcome::NotMet { .. } => Coupled::NotAt { limit },
     }
 }
 

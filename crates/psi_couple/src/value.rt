@@ -83,9 +83,13 @@ fn value_after<E: EventLaw, P: Past + Drop, F: Follower + Drop>(
     ensures words { P.words plan.new.past ≡ P.words plan.old.past }
     ensures over { IsOver plan.new.run }
 {
-    match value_by_ends(plan, reward, horizon, by_ends) {
-        Some(found) => found,
-        None => value_by_region(plan, reward, horizon),
+    if let Some(found) = value_by_ends(plan, reward, horizon, by_ends) {
+        return found;
+    }
+    run_whole(plan, horizon);
+    match plan.bounds() {
+        Some(bounds) => value_on_box(reward, &bounds),
+        None => value_on_set(reward, plan.states()),
     }
 }
 
@@ -131,28 +135,6 @@ fn value_between(reward: &Reward, ends: Option<Bounds>) -> Option<Option<i64>>
         return Some(None);
     }
     None
-}
-
-// As `value_after`, by the region of the run.
-fn value_by_region<E: EventLaw, P: Past + Drop, F: Follower + Drop>(
-    plan: &mut Plan<'_, E, P, F>,
-    reward: &Reward,
-    horizon: u32,
-) -> Option<i64>
-    requires caps { reward_caps reward.now ≡ plan.old.system.caps }
-    requires some { 1 ≤ horizon }
-    requires most { horizon ≤ 2 ^ plan.old.system.limit }
-    ensures value { let f = system_functions E.function plan.old.system (P.words plan.old.past) in
-        result ≡ value_at (worth_of (reward_kind reward.now)) plan.old.system.split f plan.old.system.caps horizon }
-    ensures system { plan.new.system ≡ plan.old.system }
-    ensures words { P.words plan.new.past ≡ P.words plan.old.past }
-    ensures over { IsOver plan.new.run }
-{
-    run_whole(plan, horizon);
-    match plan.bounds() {
-        Some(bounds) => value_on_box(reward, &bounds),
-        None => value_on_set(reward, plan.states()),
-    }
 }
 
 // The value that all states of a box have, if they have one.

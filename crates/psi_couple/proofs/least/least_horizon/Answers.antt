@@ -69,5 +69,5 @@ returns-in-NotMet-clause-answer g c =
     let system = c.args.plan.now.system in
     let f = system_functions g.E.EventLaw.function system (g.P.Past.words c.args.plan.now.past) in
     let sample = c.in-NotMet.ensures.sample in
-    coupled_within-only (ending_at system.split f system.caps) system.limit (NotAt c.in-NotMet.limit)
-    (sample.least.0, none_below-not_met system.split system.caps f system.limit c.in-NotMet.limit sample.later)
+    coupled_within-only (ending_at system.split f system.caps) system.limit (NotAt c.limit-limit.result)
+    (c.limit-limit.ensures.value, none_below-not_met system.split system.caps f system.limit c.limit-limit.result sample.later)
