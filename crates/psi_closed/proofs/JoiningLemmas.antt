@@ -1,5 +1,5 @@
 -- The arcs after a move are those of what the move makes of the held states.
-use Rattle.std.specs.Prelude.{ℕ, ◌<◌, ◌≤◌, List, length, take, slice_index, refl}
+use Rattle.std.specs.Prelude.{◌≡◌, ℕ, ◌<◌, ◌≤◌, List, length, take, slice_index, refl}
 use Rattle.std.proofs.Common.{inl, inr, sym, subst, arith}
 use Rattle.std.proofs.lemmas.Bool.{cases_lt}
 use Rattle.std.proofs.lemmas.Grind.{common_steps}
@@ -48,33 +48,26 @@ module _ (caps : List ℕ) (m : Move) (is : IsMove caps m) (A : ℕ → ℕ → 
         }),
       )
 
-  short-moved : Useful (Only A (IsShort m.from m.k)) (length caps) t l s v → (x : List ℕ) × Held A (length caps) t x × IsArc (moved caps m x) l s v
-  short-moved useful =
+  -- a state that a rule at a queue allows, where the move changes none that it allows
+  stayed-moved : (rule : ℕ → ℕ → Type 0) (q : ℕ) → q < length caps → ((x : List ℕ) → rule q (slice_index x q) → moved caps m x ≡ x)
+      → Useful (Only A rule) (length caps) t l s v → (x : List ℕ) × Held A (length caps) t x × IsArc (moved caps m x) l s v
+  stayed-moved rule q small same useful =
       let n = length caps in
-      let rule = IsShort m.from m.k in
       let found = useful-held (Only A rule) n t l s v useful in
       let x = found.0 in
       let long = found.1.0 in
-      let source = is.source in
-      let short = held-rule A rule n t x m.from found.1 (omega arith) refl in
-      (x, held-plain A rule n t x found.1, rw (moved-short caps m x short) found.2)
-
-  full-moved : Useful (Only A (IsFull m.to (slice_index caps m.to))) (length caps) t l s v
-      → (x : List ℕ) × Held A (length caps) t x × IsArc (moved caps m x) l s v
-  full-moved useful =
-      let n = length caps in
-      let rule = IsFull m.to (slice_index caps m.to) in
-      let found = useful-held (Only A rule) n t l s v useful in
-      let x = found.0 in
-      let long = found.1.0 in
-      let target = is.target in
-      let full = held-rule A rule n t x m.to found.1 (omega arith) refl in
-      (x, held-plain A rule n t x found.1, rw (moved-full caps m x full) found.2)
+      (x, held-plain A rule n t x found.1, rw (same x (held-rule A rule n t x q found.1 (omega arith))) found.2)
 
   -- an arc after the move is one of what the move makes of a held state
   pub joined-moved : Joined A (length caps) t m.from m.k m.to (slice_index caps m.to) l s v
       → (x : List ℕ) × Held A (length caps) t x × IsArc (moved caps m x) l s v
-  joined-moved joined = elim joined [ inl has ↦ shifted-moved has | inr stay ↦ elim stay [ inl useful ↦ short-moved useful | inr useful ↦ full-moved useful ] ]
+  joined-moved joined = elim joined [
+    | inl has ↦ shifted-moved has
+    | inr stay ↦ elim stay [
+      | inl useful ↦ stayed-moved (IsShort m.from m.k) m.from is.source (λ x short. moved-short caps m x (short refl)) useful
+      | inr useful ↦ stayed-moved (IsFull m.to (slice_index caps m.to)) m.to is.target (λ x full. moved-full caps m x (full refl)) useful
+    ]
+  ]
 
   changed-joined : (x : List ℕ) → Held A (length caps) t x → m.k ≤ slice_index x m.from → slice_index x m.to < slice_index caps m.to
       → IsArc (changed m x) l s v → HasShifted A (length caps) t m.from m.k m.to (slice_index caps m.to) l s v

@@ -42,8 +42,6 @@ fn put_state(arcs: &mut Arcs, state: &State)
     ensures total { arcs.new.total ≡ arcs.old.total }
     ensures arcs { (l s v : ℕ) → Listed arcs.new.arcs l s v ↔ (Listed arcs.old.arcs l s v ⊎ IsArc state.now l s v) }
 {
-    // Called for its clause: sums are small.
-    let _total = arcs.total();
     let mut before = 0;
     for level in 0..state.len() {
         let value = state.get(level);
@@ -115,8 +113,6 @@ fn only_value(arcs: &Arcs, level: u8, before: u16) -> Option<u16>
     ensures sum { MatchOption result (Unit {0}) (λ v. before + v ≤ arcs.now.total) }
     ensures small { arcs.now.total ≤ 256 }
 {
-    // Called for its clause: each arc is in range.
-    let _total = arcs.total();
     let (value, other) = arcs.first(level, before)?;
     if other { None } else { Some(value) }
 }
