@@ -1,6 +1,6 @@
 -- States that an event moves alike, as its envelopes tell.
 use Rattle.std.specs.Prelude.{◌≡◌, ℕ, zero, suc, ◌+◌, ◌<◌, ◌≤◌, ◌⊎◌, List, [], ◌∷◌, length, slice_index, slice_set, refl}
-use Rattle.std.proofs.Common.{ap, sym, ◌∙◌, subst, arith, length-set, get_or-set_same, get_or-set_other}
+use Rattle.std.proofs.Common.{inl, inr, ap, sym, ◌∙◌, subst, arith, length-set, get_or-set_same, get_or-set_other}
 use Rattle.std.proofs.lemmas.List.{set_past, length-replicate}
 use Rattle.std.proofs.lemmas.Grind.{common_steps}
 use Rattle.psi_state.specs.State.{Corners, IsBelow, zeros, box}
@@ -126,9 +126,17 @@ one-move caps f span y top b new is closed below up is_box tight one = record {
 }
 
 -- a place of a list that was written at p
-pub set-next : (xs : List ℕ) (p v q : ℕ) → p < length xs → q < p + 1
+set-next : (xs : List ℕ) (p v q : ℕ) → p < length xs → q < p + 1
     → ((q < p) × (slice_index (slice_set xs p v) q ≡ slice_index xs q)) ⊎ ((q ≡ p) × (slice_index (slice_set xs p v) q ≡ v))
 set-next xs p v q small most = grind (arith, common_steps, get_or-set_other, get_or-set_same)
+
+-- so what is so of the numbers up to a place is so of one more
+pub set-each : (P : ℕ → ℕ → Type 0) (xs : List ℕ) (p v : ℕ) → p < length xs → ((q : ℕ) → q < p → P q (slice_index xs q)) → P p v
+    → (q : ℕ) → q < p + 1 → P q (slice_index (slice_set xs p v) q)
+set-each P xs p v small each here q most = elim (set-next xs p v q small most) [
+  | inl less ↦ subst (λ n. P q n) (sym less.1) (each q less.0)
+  | inr last ↦ subst (λ n. P q n) (sym last.1) (subst (λ k. P k v) (sym last.0) here)
+]
 
 -- the image of a state's box has corners of as many numbers as the span
 pub one-length : (caps : List ℕ) (f : List ℕ → List ℕ) (span y top : List ℕ) (b new : Corners) → IsSpan caps f span → IsClosed caps f → IsBelow y span → IsTop caps span y top
@@ -143,12 +151,6 @@ one-length caps f span y top b new is closed below up is_box tight =
 pub record IsWith (caps : List ℕ) (q n : ℕ) (whole b : Corners) : Type 0 where
   pub count : length whole.lo ≡ length caps
   pub same : b ≡ with_number caps q n
-
-abbrev all_of : List ℕ → Corners
-all_of caps = record { lo = zeros caps; hi = caps }
-
-abbrev set_of : ℕ → ℕ → Corners → Corners
-set_of q n c = record { lo = slice_set c.lo q n; hi = slice_set c.hi q n }
 
 pub whole-with_number : (caps own : List ℕ) (q n : ℕ) (whole b : Corners) → own ≡ caps → whole ≡ record { lo = zeros own; hi = own }
     → b ≡ record { lo = slice_set whole.lo q n; hi = slice_set whole.hi q n } → IsWith caps q n whole b

@@ -11,7 +11,7 @@ use Rattle.psi_state.proofs.StatesLemmas.{zeros-caps}
 use Rattle.psi_state.specs.Sets.{image, single}
 use Rattle.psi_event.specs.Law.{IsClosed}
 use Rattle.psi_rate.specs.Rates.{event_of}
-use Rattle.psi_rate.specs.Composition.{picked, function_at, compose, Below, AreClosed, IsReached}
+use Rattle.psi_rate.specs.Composition.{SystemParts, picked, function_at, system_functions, compose, Below, AreClosed, IsReached}
 use Rattle.psi_rate.proofs.CompositionLemmas.{closed-keeping, compose-keeps}
 use Rattle.psi_rate.proofs.DoublingLemmas.{shift-power}
 use Rattle.psi_rate.proofs.PowersLemmas.{pow-double}
@@ -22,6 +22,7 @@ use Rattle.psi_rate.proofs.OutcomesLemmas.{meeting-reached}
 use Rattle.psi_exact.specs.declared.answers.Meeting.{Meeting}
 use Rattle.psi_exact.specs.declared.answers.Meeting.TheVariants.{Constant, NotConstant}
 use Rattle.psi_exact.specs.Mapping.{Mapped, map_of, sends}
+use Rattle.psi_exact.specs.Inner.RankTableKept.{IsFollowed}
 use Rattle.psi_exact.specs.Surveys.{meeting_of, meeting_within, IsMeeting, ReachesMeeting, MeetsBelow}
 use Rattle.psi_exact.proofs.RankTablesLemmas.{sends-map_of, map_of-agree, image-map_of}
 
@@ -50,7 +51,7 @@ pub before-none : (caps : List ℕ) (f h : List ℕ → List ℕ) (table : Mappe
 before-none caps f h table same is = is ∙ ap (λ (k : List ℕ → List ℕ). map_of caps (λ x. f (k x))) (sym same)
 
 -- the map of the last steps becomes that of one step more
-pub map-next : (caps : List ℕ) (functions : List (List ℕ → List ℕ)) (rates : List ℕ) (words : ℕ → ℕ) (place word : ℕ) (table : Mapped) → word ≡ words place
+map-next : (caps : List ℕ) (functions : List (List ℕ → List ℕ)) (rates : List ℕ) (words : ℕ → ℕ) (place word : ℕ) (table : Mapped) → word ≡ words place
     → table ≡ map_of caps (λ x. compose (function_at functions rates words) place (picked functions rates word x))
     → table ≡ map_of caps (compose (function_at functions rates words) (place + 1))
 map-next caps functions rates words place word table read is =
@@ -91,32 +92,51 @@ constant-stays caps f t later other s closed met first second =
     map_of-agree caps (compose f later) (compose f other) (λ x within. reached.each x later within first ∙ sym (reached.each x other within second))
 
 -- a meeting that was found stays the least one
-pub found-stays : (run : ℕ → Option (List ℕ)) (place : ℕ) (found : ℕ × List ℕ) → TellsLeast run place (Some found) → TellsLeast run (place + 1) (Some found)
+found-stays : (run : ℕ → Option (List ℕ)) (place : ℕ) (found : ℕ × List ℕ) → TellsLeast run place (Some found) → TellsLeast run (place + 1) (Some found)
 found-stays run place found is = grind (arith, common_steps)
 
-pub found-here : (run : ℕ → Option (List ℕ)) (place : ℕ) (s : List ℕ) → HasNoneBelow run (suc place) → Some s ≡ run (place + 1) → TellsLeast run (place + 1) (Some (place + 1, s))
-found-here run place s none is = grind (arith, common_steps)
-
-pub none-here : (run : ℕ → Option (List ℕ)) (place : ℕ) → HasNoneBelow run (suc place) → None ≡ run (place + 1) → TellsLeast run (place + 1) None
-none-here run place none is =
+-- and one that is found at the next step is the least one
+found-next : (run : ℕ → Option (List ℕ)) (place : ℕ) (o : Option (List ℕ)) → HasNoneBelow run (suc place) → o ≡ run (place + 1)
+    → TellsLeast run (place + 1) (option_map (λ (s : List ℕ). (place + 1, s)) o)
+found-next run place (Some s) none is = grind (arith, common_steps)
+found-next run place None none is =
     let next : suc place ≡ place + 1 = omega arith in
     subst (λ n. HasNoneBelow run (suc n)) next (has_none_below-next run (suc place) (ap run next ∙ sym is) none)
 
 -- so where one was found, the table and what is told of it stay
-pub some-stays : (run : ℕ → Option (List ℕ)) (place : ℕ) (o : Option (ℕ × List ℕ)) → true ≡ is_some o → TellsLeast run place o → TellsLeast run (place + 1) o
+some-stays : (run : ℕ → Option (List ℕ)) (place : ℕ) (o : Option (ℕ × List ℕ)) → true ≡ is_some o → TellsLeast run place o → TellsLeast run (place + 1) o
 some-stays run place None some is = absurd (false≢true (sym some))
 some-stays run place (Some found) some is = found-stays run place found is
 
-pub some-constant : (caps : List ℕ) (f : ℕ → List ℕ → List ℕ) (place : ℕ) (o : Option (ℕ × List ℕ)) → AreClosed caps f → true ≡ is_some o
+some-constant : (caps : List ℕ) (f : ℕ → List ℕ → List ℕ) (place : ℕ) (o : Option (ℕ × List ℕ)) → AreClosed caps f → true ≡ is_some o
     → TellsLeast (meeting_at f caps) place o → map_of caps (compose f place) ≡ map_of caps (compose f (place + 1))
 some-constant caps f place None closed some is = absurd (false≢true (sym some))
 some-constant caps f place (Some found) closed some is =
     constant-stays caps f found.0 place (place + 1) found.1 closed is.answer is.within (let within = is.within in omega arith)
 
 -- and where none was found, there is none up to here
-pub none-found : (run : ℕ → Option (List ℕ)) (place : ℕ) (o : Option (ℕ × List ℕ)) → false ≡ is_some o → TellsLeast run place o → HasNoneBelow run (suc place)
+none-found : (run : ℕ → Option (List ℕ)) (place : ℕ) (o : Option (ℕ × List ℕ)) → false ≡ is_some o → TellsLeast run place o → HasNoneBelow run (suc place)
 none-found run place None none is = is
 none-found run place (Some found) none is = absurd (false≢true none)
+
+-- so the table goes on to the next step
+pub followed-stays : {caps : List ℕ} {f : ℕ → List ℕ → List ℕ} {place : ℕ} {table : Mapped} {o : Option (ℕ × List ℕ)} → AreClosed caps f → true ≡ is_some o → IsFollowed f caps place table o
+    → IsFollowed f caps (place + 1) table o
+followed-stays {caps} {f} {place} {table} {o} closed some is =
+    record { map = is.map ∙ some-constant caps f place o closed some is.found; found = some-stays (meeting_at f caps) place o some is.found }
+
+pub followed-next : {E : Type 0} (function : E → List ℕ → List ℕ) (system : SystemParts E) (words later : ℕ → ℕ) (place word : ℕ) (old table : Mapped) (found : Option (ℕ × List ℕ))
+    (o : Option (List ℕ)) → later ≡ words → word ≡ words place → false ≡ is_some found → IsFollowed (system_functions function system words) system.caps place old found
+    → ((f : List ℕ → List ℕ) → old ≡ map_of system.caps f → table ≡ map_of system.caps (λ x. f (picked (map function system.events) system.rates word x)))
+    → o ≡ single (image (sends table) (all_states table.caps)) → IsFollowed (system_functions function system later) system.caps (place + 1) table (option_map (λ (s : List ℕ). (place + 1, s)) o)
+followed-next function system words later place word old table found o same read none is put told =
+    let caps = system.caps in
+    let f = system_functions function system words in
+    let made = map-next caps (map function system.events) system.rates words place word table read (put (compose f place) is.map) in
+    subst (λ (w : ℕ → ℕ). IsFollowed (system_functions function system w) caps (place + 1) table (option_map (λ (s : List ℕ). (place + 1, s)) o)) (sym same) (record {
+      map = made;
+      found = found-next (meeting_at f caps) place o (none-found (meeting_at f caps) place found none is.found) (constant-of caps (compose f (place + 1)) table o made told);
+    })
 
 -- what is told of the least answer is told of the meeting
 pub meeting_of-is : (run : ℕ → Option (List ℕ)) (h : ℕ) (found : Option (ℕ × List ℕ)) → TellsLeast run (2 ^ h) found → IsMeeting run h (meeting_of h found)

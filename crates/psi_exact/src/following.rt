@@ -3,11 +3,11 @@
 ghost use Rattle.std.specs.Prelude.{◌≡◌, ℕ, ◌+◌, ◌^◌, ◌<◌, ◌≤◌, List, length, map};
 ghost use Rattle.psi_state.specs.State.{all_states};
 ghost use Rattle.psi_rate.specs.Composition.{compose, picked, system_functions};
-ghost use Rattle.psi_rate.specs.Least.{TellsLeast};
 ghost use Rattle.psi_rate.specs.Outcomes.{meeting_at};
 ghost use Rattle.psi_rate.specs.System.{IsSystem};
 ghost use Rattle.psi_exact.specs.Mapping.{map_of};
-ghost use Rattle.psi_exact.specs.Inner.ImagesKept.{AreImages, AreLearned};
+ghost use Rattle.psi_exact.specs.Inner.ImagesKept.{AreImages, AreKnown};
+ghost use Rattle.psi_exact.specs.Inner.RankTableKept.{IsFollowed};
 ghost use Rattle.psi_exact.specs.Sizes.{image_sizes};
 ghost use Rattle.psi_exact.specs.Surveys.{meeting_of, meeting_within, IsMeeting, ReachesMeeting, MeetsBelow};
 
@@ -67,8 +67,7 @@ fn learn<E: EventLaw>(
     requires same_caps { table.old.caps ≡ system.now.caps }
     requires valid { AreImages (length (all_states system.now.caps)) images.old }
     ensures same { table.new ≡ table.old }
-    ensures valid { AreImages (length (all_states system.now.caps)) images.new }
-    ensures learned { AreLearned system.now.caps (map E.function system.now.events) images.new }
+    ensures known { AreKnown system.now.caps (map E.function system.now.events) images.new }
 {
     images.clear();
     for number in 0..system.wheel().events().min(most) {
@@ -89,8 +88,7 @@ fn follow_all<E: EventLaw, P: Past>(
     requires fit { IsSystem E.capacities system.now }
     requires same_caps { table.old.caps ≡ system.now.caps }
     requires most { h ≤ 12 }
-    requires valid { AreImages (length (all_states system.now.caps)) images.now }
-    requires learned { AreLearned system.now.caps (map E.function system.now.events) images.now }
+    requires known { AreKnown system.now.caps (map E.function system.now.events) images.now }
     ensures sizes { result.sizes ≡ image_sizes (system_functions E.function system.now (P.words past.old)) system.now.caps h }
     ensures least { let f = system_functions E.function system.now (P.words past.old) in
         IsMeeting (meeting_at f system.now.caps) h result.meeting }
@@ -134,12 +132,9 @@ fn follow<E: EventLaw, P: Past>(
 ) -> Option<(u32, State)>
     requires fit { IsSystem E.capacities system.now }
     requires order { from ≤ to }
-    requires valid { AreImages (length (all_states system.now.caps)) images.now }
-    requires learned { AreLearned system.now.caps (map E.function system.now.events) images.now }
-    requires map { table.old ≡ map_of system.now.caps (compose (system_functions E.function system.now (P.words past.old)) from) }
-    requires found { TellsLeast (meeting_at (system_functions E.function system.now (P.words past.old)) system.now.caps) from found }
-    ensures map { table.new ≡ map_of system.now.caps (compose (system_functions E.function system.now (P.words past.old)) to) }
-    ensures found { TellsLeast (meeting_at (system_functions E.function system.now (P.words past.old)) system.now.caps) to result }
+    requires known { AreKnown system.now.caps (map E.function system.now.events) images.now }
+    requires followed { IsFollowed (system_functions E.function system.now (P.words past.old)) system.now.caps from table.old found }
+    ensures followed { IsFollowed (system_functions E.function system.now (P.words past.new)) system.now.caps to table.new result }
     ensures words { P.words past.new ≡ P.words past.old }
 {
     let mut least = found;
@@ -160,12 +155,9 @@ fn step<E: EventLaw, P: Past>(
 ) -> Option<(u32, State)>
     requires fit { IsSystem E.capacities system.now }
     requires few { place < 4294967295 }
-    requires valid { AreImages (length (all_states system.now.caps)) images.now }
-    requires learned { AreLearned system.now.caps (map E.function system.now.events) images.now }
-    requires map { table.old ≡ map_of system.now.caps (compose (system_functions E.function system.now (P.words past.old)) place) }
-    requires found { TellsLeast (meeting_at (system_functions E.function system.now (P.words past.old)) system.now.caps) place found }
-    ensures map { table.new ≡ map_of system.now.caps (compose (system_functions E.function system.now (P.words past.old)) (place + 1)) }
-    ensures found { TellsLeast (meeting_at (system_functions E.function system.now (P.words past.old)) system.now.caps) (place + 1) result }
+    requires known { AreKnown system.now.caps (map E.function system.now.events) images.now }
+    requires followed { IsFollowed (system_functions E.function system.now (P.words past.old)) system.now.caps place table.old found }
+    ensures followed { IsFollowed (system_functions E.function system.now (P.words past.new)) system.now.caps (place + 1) table.new result }
     ensures words { P.words past.new ≡ P.words past.old }
 {
     if found.is_some() {
@@ -188,8 +180,7 @@ fn put_before<E: EventLaw>(
 )
     requires fit { IsSystem E.capacities system.now }
     requires same_caps { table.old.caps ≡ system.now.caps }
-    requires valid { AreImages (length (all_states system.now.caps)) images.now }
-    requires learned { AreLearned system.now.caps (map E.function system.now.events) images.now }
+    requires known { AreKnown system.now.caps (map E.function system.now.events) images.now }
     ensures { (f : List ℕ → List ℕ) → table.old ≡ map_of system.now.caps f
         → table.new ≡ map_of system.now.caps (λ x. f (picked (map E.function system.now.events) system.now.rates word x)) }
 {

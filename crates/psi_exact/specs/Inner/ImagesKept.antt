@@ -1,5 +1,6 @@
 -- What the first events of a network make of all states, kept as the ranks of the images, one event's after another's.
 use Rattle.std.specs.Prelude.{◌≡◌, ℕ, ◌+◌, ◌*◌, ◌<◌, ◌≤◌, ◌++◌, List, length, slice_range, slice_index_or}
+use Rattle.psi_state.specs.State.{all_states}
 use Rattle.psi_exact.specs.Ranks.{AreRanksOf}
 use Rattle.psi_exact.specs.declared.learned.LearnedImages.{LearnedImages}
 
@@ -17,6 +18,11 @@ pub record AreImages (count : ℕ) (m : LearnedImages) : Type 0 where
 -- those of the known events are the ranks of the images of the first of these functions
 pub record AreLearned (caps : List ℕ) (functions : List (List ℕ → List ℕ)) (m : LearnedImages) : Type 0 where
   pub each : (k : ℕ) → k < m.known → AreRanksOf caps (slice_index_or functions k (λ x. x)) (images_at m k)
+
+-- the images are the ranks of all states of these capacities under the first of these functions
+pub record AreKnown (caps : List ℕ) (functions : List (List ℕ → List ℕ)) (m : LearnedImages) : Type 0 where
+  pub valid : AreImages (length (all_states caps)) m
+  pub learned : AreLearned caps functions m
 
 -- the second has what the first has
 pub record IsSameImages (m n : LearnedImages) : Type 0 where

@@ -1,7 +1,7 @@
 -- Answers in the proof of `span_of`.
-use Rattle.std.proofs.Common.{ℕ, List, length, slice_index, inl, inr, ap, sym, ◌∙◌, subst, arith, length-set}
+use Rattle.std.proofs.Common.{ℕ, List, length, slice_index, ap, sym, ◌∙◌, subst, arith, length-set}
 use Rattle.psi_exact.specs.Alike.{IsSpanned}
-use Rattle.psi_exact.proofs.AlikeLemmas.{set-next}
+use Rattle.psi_exact.proofs.AlikeLemmas.{set-each}
 use Rattle.psi_exact.proofs.alike.span_of.Goals as goal
 
 pub loop-place-preserved : goal.loop-place-preserved
@@ -16,8 +16,5 @@ loop-place-preserved g c =
     record {
       same_length = ap (λ (xs : List ℕ). length xs) c.set.ensures ∙ (length-set {A = ℕ} old place c.spanned.result ∙ count);
       done = λ q small. subst (λ (xs : List ℕ). IsSpanned caps f q (slice_index xs q)) (sym c.set.ensures)
-          (elim (set-next old place c.spanned.result q (omega arith) small) [
-            | inl less ↦ subst (λ v. IsSpanned caps f q v) (sym less.1) (c.loop-place.invariant.done q less.0)
-            | inr here ↦ subst (λ v. IsSpanned caps f q v) (sym here.1) (subst (λ k. IsSpanned caps f k c.spanned.result) (sym here.0) c.spanned.ensures)
-          ]);
+          (set-each (λ k v. IsSpanned caps f k v) old place c.spanned.result (omega arith) c.loop-place.invariant.done c.spanned.ensures q small);
     }

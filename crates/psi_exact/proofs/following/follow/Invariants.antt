@@ -1,16 +1,13 @@
 -- Invariants of the loops of `follow`.
 use Rattle.std.proofs.Common.{◌≡◌, ◌≤◌}
-use Rattle.psi_rate.specs.Composition.{compose, system_functions}
-use Rattle.psi_rate.specs.Least.{TellsLeast}
-use Rattle.psi_rate.specs.Outcomes.{meeting_at}
-use Rattle.psi_exact.specs.Mapping.{map_of}
+use Rattle.psi_rate.specs.Composition.{system_functions}
+use Rattle.psi_exact.specs.Inner.RankTableKept.{IsFollowed}
 use Rattle.psi_exact.proofs.following.follow.Given as goal
 
 -- the table has the map of the last steps up to the place, and the least horizon up to there is known
 abbrev pub invariant-loop-place : goal.invariant-loop-place
 invariant-loop-place g l = record {
   within : l.place ≤ l.to;
-  map : l.table ≡ map_of l.system.caps (compose (system_functions g.E.EventLaw.function l.system (g.P.Past.words l.fn.past)) l.place);
-  found : TellsLeast (meeting_at (system_functions g.E.EventLaw.function l.system (g.P.Past.words l.fn.past)) l.system.caps) l.place l.least;
+  followed : IsFollowed (system_functions g.E.EventLaw.function l.system (g.P.Past.words l.past)) l.system.caps l.place l.table l.least;
   words : g.P.Past.words l.past ≡ g.P.Past.words l.fn.past;
 }

@@ -31,15 +31,16 @@ add_images-requires g c =
 pub returns-then-not-add_images-clause-same : goal.returns-then-not-add_images-clause-same
 returns-then-not-add_images-clause-same g c = c.add_images.ensures.same ∙ c.loop-number.invariant.same
 
-pub returns-then-not-add_images-clause-valid : goal.returns-then-not-add_images-clause-valid
-returns-then-not-add_images-clause-valid g c =
-    subst (λ (caps : List ℕ). AreImages (length (all_states caps)) c.add_images.new.images) (ap (λ (t : Mapped). t.caps) c.loop-number.invariant.same ∙ c.requires.same_caps) c.add_images.ensures.valid
-
-pub returns-then-not-add_images-clause-learned : goal.returns-then-not-add_images-clause-learned
-returns-then-not-add_images-clause-learned g c =
+pub returns-then-not-add_images-clause-known : goal.returns-then-not-add_images-clause-known
+returns-then-not-add_images-clause-known g c =
     let system = c.args.system.now in
-    learned-same system.caps (map g.E.EventLaw.function system.events) c.loop-number.images c.add_images.new.images (length (all_states system.caps))
-    c.loop-number.invariant.valid (returns-then-not-add_images-clause-valid g c) (c.add_images.ensures.full c.if-not-add_images.true) c.loop-number.invariant.learned
+    let valid = subst (λ (caps : List ℕ). AreImages (length (all_states caps)) c.add_images.new.images)
+    (ap (λ (t : Mapped). t.caps) c.loop-number.invariant.same ∙ c.requires.same_caps) c.add_images.ensures.valid in
+    record {
+      valid = valid;
+      learned = learned-same system.caps (map g.E.EventLaw.function system.events) c.loop-number.images c.add_images.new.images (length (all_states system.caps))
+          c.loop-number.invariant.valid valid (c.add_images.ensures.full c.if-not-add_images.true) c.loop-number.invariant.learned;
+    }
 
 pub loop-number-preserved : goal.loop-number-preserved
 loop-number-preserved g c =
@@ -56,3 +57,6 @@ loop-number-preserved g c =
       known = (let known = c.loop-number.invariant.known in let next = more.known in omega arith);
       learned = learned-next system.caps g.E.EventLaw.function system.events c.event.result.now m n is c.loop-number.invariant.valid valid more c.loop-number.invariant.learned;
     }
+
+pub returns-clause-known : goal.returns-clause-known
+returns-clause-known g c = record { valid = c.loop-number.invariant.valid; learned = c.loop-number.invariant.learned }

@@ -13,7 +13,7 @@ use Rattle.psi_exact.proofs.SurveysLemmas.{picked-event, event-caps, before-even
 use Rattle.psi_exact.proofs.following.put_before.Goals as goal
 
 pub of-requires-clause-valid : goal.of-requires-clause-valid
-of-requires-clause-valid g c = (let valid = c.requires.valid in record { same = refl; few = valid.few; most = valid.most; whole = valid.whole })
+of-requires-clause-valid g c = (let valid = c.requires.known.valid in record { same = refl; few = valid.few; most = valid.most; whole = valid.whole })
 
 pub follow-requires : goal.follow-requires
 follow-requires g c =
@@ -21,7 +21,7 @@ follow-requires g c =
     let h = picked (map g.E.EventLaw.function system.events) system.rates c.args.word in
     let closed = functions-closed g.E.EventLaw.capacities g.E.EventLaw.function system (λ t. c.args.word) g.met.E.EventLaw.closed c.requires.fit.same_caps in
     let are = subst (λ k. AreRanksOf system.caps (slice_index_or (map g.E.EventLaw.function system.events) k (λ x. x)) (images_at c.args.images.now c.pick-number.result.0))
-    c.pick-number.ensures.number (c.requires.learned.each c.pick-number.result.0 c.if-number-images.true) in
+    c.pick-number.ensures.number (c.requires.known.learned.each c.pick-number.result.0 c.if-number-images.true) in
     subst (λ (caps : List ℕ). AreRanks caps c.of.result.now) (sym c.requires.same_caps)
     (subst (λ (xs : List ℕ). AreRanks system.caps xs) (sym c.of.ensures) (ranks-images system.caps h (images_at c.args.images.now c.pick-number.result.0) (closed.each 1) are))
 
@@ -31,7 +31,7 @@ returns-then-number-images g c = λ f is.
     let h = picked (map g.E.EventLaw.function system.events) system.rates c.args.word in
     let closed = functions-closed g.E.EventLaw.capacities g.E.EventLaw.function system (λ t. c.args.word) g.met.E.EventLaw.closed c.requires.fit.same_caps in
     let are = subst (λ k. AreRanksOf system.caps (slice_index_or (map g.E.EventLaw.function system.events) k (λ x. x)) (images_at c.args.images.now c.pick-number.result.0))
-    c.pick-number.ensures.number (c.requires.learned.each c.pick-number.result.0 c.if-number-images.true) in
+    c.pick-number.ensures.number (c.requires.known.learned.each c.pick-number.result.0 c.if-number-images.true) in
     before-event system.caps f h h c.args.table.now c.follow.new.self (closed.each 1) refl is
     (c.follow.ensures h (subst (λ (caps : List ℕ). IsClosed caps h) (sym c.requires.same_caps) (closed.each 1))
     (subst (λ (caps : List ℕ). AreRanksOf caps h c.of.result.now) (sym c.requires.same_caps) (subst (λ (xs : List ℕ). AreRanksOf system.caps h xs) (sym c.of.ensures) are))))

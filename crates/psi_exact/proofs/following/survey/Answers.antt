@@ -19,13 +19,12 @@ follow_all-requires g c = record {
   fit = c.caps-caps.ensures.fit;
   same_caps = ap (λ (t : Mapped). t.caps) c.learn.ensures.same ∙ (ap (λ (t : Mapped). t.caps) c.table.view_is ∙ c.requires.same_caps);
   most = c.requires.most;
-  valid = c.learn.ensures.valid;
-  learned = c.learn.ensures.learned;
+  known = c.learn.ensures.known;
 }
 
 pub invariant_of-table : goal.invariant_of-table
 invariant_of-table g c =
-    subst (λ (caps : List ℕ). AreImages (length (all_states caps)) c.learn.new.images) (sym (ap (λ (t : Mapped). t.caps) c.follow_all.ensures.map)) c.learn.ensures.valid
+    subst (λ (caps : List ℕ). AreImages (length (all_states caps)) c.learn.new.images) (sym (ap (λ (t : Mapped). t.caps) c.follow_all.ensures.map)) c.learn.ensures.known.valid
 
 pub returns-clause-sizes : goal.returns-clause-sizes
 returns-clause-sizes g c = c.follow_all.ensures.sizes
@@ -41,17 +40,13 @@ returns-clause-meeting g c =
 
 pub returns-clause-reached : goal.returns-clause-reached
 returns-clause-reached g c =
-    let system = c.args.system.now in
-    let words = g.P.Past.words c.args.past.now in
-    let closed = functions-closed g.E.EventLaw.capacities g.E.EventLaw.function system words g.met.E.EventLaw.closed c.caps-caps.ensures.fit.same_caps in
-    meeting-reaches system.caps (system_functions g.E.EventLaw.function system words) c.args.h c.follow_all.result.meeting closed c.follow_all.ensures.least
+    meeting-reaches _ _ c.args.h c.follow_all.result.meeting (functions-closed g.E.EventLaw.capacities g.E.EventLaw.function c.args.system.now (g.P.Past.words c.args.past.now)
+    g.met.E.EventLaw.closed c.caps-caps.ensures.fit.same_caps) c.follow_all.ensures.least
 
 pub returns-clause-within : goal.returns-clause-within
 returns-clause-within g c =
-    let system = c.args.system.now in
-    let words = g.P.Past.words c.args.past.now in
-    let closed = functions-closed g.E.EventLaw.capacities g.E.EventLaw.function system words g.met.E.EventLaw.closed c.caps-caps.ensures.fit.same_caps in
-    meeting-below system.caps (system_functions g.E.EventLaw.function system words) c.args.h c.follow_all.result.meeting closed c.follow_all.ensures.least
+    meeting-below _ _ c.args.h c.follow_all.result.meeting (functions-closed g.E.EventLaw.capacities g.E.EventLaw.function c.args.system.now (g.P.Past.words c.args.past.now)
+    g.met.E.EventLaw.closed c.caps-caps.ensures.fit.same_caps) c.follow_all.ensures.least
 
 pub returns-clause-map : goal.returns-clause-map
 returns-clause-map g c = c.follow_all.ensures.map
