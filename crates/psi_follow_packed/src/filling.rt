@@ -15,12 +15,13 @@ use psi_state::{Bounds, State};
 
 impl<const K: usize> MaskProgram<K> {
     /// Packs the states of the box, one after another in lexicographic order, and returns how many
-    /// there are. They are within the capacities.
+    /// there are, 1 or more. They are within the capacities.
     pub fn pack_box(&self, bounds: &Bounds, out: &mut [Packed<K>]) -> usize
         requires room { length (box bounds.now.lo bounds.now.hi) ≤ length out.old }
         requires within { IsBelow bounds.now.hi self.now.packing.caps }
         ensures words { map (λ (x : Packed K). x.words) (take result out.new) ≡ map (packed K self.now.packing) (box bounds.now.lo bounds.now.hi) }
         ensures count { result ≡ length (box bounds.now.lo bounds.now.hi) }
+        ensures some { 1 ≤ result }
         ensures room { length out.new ≡ length out.old }
     {
         out[0] = self.pack_one(&bounds.lo());

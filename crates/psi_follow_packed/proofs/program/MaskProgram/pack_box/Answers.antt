@@ -1,7 +1,7 @@
 use Rattle.std.proofs.Common.{◌≡◌, ◌-◌, ◌<◌, suc, length, ap, sym, subst, ◌∙◌, length-set, slice_set, arith, rules}
 use Rattle.psi_follow_packed.specs.Packed.{packed}
 use Rattle.psi_follow_packed.specs.Inner.FillingKept.{AreBehind}
-use Rattle.psi_follow_packed.proofs.FillingLemmas.{box-some, behind-none, spread-fits}
+use Rattle.psi_follow_packed.proofs.FillingLemmas.{box-some, behind-none, behind-some, spread-fits}
 use Rattle.psi_follow_packed.proofs.program.MaskProgram.pack_box.Goals as goal
 
 pub bounds-out-0 : goal.bounds-out-0
@@ -42,3 +42,8 @@ returns-clause-words g c =
     let b = c.args.bounds.now in
     let none : c.loop-queue.queue ≡ 0 = omega arith in
     (subst (λ n. AreBehind p b.lo b.hi n c.loop-queue.count c.loop-queue.out) none c.loop-queue.invariant.behind).words
+
+pub returns-clause-some : goal.returns-clause-some
+returns-clause-some g c =
+    let b = c.args.bounds.now in
+    behind-some c.args.self.now.packing b.lo b.hi c.loop-queue.queue c.loop-queue.count c.loop-queue.out c.lo.ensures.ordered c.loop-queue.invariant.behind
