@@ -219,7 +219,3 @@ pub some-left : {K : ℕ} (states : List (Packed K)) (n : ℕ) (list : List (Pac
 some-left states zero [] same some = absurd (omega arith)
 some-left states zero (p ∷ list) same some = absurd (same.back (low_words p) (inl refl))
 some-left states (suc n) list same some = omega arith
-
-pub some-members : {A : Type 0} (xs : List A) (x : A) → In x xs → 1 ≤ length xs
-some-members [] x member = absurd member
-some-members (y ∷ xs) x member = omega arith

@@ -64,8 +64,6 @@ impl<const K: usize> Lists<K> {
         ensures room { length self.new.states.items ≡ length self.old.states.items }
         ensures some { 1 ≤ self.new.used }
     {
-        // Called for its clause: a box has a state.
-        let _queues = bounds.len();
         let count = program.pack_box(bounds, self.states.as_mut_slice());
         self.used = pair_up(&self.states[..count], self.pairs.as_mut_slice());
     }

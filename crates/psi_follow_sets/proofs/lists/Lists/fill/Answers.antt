@@ -3,12 +3,12 @@ use Rattle.std.proofs.Common.{◌≡◌, List, ℕ, length, map, take, ap, sym, 
 use Rattle.std.proofs.lemmas.List.{with_items_is, length-take-le}
 use Rattle.psi_state.specs.State.{box}
 use Rattle.psi_state.specs.Ascending.{HaveSame}
-use Rattle.psi_state.proofs.BoxesLemmas.{In-low, In-of_box, below-through}
+use Rattle.psi_state.proofs.BoxesLemmas.{In-of_box, below-through}
 use Rattle.psi_follow_packed.specs.Packed.{packed}
 use Rattle.psi_follow_packed.specs.declared.layout.Packed.{Packed}
 use Rattle.psi_follow_packed.specs.declared.pairs.PackedPair.{PackedPair}
 use Rattle.psi_follow_sets.specs.Inner.HalvesKept.{halves, words_of_first}
-use Rattle.psi_follow_sets.proofs.HalvingLemmas.{same-again, some-members}
+use Rattle.psi_follow_sets.proofs.HalvingLemmas.{same-again}
 use Rattle.psi_follow_sets.proofs.lists.Lists.fill.Goals as goal
 
 pub pack_box-count-requires : goal.pack_box-count-requires
@@ -54,15 +54,13 @@ returns-clause-holds g c =
 pub returns-clause-some : goal.returns-clause-some
 returns-clause-some g c =
     let own = c.args.self.now in
-    let bounds = c.args.bounds.now in
     let out = c.pack_box-count.new.out in
     let n = c.pack_box-count.result in
-    let some = some-members (box bounds.lo bounds.hi) bounds.lo (In-low bounds.lo bounds.hi c.len-queues.ensures.ordered) in
     let states = c.deref.ensures.value ∙ with_items_is own.states out (c.pack_box-count.auto.out ∙ c.as_mut_slice.ensures.len) in
     let long = ap (λ (xs : List (Packed g.row.K)). length xs) states in
     let outs = ap (λ (xs : List (Packed g.row.K)). length xs) c.as_mut_slice.ensures.value in
     let front = length-take-le n c.deref.result.now (omega (arith, long, outs, c.pack_box-count.ensures.room, c.pack_box-count.ensures.count, c.requires.room)) in
-    omega (arith, some, front, c.pack_box-count.ensures.count, c.pair_up-self.ensures.count)
+    omega (arith, front, c.pack_box-count.ensures.some, c.pair_up-self.ensures.count)
 
 pub returns-clause-lists : goal.returns-clause-lists
 returns-clause-lists g c =
