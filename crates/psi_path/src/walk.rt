@@ -74,6 +74,7 @@ impl Walk {
             (path_of E.function path.old.system.now (P.words path.old.past) path.old.start) path.old.steps self.new }
         ensures counts { HasCounts (length path.old.system.now.caps) (length (R.worths path.old.rewards.now)) (length path.old.system.now.events) self.new }
         ensures words { P.words path.new.past ≡ P.words path.old.past }
+        ensures path { path.new ≡ record path.old { past = path.new.past } }
     {
         // Called for its clause: the parts fit each other.
         let _caps = path.system.caps();

@@ -37,5 +37,6 @@ pub trait PathWalker {
             (path_of E.function path.old.system.now (P.words path.old.past) path.old.start) path.old.steps walk.new }
         ensures counts { HasCounts (length path.old.system.now.caps) (length (R.worths path.old.rewards.now)) (length path.old.system.now.events) walk.new }
         ensures words { P.words path.new.past ≡ P.words path.old.past }
+        ensures path { path.new ≡ record path.old { past = path.new.past } }
         ensures same { self.new ≡ self.old };
 }

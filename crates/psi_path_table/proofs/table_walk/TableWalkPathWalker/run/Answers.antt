@@ -91,5 +91,6 @@ returns g c =
       };
       counts = c.walk.ensures.counts;
       words = c.walk.ensures.words;
+      path = search rules;
       same = search rules;
     }
