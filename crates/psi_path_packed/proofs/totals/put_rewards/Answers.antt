@@ -1,15 +1,14 @@
 -- The sum of one reward more is written.
-use Rattle.std.specs.Prelude.{◌≡◌, ◌<◌, ◌≤◌, ◌^◌, ◌-◌, ◌+◌, ℤ, List, pos, ◌+ℤ◌, ◌*ℤ◌, length, map, slice_index, slice_index_or}
-use Rattle.std.specs.Int.RustNames.{unsigned_abs}
-use Rattle.std.proofs.Common.{ap, ap₂, ◌∙◌, SFits, w64, rules, arith}
+use Rattle.std.specs.Prelude.{◌≡◌, ◌-◌, ℤ, List, pos, length, map, slice_index, slice_index_or}
+use Rattle.std.proofs.Common.{ap, ◌∙◌, SFits, w64, rules, arith}
 use Rattle.std.proofs.lemmas.Int.{to_z-of_z}
 use Rattle.std.proofs.lemmas.List.{length-set}
 use Rattle.psi_follow_packed.specs.Views.{low_word}
 use Rattle.psi_path.specs.Sums.{Sums, worth_at}
 use Rattle.psi_path.proofs.SetLemmas.{set_below}
-use Rattle.psi_path_packed.specs.Rises.{total_of, sum_below}
+use Rattle.psi_path_packed.specs.Rises.{total_of}
 use Rattle.psi_path_packed.specs.Walker.{rise_of}
-use Rattle.psi_path_packed.proofs.TotalLemmas.{added-plain}
+use Rattle.psi_path_packed.proofs.TotalLemmas.{total-plain}
 use Rattle.psi_path_packed.proofs.totals.put_rewards.Goals as goal
 
 pub loop-r-preserved : goal.loop-r-preserved
@@ -18,19 +17,9 @@ loop-r-preserved g c =
     let kept = c.loop-r.invariant in
     let r = c.loop-r.r in
     let worths = g.R.Rewards.worths c.args.rewards.now in
-    let count : c.count-count.result ≡ length worths = c.count-count.ensures in
-    let test : r < length worths = omega (arith, c.loop-r-test.true, count) in
-    let first = c.at_all_times-first.result in
-    let more = c.risen.result in
     let value_fits : SFits w64 c.value.result = search rules in
-    let first_is : first ≡ pos (c.args.steps + 1) *ℤ worth_at worths r c.args.start.now =
-    c.at_all_times-first.ensures.value ∙ ap (λ z. pos (c.args.steps + 1) *ℤ z) (to_z-of_z w64 c.value.result value_fits ∙ c.value.ensures) in
-    let more_is : more ≡ sum_below (λ e. pos (slice_index (map low_word c.args.changes.now) e) *ℤ rise_of c.args.rises.now (length worths) r e) (length c.args.changes.now - 1) =
-    c.risen.ensures.value ∙ ap (λ n. sum_below (λ e. pos (slice_index (map low_word c.args.changes.now) e) *ℤ rise_of c.args.rises.now n r e) (length c.args.changes.now - 1)) count in
-    let first_few : unsigned_abs first ≤ 2 ^ 96 = c.at_all_times-first.ensures.few in
-    let more_few : unsigned_abs more ≤ 2 ^ 120 = c.risen.ensures.few in
-    let plain = added-plain first more first_few more_few in
-    let own = plain ∙ ap₂ ◌+ℤ◌ first_is more_is in
+    let own = total-plain c.args.steps (length c.args.changes.now - 1) _ (length worths) r c.args.rises.now (slice_index (map low_word c.args.changes.now)) _ _ _ _
+    c.at_all_times-first.ensures.value (to_z-of_z w64 c.value.result value_fits ∙ c.value.ensures) c.at_all_times-first.ensures.few c.risen.ensures.value c.count-count.ensures c.risen.ensures.few in
     let rewards = ap (λ (w : Sums). w.rewards) put in
     record {
       count = ap (λ (zs : List ℤ). length zs) rewards ∙ length-set c.loop-r.walk.rewards r _ ∙ kept.count;
