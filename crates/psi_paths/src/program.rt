@@ -9,12 +9,13 @@ ghost use Rattle.psi_command.specs.Status.{status_code, IsReplied};
 ghost use Rattle.psi_command.specs.Paths.{Paths, paths_of};
 ghost use Rattle.psi_reply.specs.Reply.{Reply};
 ghost use Rattle.psi_streams.specs.Asked.{seen_result, IsInRange};
+ghost use Rattle.psi_streams.specs.Call.{IsRun, AreTaken};
+ghost use Rattle.psi_streams.specs.Means.{IsTableOf, Means};
+ghost use Rattle.psi_streams.specs.Reply.{reply_to};
+ghost use Rattle.psi_streams.specs.Run.{IsRunOf};
+ghost use Rattle.psi_streams.specs.Seen.{IsGiven};
 ghost use Rattle.psi_streams.specs.SeenBy.{sink_seen};
-ghost use Rattle.psi_paths.specs.Reply.{asked_of, reply_to};
-ghost use Rattle.psi_paths.specs.Means.{IsTableOf, Means};
-ghost use Rattle.psi_paths.specs.Seen.{IsGiven};
-ghost use Rattle.psi_paths.specs.Call.{IsRun, AreTaken};
-ghost use Rattle.psi_paths.specs.Run.{IsRunOf};
+ghost use Rattle.psi_paths.specs.Program.{asked_of, paths};
 
 use psi_command::{Status, paths_of};
 use psi_io::{Shelf, Sink};
@@ -76,7 +77,7 @@ pub(crate) fn run<F: Shelf, O: Sink, E: Sink>(
     err: &mut E,
 ) -> Status
     // What each status says of the words, the shelf and the sinks.
-    ensures call { IsRun (record {
+    ensures call { IsRun paths (record {
       words = map string_bytes words.now;
       shelf = record { told = F.told shelf.old; asked_before = F.asked shelf.old; asked_after = F.asked shelf.new; faults_before = F.faults shelf.old; faults_after = F.faults shelf.new };
       out = sink_seen O.held O.took O.faults out.old out.new;
@@ -91,24 +92,24 @@ pub(crate) fn run<F: Shelf, O: Sink, E: Sink>(
         → ¬ (Rose (F.faults shelf.old name) (F.faults shelf.new name))
         → ¬ (Rose (O.faults out.old) (O.faults out.new)) → ¬ (Rose (E.faults err.old) (E.faults err.new))
         → result ≢ Status.OutOfMemory
-        → IsTableOf (O.held out.old) (O.held out.new) result net seed first count steps }
+        → IsTableOf (Some steps) (O.held out.old) (O.held out.new) result net seed first count }
 
     // What crossed the edges is a run of the program: the same over the bytes that were read and accepted, whatever the
     // shelf and the sinks tell.
-    ensures edge { HasRun IsRunOf (map string_bytes words.now)
+    ensures edge { HasRun (IsRunOf paths) (map string_bytes words.now)
         (record { gave = F.gave shelf.old; out = O.took out.old; err = E.took err.old; tally = record { asked = F.asked shelf.old; files = F.faults shelf.old; out = O.faults out.old; err = E.faults err.old } })
         (record { gave = F.gave shelf.new; out = O.took out.new; err = E.took err.new; tally = record { asked = F.asked shelf.new; files = F.faults shelf.new; out = O.faults out.new; err = E.faults err.new } })
         (status_code result) }
 
     // What a status of a reply means for the table, closed or not, whatever counts rose.
-    ensures means { (paths : Paths) → paths_of (map string_bytes words.now) ≡ Ok paths → IsReplied result
-        → Means paths (F.told shelf.old) (O.held out.old) (O.held out.new) result }
+    ensures means { (own : Paths) → paths_of (map string_bytes words.now) ≡ Ok own → IsReplied result
+        → Means (record { table = own.table; steps = Some own.steps }) (F.told shelf.old) (O.held out.old) (O.held out.new) result }
 
     // Where the shelf gives the network file, and out and err take the reply's texts and the line on memory that ran out, no
     // count of faults rises in this call, and the status is the reply's or `OutOfMemory`.
-    ensures spared { (reply : Reply) → reply_to (paths_of (map string_bytes words.now)) (F.told shelf.old) ≡ Some reply
-        → IsGiven (F.gives shelf.old) (paths_of (map string_bytes words.now))
-        → AreTaken (O.takes out.old) (E.takes err.old) (paths_of (map string_bytes words.now)) reply
+    ensures spared { (reply : Reply) → reply_to paths.name (paths.asked (map string_bytes words.now)) (F.told shelf.old) ≡ Some reply
+        → IsGiven (F.gives shelf.old) (paths.asked (map string_bytes words.now))
+        → AreTaken paths.name (O.takes out.old) (E.takes err.old) (paths.asked (map string_bytes words.now)) reply
         → (F.faults shelf.new ≡ F.faults shelf.old) × (O.faults out.new ≡ O.faults out.old) × (E.faults err.new ≡ E.faults err.old)
         × ((result ≡ reply.status) ⊎ (result ≡ Status.OutOfMemory)) }
 {

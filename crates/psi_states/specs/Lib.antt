@@ -1,6 +1,2 @@
 -- The definitions of this crate.
-pub mod Reply
-pub mod Means
-pub mod Seen
-pub mod Call
-pub mod Run
+pub mod Program

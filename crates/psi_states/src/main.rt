@@ -6,7 +6,8 @@
 
 ghost use Rattle.std.specs.Process.{exit_status};
 ghost use Rattle.psi_program.specs.Run.{HasEnded};
-ghost use Rattle.psi_states.specs.Run.{IsRunOf};
+ghost use Rattle.psi_streams.specs.Run.{IsRunOf};
+ghost use Rattle.psi_states.specs.Program.{states};
 
 mod program;
 
@@ -20,7 +21,7 @@ use std::process::ExitCode;
 struct Stating;
 
 impl Program for Stating {
-    ghost is_run = { λ _. IsRunOf };
+    ghost is_run = { λ _. IsRunOf states };
 
     fn run<F: Shelf, O: Sink, E: Sink>(
         &self,
@@ -39,7 +40,7 @@ impl Program for Stating {
 /// It ends for want of words, or as a run of the program: by the bytes that the system answered to its reads, and those
 /// that it accepted on its outputs.
 fn run_states(rt: &HostRuntime) -> ExitCode
-    ensures process { HasEnded IsRunOf (exit_status result) }
+    ensures process { HasEnded (IsRunOf states) (exit_status result) }
 {
     run_program(&Stating, rt, rt.stdout(), rt.stderr())
 }

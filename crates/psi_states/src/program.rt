@@ -9,12 +9,13 @@ ghost use Rattle.psi_command.specs.Status.{status_code, IsReplied};
 ghost use Rattle.psi_command.specs.Tables.{Table, table_of};
 ghost use Rattle.psi_reply.specs.Reply.{Reply};
 ghost use Rattle.psi_streams.specs.Asked.{seen_result, IsInRange};
+ghost use Rattle.psi_streams.specs.Call.{IsRun, AreTaken};
+ghost use Rattle.psi_streams.specs.Means.{IsTableOf, Means};
+ghost use Rattle.psi_streams.specs.Reply.{reply_to};
+ghost use Rattle.psi_streams.specs.Run.{IsRunOf};
+ghost use Rattle.psi_streams.specs.Seen.{IsGiven};
 ghost use Rattle.psi_streams.specs.SeenBy.{sink_seen};
-ghost use Rattle.psi_states.specs.Reply.{asked_of, reply_to};
-ghost use Rattle.psi_states.specs.Means.{IsTableOf, Means};
-ghost use Rattle.psi_states.specs.Seen.{IsGiven};
-ghost use Rattle.psi_states.specs.Call.{IsRun, AreTaken};
-ghost use Rattle.psi_states.specs.Run.{IsRunOf};
+ghost use Rattle.psi_states.specs.Program.{asked_of, states};
 
 use psi_command::{Status, table_of};
 use psi_io::{Shelf, Sink};
@@ -68,7 +69,7 @@ pub(crate) fn run<F: Shelf, O: Sink, E: Sink>(
     err: &mut E,
 ) -> Status
     // What each status says of the words, the shelf and the sinks.
-    ensures call { IsRun (record {
+    ensures call { IsRun states (record {
       words = map string_bytes words.now;
       shelf = record { told = F.told shelf.old; asked_before = F.asked shelf.old; asked_after = F.asked shelf.new; faults_before = F.faults shelf.old; faults_after = F.faults shelf.new };
       out = sink_seen O.held O.took O.faults out.old out.new;
@@ -83,24 +84,24 @@ pub(crate) fn run<F: Shelf, O: Sink, E: Sink>(
         → ¬ (Rose (F.faults shelf.old name) (F.faults shelf.new name))
         → ¬ (Rose (O.faults out.old) (O.faults out.new)) → ¬ (Rose (E.faults err.old) (E.faults err.new))
         → result ≢ Status.OutOfMemory
-        → IsTableOf (O.held out.old) (O.held out.new) result net seed first count }
+        → IsTableOf None (O.held out.old) (O.held out.new) result net seed first count }
 
     // What crossed the edges is a run of the program: the same over the bytes that were read and accepted, whatever the
     // shelf and the sinks tell.
-    ensures edge { HasRun IsRunOf (map string_bytes words.now)
+    ensures edge { HasRun (IsRunOf states) (map string_bytes words.now)
         (record { gave = F.gave shelf.old; out = O.took out.old; err = E.took err.old; tally = record { asked = F.asked shelf.old; files = F.faults shelf.old; out = O.faults out.old; err = E.faults err.old } })
         (record { gave = F.gave shelf.new; out = O.took out.new; err = E.took err.new; tally = record { asked = F.asked shelf.new; files = F.faults shelf.new; out = O.faults out.new; err = E.faults err.new } })
         (status_code result) }
 
     // What a status of a reply means for the table, closed or not, whatever counts rose.
     ensures means { (table : Table) → table_of (map string_bytes words.now) ≡ Ok table → IsReplied result
-        → Means table (F.told shelf.old) (O.held out.old) (O.held out.new) result }
+        → Means (record { table = table; steps = None }) (F.told shelf.old) (O.held out.old) (O.held out.new) result }
 
     // Where the shelf gives the network file, and out and err take the reply's texts and the line on memory that ran out, no
     // count of faults rises in this call, and the status is the reply's or `OutOfMemory`.
-    ensures spared { (reply : Reply) → reply_to (table_of (map string_bytes words.now)) (F.told shelf.old) ≡ Some reply
-        → IsGiven (F.gives shelf.old) (table_of (map string_bytes words.now))
-        → AreTaken (O.takes out.old) (E.takes err.old) (table_of (map string_bytes words.now)) reply
+    ensures spared { (reply : Reply) → reply_to states.name (states.asked (map string_bytes words.now)) (F.told shelf.old) ≡ Some reply
+        → IsGiven (F.gives shelf.old) (states.asked (map string_bytes words.now))
+        → AreTaken states.name (O.takes out.old) (E.takes err.old) (states.asked (map string_bytes words.now)) reply
         → (F.faults shelf.new ≡ F.faults shelf.old) × (O.faults out.new ≡ O.faults out.old) × (E.faults err.new ≡ E.faults err.old)
         × ((result ≡ reply.status) ⊎ (result ≡ Status.OutOfMemory)) }
 {

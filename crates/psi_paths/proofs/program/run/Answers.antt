@@ -4,7 +4,7 @@ use Rattle.std.proofs.Common.{ap, sym}
 use Rattle.psi_program.proofs.FinishingLemmas.{finished_for}
 use Rattle.psi_streams.specs.Ended.{IsEndingOf}
 use Rattle.psi_streams.proofs.FinishingLemmas.{finished_run, finished_means, finished_headline, finished_spared, finished_edge}
-use Rattle.psi_paths.specs.Reply.{asked_of, paths}
+use Rattle.psi_paths.specs.Program.{asked_of, paths}
 use Rattle.psi_paths.proofs.program.run.Goals as goal
 
 pub returns : goal.returns
