@@ -1,7 +1,6 @@
 //! The line of a stream.
 
-ghost use Rattle.std.specs.Prelude.{◌≡◌, ◌+◌, ◌*◌, ◌^◌, ◌<◌, ◌≤◌, ◌∷◌, ◌++◌, slice_index, vec_len, vec_capacity, ℕ, All};
-ghost use Rattle.std.specs.Fmt.{signed_decimal};
+ghost use Rattle.std.specs.Prelude.{◌≡◌, ◌+◌, ◌*◌, ◌^◌, ◌<◌, ◌≤◌, ◌++◌, slice_index, vec_len, vec_capacity, ℕ, All};
 ghost use Rattle.std.specs.Int.RustNames.{unsigned_abs};
 ghost use Rattle.psi_state.specs.State.{IsBelow};
 ghost use Rattle.psi_state.specs.declared.Outcome.TheVariants.{Met, NotMet};
@@ -10,7 +9,7 @@ ghost use Rattle.psi_net_model.specs.Network.{caps_of};
 ghost use Rattle.psi_report.specs.Samples.{IsSampleOf};
 ghost use Rattle.psi_table.specs.Lines.{stream_line, customers_fields, rewards_fields};
 
-use crate::number::{put_counted, put_empty, put_integer, put_number};
+use crate::number::{put_counted, put_empty, put_number, put_value};
 use psi_net_model::Net;
 use psi_reward::RewardLaw;
 use psi_state::{Outcome, State};
@@ -27,17 +26,6 @@ fn put_queues(line: &mut Vec<u8>, state: &State)
     for queue in 0..queues {
         put_counted(line, state.get(queue) as u64);
     }
-}
-
-// Appends a comma and a value.
-fn put_value(line: &mut Vec<u8>, value: i64)
-    requires { vec_len line.old + 22 ≤ vec_capacity line.old }
-    ensures text { line.new.items ≡ line.old.items ++ 44 ∷ signed_decimal value }
-    ensures count { vec_len line.new ≤ vec_len line.old + 22 }
-    ensures room { vec_capacity line.old ≤ vec_capacity line.new }
-{
-    line.push_reserved(b',');
-    put_integer(line, value);
 }
 
 // Appends the value of each reward, a comma before each. Each is an integer of 64 bits.

@@ -92,8 +92,8 @@ pub(crate) fn put_number(line: &mut Vec<u8>, n: u64)
     put(line, digits.format(n).as_bytes());
 }
 
-/// Appends an integer.
-pub(crate) fn put_integer(line: &mut Vec<u8>, value: i64)
+// Appends an integer.
+fn put_integer(line: &mut Vec<u8>, value: i64)
     requires { vec_len line.old + 21 ≤ vec_capacity line.old }
     ensures text { line.new.items ≡ line.old.items ++ signed_decimal value }
     ensures count { vec_len line.new ≤ vec_len line.old + 21 }
@@ -107,17 +107,6 @@ pub(crate) fn put_integer(line: &mut Vec<u8>, value: i64)
     put_number(line, value.unsigned_abs());
 }
 
-/// Appends an integer of 128 bits.
-pub(crate) fn put_wide(line: &mut Vec<u8>, value: i128)
-    requires { vec_len line.old + 40 ≤ vec_capacity line.old }
-    ensures text { line.new.items ≡ line.old.items ++ signed_decimal value }
-    ensures count { vec_len line.new ≤ vec_len line.old + 40 }
-    ensures room { vec_capacity line.old ≤ vec_capacity line.new }
-{
-    let mut digits = Buffer::new();
-    put(line, digits.format(value).as_bytes());
-}
-
 /// Appends a comma and a number.
 pub(crate) fn put_counted(line: &mut Vec<u8>, n: u64)
     requires { vec_len line.old + 21 ≤ vec_capacity line.old }
@@ -128,6 +117,29 @@ pub(crate) fn put_counted(line: &mut Vec<u8>, n: u64)
 {
     line.push_reserved(b',');
     put_number(line, n);
+}
+
+/// Appends a comma and an integer.
+pub(crate) fn put_value(line: &mut Vec<u8>, value: i64)
+    requires { vec_len line.old + 22 ≤ vec_capacity line.old }
+    ensures text { line.new.items ≡ line.old.items ++ 44 ∷ signed_decimal value }
+    ensures count { vec_len line.new ≤ vec_len line.old + 22 }
+    ensures room { vec_capacity line.old ≤ vec_capacity line.new }
+{
+    line.push_reserved(b',');
+    put_integer(line, value);
+}
+
+/// Appends a comma and an integer of 128 bits.
+pub(crate) fn put_sum(line: &mut Vec<u8>, sum: i128)
+    requires { vec_len line.old + 41 ≤ vec_capacity line.old }
+    ensures text { line.new.items ≡ line.old.items ++ 44 ∷ signed_decimal sum }
+    ensures count { vec_len line.new ≤ vec_len line.old + 41 }
+    ensures room { vec_capacity line.old ≤ vec_capacity line.new }
+{
+    let mut digits = Buffer::new();
+    line.push_reserved(b',');
+    put(line, digits.format(sum).as_bytes());
 }
 
 /// Appends empty fields, a comma before each.

@@ -1,13 +1,12 @@
 //! The line of the path of a stream.
 
-ghost use Rattle.std.specs.Prelude.{◌≡◌, ℕ, ◌+◌, ◌*◌, ◌^◌, ◌<◌, ◌≤◌, ◌∷◌, ◌++◌, List, pos, length, slice_index, slice_index_or, vec_len, vec_capacity};
-ghost use Rattle.std.specs.Fmt.{signed_decimal};
+ghost use Rattle.std.specs.Prelude.{◌≡◌, ℕ, ◌+◌, ◌*◌, ◌^◌, ◌<◌, ◌≤◌, ◌++◌, List, pos, length, slice_index, slice_index_or, vec_len, vec_capacity};
 ghost use Rattle.std.specs.Int.RustNames.{unsigned_abs};
 ghost use Rattle.psi_state.specs.declared.Outcome.TheVariants.{Met, NotMet};
 ghost use Rattle.psi_table.specs.Paths.{stream_path, AreSumsFor, AreSumsOf, AreOfStream};
 ghost use Rattle.psi_table.specs.PathLines.{path_line, pieces, customers_piece, reward_piece, event_piece};
 
-use crate::number::{put_counted, put_empty, put_number, put_wide};
+use crate::number::{put_counted, put_empty, put_number, put_sum};
 use psi_net_model::Net;
 use psi_path::Walk;
 use psi_state::Outcome;
@@ -24,17 +23,6 @@ pub struct Walked<'w> {
     pub steps: u32,
     /// The walk that holds its sums and counts.
     pub walk: &'w Walk,
-}
-
-// Appends a comma and a sum of values.
-fn put_sum(line: &mut Vec<u8>, sum: i128)
-    requires { vec_len line.old + 41 ≤ vec_capacity line.old }
-    ensures text { line.new.items ≡ line.old.items ++ 44 ∷ signed_decimal sum }
-    ensures count { vec_len line.new ≤ vec_len line.old + 41 }
-    ensures room { vec_capacity line.old ≤ vec_capacity line.new }
-{
-    line.push_reserved(b',');
-    put_wide(line, sum);
 }
 
 // Appends the sum of the customers of each of the first `count` queues, a comma before each. Each is a number of 64 bits.
