@@ -6,4 +6,3 @@ pub mod EndingsLemmas
 pub mod RunningLemmas
 pub mod FinishingLemmas
 pub mod WalkingLemmas
-pub mod AdditiveLemmas

@@ -7,7 +7,6 @@
 mod drawing;
 mod naming;
 mod program;
-mod rewards;
 mod table;
 mod tabling;
 mod walking;

@@ -7,7 +7,6 @@ ghost use Rattle.psi_report.specs.Samples.{IsSampleOf};
 ghost use Rattle.psi_table.specs.Paths.{stream_path, AreSumsFor, AreSumsOf, AreOfStream};
 ghost use Rattle.psi_streams.specs.Ways.{Walks, IsWayOf};
 
-use crate::rewards::NetRewards;
 use psi_event::{EventLaw, PiecewiseLaw};
 use psi_net_model::Net;
 use psi_past::{Past, SeedPast};
@@ -16,7 +15,7 @@ use psi_path_packed::ByWords;
 use psi_path_table::TableWalk;
 use psi_rate::System;
 use psi_state::{Outcome, State};
-use psi_table::Walked;
+use psi_table::{NetRewards, Walked};
 use std::alloc::Global;
 
 /// How the paths of a network are walked.

@@ -6,3 +6,4 @@ pub mod TableLemmas
 pub mod PathLineLemmas
 pub mod PathHeaderLemmas
 pub mod PathTableLemmas
+pub mod AdditiveLemmas

@@ -7,10 +7,11 @@ use psi_path::Rewards;
 use psi_reward::RewardLaw;
 use psi_state::State;
 
-/// The rewards of a network.
+/// The rewards of a network, by their numbers in its list.
 #[derive(Drop)]
-pub(crate) struct NetRewards<'n> {
-    pub(crate) net: &'n Net,
+pub struct NetRewards<'n> {
+    /// The network.
+    pub net: &'n Net,
 }
 
 impl<'n> Rewards for NetRewards<'n> {
