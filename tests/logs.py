@@ -9,21 +9,15 @@ import types
 from collections.abc import Callable, Iterator
 
 from generate import small_networks
-from generate.small_networks import Dice
 from generate.toml_text import table
-from tests import log_changes
-from tests.log_text import Log, NoPlace, with_key
+from tests.log_changes import ChangedLog, NoPlace, with_key
 from tests.support import EXAMPLES, answer
 
-Change = Callable[[Log, Dice], str | None]
-CHANGES: list[Change] = [
-    each
-    for each in vars(log_changes).values()
-    if isinstance(each, types.FunctionType) and each.__module__ == log_changes.__name__
-]
+Change = Callable[[ChangedLog], str | None]
+CHANGES: list[Change] = [each for each in vars(ChangedLog).values() if isinstance(each, types.FunctionType)]
 TRIALS, ROUNDS = 6, 3
 # A box that is too narrow tells most: only there it shows whether an end of a hull is reached.
-OTHER_TRIALS: dict[Change, int] = {log_changes.moved_end: 120, log_changes.too_long: 2}
+OTHER_TRIALS: dict[Change, int] = {ChangedLog.moved_end: 120, ChangedLog.too_long: 2}
 STREAMS, SMALL_NETWORKS = 20, 40
 SHORTEST, LONGEST = 3, 130
 
@@ -42,31 +36,31 @@ def networks() -> Iterator[str]:
     """The files of the networks: the gallery's with sets, and with boxes, and generated ones."""
     for file in sorted(EXAMPLES.glob("*.toml")):
         yield from (with_key(file.read_text(), "split", split) for split in (1, 5, 256))
-    yield from (small_networks.network(number) for number in range(SMALL_NETWORKS))
+    yield from map(small_networks.network, range(SMALL_NETWORKS))
     yield from (with_key(wide_network(), "split", split) for split in (1, 4096))
 
 
-def written(program: str, number: int, net: str) -> Log | None:
+def written(program: str, number: int, net: str) -> ChangedLog | None:
     """A log that the program writes for a network, neither short nor long; or none."""
     with tempfile.TemporaryDirectory() as room:
         pathlib.Path(room, "net.toml").write_text(net)
         for stream in range(STREAMS):
-            words = [program, "sample", "net.toml", str(number), str(stream), "log"]
-            status, text, fault = answer(words, room)
+            status, text, fault = answer([program, "sample", "net.toml", number, stream, "log"], room)
             assert status in (0, 1), f"the program writes no log: {fault!r}"
             if status == 0 and SHORTEST <= text.count(b"\n") - 7 <= LONGEST:
-                return Log(net, text.decode())
+                return ChangedLog(net, text.decode())
     return None
 
 
-def changed_logs(logs: list[Log]) -> Iterator[tuple[str, str, str]]:
+def changed_logs(logs: list[ChangedLog]) -> Iterator[tuple[str, str, str]]:
     """The changed logs, each with the name of the change and its network."""
     for place, change in enumerate(CHANGES):
         found = 0
         for turn, log in enumerate((logs[7 * place :] + logs[: 7 * place]) * ROUNDS):
             changed = copy.deepcopy(log)
+            changed.dice = small_networks.Dice(1000 * place + turn)
             try:
-                text = change(changed, Dice(1000 * place + turn))
+                text = change(changed)
             except NoPlace:
                 continue
             found += 1
