@@ -3,20 +3,19 @@
 import os
 import shlex
 import shutil
-import subprocess
 from collections.abc import Generator, Iterator
 from typing import Any
 
 import pytest
 
 from tests import side_by_side
-from tests.support import TOP, Expectations, program_path
+from tests.support import BUILT, TOP, Expectations, printed_by
 
 
 @pytest.fixture(scope="session")
 def program() -> str:
     """The path of the built program."""
-    path = program_path()
+    path = os.path.abspath(os.environ.get("PSI", BUILT))
     assert os.access(path, os.X_OK), f"the tests want the built program, {path}"
     return path
 
@@ -26,8 +25,7 @@ def library(tmp_path_factory: pytest.TempPathFactory) -> str:
     """The library that refuses growths."""
     made = str(tmp_path_factory.mktemp("refuse") / "refuse.so")
     compiler = shlex.split(os.environ.get("CC", "cc"))
-    source = str(TOP / "tests/refuse/refuse.c")
-    subprocess.run([*compiler, "-shared", "-fPIC", "-O2", "-o", made, source], check=True)
+    printed_by(*compiler, "-shared", "-fPIC", "-O2", "-o", made, TOP / "tests/refuse/refuse.c")
     return made
 
 

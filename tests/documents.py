@@ -17,12 +17,11 @@ import os
 import pathlib
 import re
 import shutil
-import subprocess
 import time
 from collections.abc import Iterator
 
 from tests.gallery import BLOCK, UNMET, is_shown, runs_of_session
-from tests.support import TOP, beside
+from tests.support import TOP, Expectations, TextAnswer, answer, answer_as_text, beside, printed_by
 
 DOCUMENTS = ("README.md", "SECURITY.md", "docs/START.md", "docs/LIMITS.md", "docs/TOUR.md", "examples/README.md")
 COMMAND = re.compile(r"(?:\./psi|crates/psi/out/psi|tools/\S+|python3|for|rt) ")
@@ -52,8 +51,7 @@ def commands_of(text: str) -> Iterator[str]:
     for line in text.splitlines():
         lines.append(line)
         command = "\n".join(lines)
-        done = subprocess.run(["sh", "-n", "-c", command], capture_output=True)
-        if done.returncode == 0 and not line.endswith("\\"):
+        if answer(["sh", "-n", "-c", command], TOP)[0] == 0 and not line.endswith("\\"):
             yield command
             lines = []
     if lines:
@@ -66,7 +64,7 @@ class Clone:
     def __init__(self, program: str | None, room: pathlib.Path) -> None:
         self.top = room / "psi"
         # Its path isn't one of this program's, so a tool can't use what stands beside.
-        subprocess.run(["git", "clone", "-q", str(TOP), str(self.top)], check=True)
+        printed_by("git", "clone", "-q", TOP, self.top)
         self.answers: dict[str, list[Ran]] = {}
         if program:
             others = ((name, beside(program, name)) for name in ("psi_states", "psi_paths"))
@@ -77,25 +75,15 @@ class Clone:
                     shutil.copy(path, built)
                     os.utime(built, (time.time() + 1, time.time() + 1))
 
-    def execute(self, command: str) -> tuple[int, str, str]:
+    def execute(self, command: str) -> TextAnswer:
         """The status of a command, and both its texts."""
-        done = subprocess.run(
-            ["sh", "-c", command], cwd=self.top, stdin=subprocess.DEVNULL, capture_output=True, timeout=SECONDS
-        )
-        texts = (done.stdout.decode("utf-8", "replace"), done.stderr.decode("utf-8", "replace"))
-        return done.returncode, *texts
+        return answer_as_text(["sh", "-c", command], self.top, SECONDS)
 
     def answer(self, block: str) -> list[Ran]:
         """What a block's commands came to; each block runs once."""
         if block not in self.answers:
             self.answers[block] = [(one, *self.execute(one)) for one in commands_of(block)]
         return self.answers[block]
-
-    def number(self, command: str) -> tuple[int, str, str]:
-        """What the command of a number came to; it runs once."""
-        if command not in self.answers:
-            self.answers[command] = [(command, *self.execute(command))]
-        return self.answers[command][0][1:]
 
     def find(self, name: str) -> pathlib.Path:
         """The path of a file by the name that a document gives it."""
@@ -115,11 +103,10 @@ class Clone:
 
 
 class Document:
-    """A document: its blocks with the prose before each, and its prose with single spaces."""
+    """A document: its blocks with the prose before each, and its prose with single spaces; and what is held of it."""
 
-    def __init__(self, name: str, text: str) -> None:
-        self.name, self.text, self.compared = name, text, 0
-        self.differences: list[str] = []
+    def __init__(self, name: str, text: str, expect: Expectations) -> None:
+        self.name, self.text, self.expect = name, text, expect
         self.blocks: list[tuple[str, str, str]] = []
         begin, prose = 0, ""
         for block in BLOCK.finditer(text):
@@ -136,12 +123,6 @@ class Document:
                 found.append(text)
             found += [command for command, _ in runs_of_session(text)]
         return found
-
-    def expect(self, is_so: object, what: str) -> None:
-        """Counts a comparison."""
-        self.compared += 1
-        if not is_so:
-            self.differences.append(f"{self.name}: {what}")
 
 
 def ran(document: Document, clone: Clone, block: str) -> str:
@@ -200,7 +181,7 @@ def try_numbers(document: Document, clone: Clone) -> None:
     document.expect(not unused, f"no number is marked by {unused}")
     for number, _, name, words in marked:
         document.expect(name in commands, f"no command is called {name}")
-        status, out, error = clone.number(f"set --{words}; {commands.get(name, 'false')}")
+        _, status, out, error = clone.answer(f"set --{words}; {commands.get(name, 'false')}")[-1]
         same = status == 0 and number_of(out.strip()) == number_of(number)
         document.expect(same, f"{number} is marked by {name}{words}, which prints {out}{error}")
 
@@ -252,12 +233,10 @@ def try_links(document: Document, clone: Clone) -> None:
             document.expect(found, f"no heading is called as the link says: {target}")
 
 
-def tried(name: str, text: str, clone: Clone, *, is_packed: bool = False) -> Document:
-    """The document, compared; where it is packed, what its numbers are made again by isn't there."""
-    document = Document(name, text)
+def try_document(document: Document, clone: Clone, *, is_packed: bool = False) -> None:
+    """Compares all of a document; where it is packed, what its numbers are made again by isn't there."""
     for part in (try_blocks, try_pictures, try_links, *(() if is_packed else (try_numbers,))):
         part(document, clone)
-    return document
 
 
 def changes_of(document: Document) -> Iterator[tuple[int, str, str]]:
@@ -287,7 +266,9 @@ def unnoticed_changes(document: Document, clone: Clone) -> Iterator[str]:
         for name in WRITES.findall(block):
             for written in clone.top.glob(re.sub(r"\$\w+", "*", name)):
                 written.unlink()
-        if not tried(document.name, changed(document.text, place), clone).differences:
+        other = Document(document.name, changed(document.text, place), Expectations())
+        try_document(other, clone)
+        if not other.expect.wrong:
             line = document.text.count("\n", 0, place) + 1
             yield f"{document.name}: line {line}: a change of this isn't told: {what}"
         # The files that the block writes are again as they were.

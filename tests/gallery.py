@@ -28,7 +28,7 @@ BLOCK = re.compile(r"^```(\w*)\n(.*?)^```\n", re.M | re.S)
 
 
 def runs_of_gallery() -> Iterator[Run]:
-    """The runs in the comments of the gallery: where, the folder, the words, the text."""
+    """The runs in the comments of the gallery."""
     for file in sorted(EXAMPLES.glob("*.toml")):
         shown = SHOWN.findall(file.read_text())
         if not shown:
@@ -72,6 +72,11 @@ def files_of_document(file: pathlib.Path) -> Iterator[tuple[pathlib.Path, list[s
             yield file, ["replay", "net.toml", "log"], {"net.toml": network, "log": log}
 
 
+def logs_of_formats() -> list[str]:
+    """The logs that docs/FORMATS.md shows: one of a network of two queues, in version 2 and in version 1."""
+    return [text for _, text in BLOCK.findall((TOP / "docs/FORMATS.md").read_text()) if text.startswith("psi-log ")]
+
+
 def wanted_statuses(text: str) -> Container[int]:
     """The statuses with which a run may end that prints this text."""
     if text.startswith("psi: "):
@@ -106,11 +111,16 @@ def fault_of_run(program: str, run: Run) -> str | None:
     return f"{what}\n--- shown\n{text}--- printed\n{printed}"
 
 
+def faults_of_runs(program: str, *files: pathlib.Path) -> Iterator[str | None]:
+    """For each run of some documents what is wrong with it, or none."""
+    return (fault_of_run(program, run) for file in files for run in runs_of_document(file))
+
+
 def faults_of_texts(program: str) -> Iterator[str | None]:
     """For each text of the gallery and the guides what is wrong with it, or none."""
     files = guides()
-    for run in [*runs_of_gallery(), *(run for file in files for run in runs_of_document(file))]:
-        yield fault_of_run(program, run)
+    yield from (fault_of_run(program, run) for run in runs_of_gallery())
+    yield from faults_of_runs(program, *files)
     with tempfile.TemporaryDirectory() as room:
         for file, words, shown in (found for file in files for found in files_of_document(file)):
             write(room, shown)

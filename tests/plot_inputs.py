@@ -2,22 +2,9 @@
 
 from collections.abc import Iterator, Sequence
 
-SMALL_LOG = """psi-log 2
-queues 2
-seed 0
-stream 0
-horizon 8
-begin box 0,0 1,1
-step 8 0 move
-step 7 2 move 0,0,0
-step 6 1 move
-step 5 3 move 1,0,0
-step 4 0 set 1,1
-step 3 0 set 1,1
-step 2 1 set 1,1
-step 1 2 set 0,1
-end 0,1
-"""
+from tests.gallery import logs_of_formats
+
+SMALL_LOG, _ = logs_of_formats()
 REPORT = """item,name,value
 samples,-,10
 met,-,9

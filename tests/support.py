@@ -4,6 +4,7 @@ takes nothing beyond Python's library, imports it too, with gallery.py and logs.
 import os
 import pathlib
 import re
+import shutil
 import subprocess
 import sys
 from collections.abc import Mapping, Sequence
@@ -17,8 +18,9 @@ BUILT = TOP / "crates/psi/out/psi"
 CHECKER = [sys.executable, "-IS", str(TOOLS / "check_log.py")]
 SECONDS, MOST_SHOWN = 60, 2_000
 
-# A status and both texts.
+# A status and both texts, as bytes or read.
 Answer = tuple[int, bytes, bytes]
+TextAnswer = tuple[int, str, str]
 
 
 class Expectations:
@@ -32,11 +34,6 @@ class Expectations:
         self.count += 1
         if not is_so:
             self.wrong.append(what[:MOST_SHOWN])
-
-
-def program_path() -> str:
-    """The path of the built program."""
-    return os.path.abspath(os.environ.get("PSI", BUILT))
 
 
 def beside(program: str | pathlib.Path, name: str) -> pathlib.Path | None:
@@ -68,12 +65,18 @@ def version_of_citation() -> str:
 
 
 def answer(words: Sequence[object], folder: str | pathlib.Path, seconds: float = SECONDS, **more: Any) -> Answer:
-    """The status of a run, and both its texts."""
+    """The status of a run, and both its texts; `more` are options of subprocess.run."""
     call: list[str | bytes] = [word if isinstance(word, bytes) else str(word) for word in words]
     done: "subprocess.CompletedProcess[bytes]" = subprocess.run(
         call, cwd=folder, stdin=subprocess.DEVNULL, capture_output=True, timeout=seconds, **more
     )
     return done.returncode, done.stdout, done.stderr
+
+
+def answer_as_text(words: Sequence[object], folder: str | pathlib.Path, *more: float, **options: Any) -> TextAnswer:
+    """As `answer`, with texts that are read."""
+    status, out, err = answer(words, folder, *more, **options)
+    return status, out.decode(errors="replace"), err.decode(errors="replace")
 
 
 def write(folder: str | pathlib.Path, files: Mapping[str, bytes]) -> None:
@@ -82,8 +85,18 @@ def write(folder: str | pathlib.Path, files: Mapping[str, bytes]) -> None:
         pathlib.Path(folder, name).write_bytes(data)
 
 
-def printed_by(*words: object) -> str:
+def printed_by(*words: object, folder: str | pathlib.Path = TOP, **more: Any) -> str:
     """What a call prints that ends well."""
-    status, out, err = answer(words, TOP)
-    assert status == 0, err
-    return out.decode()
+    status, out, err = answer_as_text(words, folder, **more)
+    assert status == 0, out + err
+    return out
+
+
+def checkout(room: pathlib.Path) -> pathlib.Path:
+    """A checkout in a folder of its own that has what `./psi` needs, without a built program."""
+    top = room / "checkout"
+    for name in ("tools", "python", "docs", "crates", "examples"):
+        shutil.copytree(TOP / name, top / name, ignore=shutil.ignore_patterns("out", "__pycache__"))
+    for name in ("psi", "crates.txt", "HANDLES", "CITATION.cff"):
+        shutil.copy2(TOP / name, top / name)
+    return top

@@ -7,7 +7,7 @@ import sys
 
 import pytest
 
-from tests.support import TOP, answer
+from tests.support import TOP, printed_by
 
 SECONDS = 300
 
@@ -19,12 +19,11 @@ def test_the_package_stands_alone(tmp_path: pathlib.Path, program: str) -> None:
     ignored = shutil.ignore_patterns("__pycache__", ".*_cache", ".hypothesis", "build", "*.egg-info")
     shutil.copytree(TOP / "python", copy, ignore=ignored)
     install = [sys.executable, "-m", "pip", "install", "-q", "--no-index", "--no-build-isolation", "--no-deps"]
-    status, out, err = answer([*install, "--target", site, copy], tmp_path, SECONDS)
-    assert status == 0, (out + err).decode()
+    printed_by(*install, "--target", site, copy, folder=tmp_path, seconds=SECONDS)
     for name in ("psi", "psi_tools"):
         shutil.rmtree(copy / name)
-    environment = {key: value for key, value in os.environ.items() if key != "PSI"}
-    path = f"{pathlib.Path(program).parent}:{environment['PATH']}"
+    path = f"{pathlib.Path(program).parent}:{os.environ['PATH']}"
+    environment = {**os.environ, "PATH": path, "PYTHONPATH": str(site)}
+    environment.pop("PSI", None)
     call = [sys.executable, "-m", "pytest", "-q", "-p", "no:cacheprovider"]
-    status, out, err = answer(call, copy, SECONDS, env={**environment, "PATH": path, "PYTHONPATH": str(site)})
-    assert status == 0 and b" passed" in out, (out + err).decode()
+    assert " passed" in printed_by(*call, folder=copy, seconds=SECONDS, env=environment)

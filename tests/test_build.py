@@ -14,13 +14,11 @@ import os
 import pathlib
 import random
 import re
-import subprocess
 from collections.abc import Callable, Iterable
 
 import pytest
 
-from tests.checkouts import checkout
-from tests.support import TOP, Expectations
+from tests.support import TOP, Expectations, answer_as_text, checkout
 from tools.build.crates import Crates, crates_below, rows_of
 from tools.build.schedule import Costs, Pace, Schedule
 
@@ -50,7 +48,7 @@ echo "end $here" >>"$RT_CALLS"
 LUCK = 0.88, 1.14
 # Machines: how many processors they have, and how much longer they take.
 MACHINES = (2, 0.6), (4, 0.6), (2, 1), (4, 1), (4, 1), (2, 2.5), (4, 2.5), (4, 2.5)
-SHOWN = 200
+SHOWN, SECONDS = 200, 900
 KIT = "a-kit logic dac8208d650f15bf"
 
 
@@ -70,16 +68,10 @@ class Trial:
         path = f"{self.room / 'bin'}:{os.environ['PATH']}"
         own = {"RT_CALLS": str(self.calls), "RT_KIT": kit, "RT_KILLED": "", "RT_FAILS": ""}
         environment = {**os.environ, "PATH": path, **own, **more}
-        done = subprocess.run(
-            [str(self.top / "psi"), "--build"],
-            stdin=subprocess.DEVNULL,
-            capture_output=True,
-            text=True,
-            env=environment,
-        )
-        lines = [line[:SHOWN] for line in done.stderr.splitlines()]
+        status, out, err = answer_as_text([self.top / "psi", "--build"], self.room, SECONDS, env=environment)
+        lines = [line[:SHOWN] for line in err.splitlines()]
         calls = [line.split() for line in self.calls.read_text().splitlines()]
-        return done.returncode, done.stdout, lines, calls
+        return status, out, lines, calls
 
 
 def begun(calls: list[list[str]]) -> list[str]:

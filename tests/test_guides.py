@@ -138,7 +138,7 @@ def test_streams_of_a_report(clone: Clone) -> None:
 
 def test_the_table_of_samples(clone: Clone) -> None:
     """START counts the samples of a table, those of its report, in descending order."""
-    blocks = Document("docs/START.md", text_of("docs/START.md")).commands()
+    blocks = Document("docs/START.md", text_of("docs/START.md"), Expectations()).commands()
     table = next(block for block in blocks if block.startswith("tools/psi-states"))
     counts = [line.split() for line in clone.execute(table)[1].splitlines()]
     report = reported(clone, f"{TANDEM} 0 0 1000")

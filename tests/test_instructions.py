@@ -5,13 +5,11 @@ import sys
 
 import pytest
 
-from tests.support import TOP, answer
+from tests.support import printed_by
 
 
 @pytest.mark.slow
 @pytest.mark.needs("valgrind")
 def test_instructions(program: str) -> None:
-    status, out, err = answer([sys.executable, "bench/instructions.py", program], TOP, seconds=600)
-    assert status == 0, (out + err).decode()
-    last = out.decode().splitlines()[-1]
+    last = printed_by(sys.executable, "bench/instructions.py", program, seconds=600).splitlines()[-1]
     assert last == "6 runs within their bounds, 0 above" or last.endswith(": nothing is compared")

@@ -6,7 +6,7 @@ import pathlib
 import pytest
 
 from generate import notebook
-from tests.support import TOP, answer
+from tests.support import TOP, printed_by
 
 STORED = TOP / "docs/psi-in-python.ipynb"
 
@@ -18,8 +18,5 @@ def test_notebook(program: str, tmp_path: pathlib.Path, capsys: pytest.CaptureFi
     (tmp_path / "psi").symlink_to(program)
     path = f"{tmp_path}:{os.environ['PATH']}"
     quiet = {"PYDEVD_DISABLE_FILE_VALIDATION": "1", "TQDM_DISABLE": "1"}
-    environment = {**os.environ, "PATH": path, **quiet}
-    call = [*words, "--output-dir", tmp_path, STORED]
-    status, out, err = answer(call, TOP, seconds=900, env=environment)
-    assert status == 0, (out + err).decode()
+    printed_by(*words, "--output-dir", tmp_path, STORED, seconds=900, env={**os.environ, "PATH": path, **quiet})
     assert notebook.main([str(STORED), str(tmp_path / STORED.name)]) == 0, capsys.readouterr()

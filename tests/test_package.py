@@ -23,7 +23,6 @@ import pathlib
 import re
 import shlex
 import shutil
-import subprocess
 import sys
 
 import pytest
@@ -31,7 +30,7 @@ import pytest
 from release import man_pages
 from tests import documents
 from tests.gallery import BLOCK
-from tests.support import TOP, Expectations, version_of_citation
+from tests.support import TOP, Expectations, TextAnswer, answer_as_text, printed_by, version_of_citation
 
 pytestmark = [
     pytest.mark.slow,
@@ -71,19 +70,12 @@ class Bare(documents.Clone):
         self.answers: dict[str, list[documents.Ran]] = {}
         self.top.mkdir()
 
-    def execute(self, command: str) -> tuple[int, str, str]:
+    def execute(self, command: str) -> TextAnswer:
         # It has a /proc of its own, which ends with the command.
         call = ["unshare", "--mount", "--pid", "--fork", f"--mount-proc={self.root}/proc", "chroot"]
         call += [str(self.root), "/bin/sh", "-c", f"cd /tour && {command}"]
-        done = subprocess.run(
-            call,
-            stdin=subprocess.DEVNULL,
-            capture_output=True,
-            timeout=SECONDS,
-            env={"PATH": "/usr/sbin:/usr/bin:/sbin:/bin", "HOME": "/root", "LC_ALL": "C.UTF-8"},
-        )
-        texts = (done.stdout.decode("utf-8", "replace"), done.stderr.decode("utf-8", "replace"))
-        return done.returncode, *texts
+        environment = {"PATH": "/usr/sbin:/usr/bin:/sbin:/bin", "HOME": "/root", "LC_ALL": "C.UTF-8"}
+        return answer_as_text(call, "/", SECONDS, env=environment)
 
     def has(self, path: str) -> bool:
         """Whether a file, a folder or a link is there."""
@@ -101,17 +93,17 @@ class Bare(documents.Clone):
 def made(psi: str, folder: pathlib.Path) -> list[pathlib.Path]:
     """The package, the archive and their sums, made in a folder."""
     folder.mkdir()
-    words = [sys.executable, "-m", "release.make_package", psi, str(folder)]
-    return [pathlib.Path(line) for line in subprocess.check_output(words, cwd=TOP, text=True).splitlines()]
+    made = printed_by(sys.executable, "-m", "release.make_package", psi, folder, seconds=SECONDS)
+    return [*map(pathlib.Path, made.splitlines())]
 
 
 def try_lintian(expect: Expectations, package: pathlib.Path) -> None:
     """Debian's checker of packages finds no error."""
     # The address of who runs this trial may be one that no mail reaches.
-    call = ["lintian", "--allow-root", "--suppress-tags", BOGUS, str(package)]
-    done = subprocess.run(call, capture_output=True, text=True)
-    errors = [line for line in done.stdout.splitlines() if line.startswith("E:")]
-    expect(not errors and done.returncode in (0, 2), f"lintian says {errors or done.stderr}")
+    call = ["lintian", "--allow-root", "--suppress-tags", BOGUS, package]
+    status, out, err = answer_as_text(call, TOP, SECONDS)
+    errors = [line for line in out.splitlines() if line.startswith("E:")]
+    expect(not errors and status in (0, 2), f"lintian says {errors or err}")
 
 
 def try_archive(expect: Expectations, bare: Bare, archive: pathlib.Path, sums: pathlib.Path) -> None:
@@ -121,15 +113,13 @@ def try_archive(expect: Expectations, bare: Bare, archive: pathlib.Path, sums: p
     status, out, error = bare.execute(f"sha256sum --check --ignore-missing {sums.name}")
     expect((status, out) == (0, f"{archive.name}: OK\n"), f"sha256sum says {out} {error}")
     # It has no xz yet: what unpacks it is this system's own.
-    subprocess.run(["tar", "-xJf", str(archive), "-C", str(bare.root / "opt")], check=True)
+    printed_by("tar", "-xJf", archive, "-C", bare.root / "opt")
     folder = f"/opt/{archive.name.partition('-linux')[0]}"
-    for words in ("check", "sample", "report"):
-        more = {"check": "", "sample": " 0 0", "report": " 0 0 100"}[words]
-        call = f"{words} examples/tandem-blocking.toml{more}"
-        status, out, error = bare.execute(f"cd {folder} && bin/psi {call}")
-        own = subprocess.run([bare.psi, *call.split()], cwd=TOP, capture_output=True, text=True)
-        same = (status, out) == (own.returncode, own.stdout)
-        expect(same, f"{call} of the archive: {status} {out} {error}")
+    for command, more in (("check", ""), ("sample", " 0 0"), ("report", " 0 0 100")):
+        call = f"{command} examples/tandem-blocking.toml{more}"
+        found = bare.execute(f"cd {folder} && bin/psi {call}")
+        own = answer_as_text([bare.psi, *call.split()], TOP)
+        expect(found[:2] == own[:2], f"{call} of the archive: {found}")
     try_front(expect, bare, f"{folder}/bin/psi")
     page = bare.has(f"{folder}/share/man/man1/psi.1.gz")
     expect(page and bare.has(f"{folder}/Dockerfile"), "the archive lacks a file")
@@ -195,12 +185,7 @@ def bare_system(root: pathlib.Path, mirror: str) -> None:
     system = pathlib.Path("/etc/os-release").read_text()
     release = re.search(r"^VERSION_CODENAME=(\w+)", system, re.M)
     assert release, system
-    words = ["debootstrap", "--variant=minbase", release[1], str(root), mirror]
-    with open(root.with_suffix(".log"), "wb") as log:
-        status = subprocess.run(words, stdout=log, stderr=log).returncode
-    if status:
-        lines = root.with_suffix(".log").read_text(errors="replace").splitlines()
-        pytest.fail(f"debootstrap failed: {lines[-1] if lines else status}")
+    printed_by("debootstrap", "--variant=minbase", release[1], root, mirror, seconds=SECONDS)
     for name in ("resolv.conf", "hosts"):
         shutil.copy(f"/etc/{name}", root / "etc" / name)
 
@@ -219,10 +204,8 @@ def try_tour(expect: Expectations, bare: Bare) -> None:
     """The tour, as it stands."""
     name = "docs/TOUR.md"
     expect(bare.read(name) == (TOP / name).read_bytes(), "the package has another tour")
-    document = documents.tried(name, bare.read(name).decode(), bare, is_packed=True)
-    for difference in document.differences:
-        expect(False, difference)
-    expect(document.compared, "the tour shows nothing")
+    document = documents.Document(name, bare.read(name).decode(), expect)
+    documents.try_document(document, bare, is_packed=True)
 
 
 def try_many(expect: Expectations, bare: Bare) -> None:

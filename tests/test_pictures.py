@@ -32,7 +32,7 @@ from psi_tools.plot.report import report_of as shown_of
 from psi_tools.stats.batches import batches_of
 from tests.figures import cut_off, overlapping
 from tests.plot_inputs import EXACT, REPORT, SMALL_LOG, broken_inputs, exact_of, made_report, wide_log
-from tests.support import TOOLS, TOP, Expectations, answer, printed_by, report_of
+from tests.support import TOOLS, TOP, Expectations, TextAnswer, answer_as_text, printed_by, report_of, write
 
 PLOT = TOOLS / "psi-plot"
 MOST_BYTES, MOST_BYTES_SHOWN, SECONDS = 1_000_000, 200_000, 100
@@ -186,13 +186,12 @@ def try_report(expect: Expectations, texts: Sequence[tuple[str, str]], name: str
         rows = report_of(text)
         met, samples = rows["met", "-"], rows["samples", "-"]
         shown = {
-            gid.split("-")[2]: bar.get_height() * samples / 100
+            gid.split("-")[2]: round(bar.get_height() * samples / 100, 6)
             for gid, bar in drawn.items()
             if gid and gid.startswith(f"horizon-{k}-")
         }
         wanted = {"none": rows["uncoupled", "-"]}
         wanted |= {str(int(n).bit_length() - 1): v for (i, n), v in rows.items() if i == "horizon"}
-        shown = {power: round(count, 6) for power, count in shown.items()}
         shown = {power: count for power, count in shown.items() if count or power == "none"}
         expect(shown == wanted, f"{name}: the horizons of report {k}")
         for (item, queue), total in rows.items():
@@ -201,11 +200,10 @@ def try_report(expect: Expectations, texts: Sequence[tuple[str, str]], name: str
                 ends = [*drawn[f"spread-{k}-{queue}"].get_xdata()]
                 expect(mean == total / met, f"{name}: the mean of {queue}")
                 expect(ends == [rows["least", queue], rows["greatest", queue]], f"{name}: the ends of {queue}")
-    texts_shown = [text.get_text() for text in figure.findobj(matplotlib.text.Text)]
+    texts_shown = {text.get_text() for text in figure.findobj(matplotlib.text.Text)}
     for _, text in texts:
         names = {n for i, n in report_of(text) if i.endswith("sum")}
-        is_whole = len(names) > 20 or names <= {*texts_shown}
-        expect(is_whole, f"{name}: names that aren't shown")
+        expect(len(names) > 20 or names <= texts_shown, f"{name}: names that aren't shown")
     try_texts(expect, figure, name)
     return figure
 
@@ -249,9 +247,7 @@ def test_exact(expect: Expectations, program: str) -> None:
         images = [tuple(map(int, words[1:])) for words in lines if words[:1] == ["image"]]
         expect([*zip(*found["images"].get_data())] == images, f"{name}: the images")
         marked = {gid: line.get_xdata()[0] for gid, line in found.items() if gid in MARKS}
-        wanted = {"constant": constant, "region": region}
-        if constant == region:
-            wanted = {"both": constant}
+        wanted = {"both": constant} if constant == region else {"constant": constant, "region": region}
         wanted = {gid: time for gid, time in wanted.items() if time is not None}
         expect(marked == wanted, f"{name}: {marked} is marked")
         expect([*axes.get_xticks()] == [time for time, _ in images], f"{name}: the ticks")
@@ -275,31 +271,29 @@ def test_forward(expect: Expectations, program: str) -> None:
             lines = gids(axes, "")
             drawn = [lines[f"after-{steps}-from-{k}"].get_ydata() for k in range(len(ends))]
             expect((numpy.array(drawn) == ends).all(), f"forward of {name}: {steps} steps")
-            is_law = (lines[f"law-{steps}"].get_ydata() == found.law).all()
-            expect(is_law, f"forward of {name}: the law")
+            expect((lines[f"law-{steps}"].get_ydata() == found.law).all(), f"forward of {name}: the law")
         bars = [bar.get_height() for bar in figure.axes[len(found.after)].patches]
         expect(bars == [*found.met], f"forward of {name}: where all meet")
         try_texts(expect, figure, f"forward of {name}")
     try_svg(expect, figure, "forward", ["after-5-from-0", "law-5", "law-met", "met-0"])
 
 
-def plotted(words: Sequence[object], room: pathlib.Path) -> tuple[int, str, str]:
+def plotted(words: Sequence[object], room: pathlib.Path) -> TextAnswer:
     """The status of a call of psi-plot, and both its texts."""
-    status, out, err = answer([PLOT, *words], room, SECONDS)
-    return status, out.decode(), err.decode()
+    return answer_as_text([PLOT, *words], room, SECONDS)
 
 
-def write_small(folder: pathlib.Path) -> None:
-    """Writes a small log and a small report."""
-    (folder / "small.log").write_text(SMALL_LOG)
-    (folder / "small.csv").write_text(REPORT)
+@pytest.fixture
+def room(tmp_path: pathlib.Path) -> pathlib.Path:
+    """A folder with a small log and a small report."""
+    write(tmp_path, {"small.log": SMALL_LOG.encode(), "small.csv": REPORT.encode()})
+    return tmp_path
 
 
 @pytest.mark.slow
-def test_refusals(expect: Expectations, tmp_path: pathlib.Path) -> None:
+def test_refusals(expect: Expectations, room: pathlib.Path) -> None:
     """Each broken input is refused by one line, with status 2, and nothing is drawn; so are words
     that aren't a command."""
-    write_small(tmp_path)
     calls = [
         [],
         ["-o", "drawn.svg"],
@@ -316,34 +310,33 @@ def test_refusals(expect: Expectations, tmp_path: pathlib.Path) -> None:
         ["exact", "a\nb", "-o", "drawn.svg"],
     ]
     for place, (what, text) in enumerate(broken_inputs()):
-        (tmp_path / f"{place}.txt").write_text(text, newline="")
+        (room / f"{place}.txt").write_text(text, newline="")
         calls.append([what, f"{place}.txt", "-o", "drawn.svg"])
     with concurrent.futures.ThreadPoolExecutor(os.cpu_count()) as pool:
-        answers = [*pool.map(lambda words: plotted(words, tmp_path), calls)]
+        answers = [*pool.map(lambda words: plotted(words, room), calls)]
     for words, (status, out, err) in zip(calls, answers):
         is_refused = (status, out) == (2, "") and re.fullmatch("psi-plot: [^\n]+\n", err)
         expect(is_refused, f"{words}: {status} {err}")
-    expect(not (tmp_path / "drawn.svg").exists(), "what is refused is drawn")
+    expect(not (room / "drawn.svg").exists(), "what is refused is drawn")
     expect(place >= 49, f"only {place + 1} inputs are broken")
 
 
 @pytest.mark.slow
-def test_words(expect: Expectations, tmp_path: pathlib.Path) -> None:
+def test_words(expect: Expectations, room: pathlib.Path) -> None:
     """Pictures of each form, and one that can't be written."""
-    write_small(tmp_path)
     for form, front in (("svg", b"<?xml"), ("png", b"\x89PNG"), ("pdf", b"%PDF")):
         words = ["coupling", "small.log", "-t", "A title with $ and _", "-o", f"drawn.{form}"]
-        expect(plotted(words, tmp_path) == (0, "", ""), f"{words} aren't drawn")
-        expect((tmp_path / words[-1]).read_bytes().startswith(front), f"{words} draw no {form}")
-    first = (tmp_path / "drawn.svg").read_bytes()
-    plotted(["coupling", "small.log", "-t", "A title with $ and _", "-o", "drawn.svg"], tmp_path)
-    expect((tmp_path / "drawn.svg").read_bytes() == first, "the same log is another picture")
+        expect(plotted(words, room) == (0, "", ""), f"{words} aren't drawn")
+        expect((room / words[-1]).read_bytes().startswith(front), f"{words} draw no {form}")
+    first = (room / "drawn.svg").read_bytes()
+    plotted([*words[:-1], "drawn.svg"], room)
+    expect((room / "drawn.svg").read_bytes() == first, "the same log is another picture")
     names = re.findall(rb'<clipPath id="([^"]*)"', first)
     numbered = [b"clip%d" % number for number in range(len(names))]
     expect(names and sorted(names) == sorted(numbered), f"clip paths are called {names}")
-    status, _, err = plotted(["report", "small.csv", "-o", "absent/drawn.svg"], tmp_path)
+    status, _, err = plotted(["report", "small.csv", "-o", "absent/drawn.svg"], room)
     expect(status == 7 and err.count("\n") == 1, f"an absent folder: {status} {err}")
-    status, out, err = plotted(["-h"], tmp_path)
+    status, out, err = plotted(["-h"], room)
     expect(status == 0 and "psi-plot coupling" in out and not err, "the words aren't told")
 
 
@@ -361,5 +354,5 @@ def test_pictures_of_the_tour(expect: Expectations, program: str) -> None:
     form = r"^```\npython3 (tools/mean_values.py [^\n]*)\n```\n\nprints\n\n```\n(.*?)^```\n"
     environment = {**os.environ, "PATH": f"{os.path.dirname(program)}:{os.environ['PATH']}"}
     for shown_words, wanted in re.findall(form, text, re.M | re.S):
-        _, out, _ = answer([sys.executable, *shown_words.split()], TOP, env=environment)
-        expect(out.decode() == wanted, f"{shown_words} prints {out.decode()}")
+        out = printed_by(sys.executable, *shown_words.split(), env=environment)
+        expect(out == wanted, f"{shown_words} prints {out}")

@@ -9,6 +9,7 @@
 - the installed script takes at most 2 ms of processor time more than the program.
 """
 
+import contextlib
 import os
 import pathlib
 import pty
@@ -22,35 +23,21 @@ from collections.abc import Sequence
 
 import pytest
 
-from tests.checkouts import checkout, release
-from tests.support import TOP, Answer, Expectations, version_of_citation
+from tests.gallery import logs_of_formats
+from tests.support import TOP, Answer, Expectations, checkout, version_of_citation
 from tools.command import refusal
 
 COMMANDS = "check", "sample", "report", "trial", "couple", "reward", "exact", "closed", "replay"
 COMPLETIONS = "completion.bash", "completion.zsh", "completion.fish"
 NET = "examples/tandem-blocking.toml"
 # Arguments that are the program's.
-OTHERS: tuple[list[str], ...] = (
+OTHERS: list[list[str]] = [
     [],
-    ["nonsense"],
-    [""],
-    ["-"],
-    ["--"],
-    ["-v"],
-    ["--helpme"],
-    ["-help"],
-    ["Help"],
-    ["check"],
-    ["check", "--help"],
-    ["check", NET],
-    ["check", "absent.toml"],
-    ["sample", NET, "0", "x"],
-    ["sample", NET, "0", "0"],
-    ["sample", NET, "0", "0", "log"],
-    ["check", "bad.toml"],
+    *([word] for word in ("", *"nonsense - -- -v --helpme -help Help check".split())),
+    *(["check", word] for word in ("--help", NET, "absent.toml", "bad.toml", "/dev/stdin")),
+    *(["sample", NET, "0", *words] for words in (["x"], ["0"], ["0", "log"])),
     ["replay", NET, "bad.log"],
-    ["check", "/dev/stdin"],
-)
+]
 BAD_NET = """version = 1
 [[queue]]
 name = "a"
@@ -60,23 +47,6 @@ kind = "arrival"
 name = "enter"
 rate = 0.5
 to = ["a"]
-"""
-# The log of a network of two queues, which docs/FORMATS.md shows.
-OTHER_LOG = """psi-log 1
-queues 2
-seed 0
-stream 0
-horizon 8
-begin box 0,0 1,1
-step 8 0 box 0,0 1,1
-step 7 2 box 0,0 0,1
-step 6 1 box 0,0 0,1
-step 5 3 box 0,0 0,0
-step 4 0 set 1,1
-step 3 0 set 1,1
-step 2 1 set 1,1
-step 1 2 set 0,1
-end 0,1
 """
 STOPPED = 2, b"", b"psi: usage word 2\n"
 SECONDS, MOST_MS, ROUNDS, TRIES = 1, 2, 100, 5
@@ -94,7 +64,6 @@ def ended(words: Sequence[object], folder: pathlib.Path, path: str | None = None
 
 def try_help(expect: Expectations, script: pathlib.Path, top: pathlib.Path) -> None:
     """What a script answers itself."""
-    version = version_of_citation()
     calls = [["--help"], ["-h"], ["help"], ["--version"], *(["help", name] for name in COMMANDS)]
     answers = {}
     for words in calls:
@@ -105,11 +74,10 @@ def try_help(expect: Expectations, script: pathlib.Path, top: pathlib.Path) -> N
         answers[" ".join(words)] = out.decode()
         expect((status, error) == (0, b""), f"{script} {words}: {status} {error!r}")
         expect(took < SECONDS, f"{script} {words} takes {took:.2f} s")
-    expect(answers["--version"] == f"psi {version}\n", f"the version is {answers['--version']}")
+    expect(answers["--version"] == f"psi {version_of_citation()}\n", f"the version is {answers['--version']}")
     expect(answers["-h"] == answers["help"] == answers["--help"], "-h and help differ")
     for name in COMMANDS:
-        usage = f"  {name} "
-        expect(usage in answers["--help"], f"the help has no command {name}")
+        expect(f"  {name} " in answers["--help"], f"the help has no command {name}")
         own = answers[f"help {name}"]
         expect(own.startswith(f"Usage: psi {name} ") and own.count("\n") > 2, f"no help {name}")
     statuses = re.findall(r"^  (\d+) +\S", answers["--help"], re.M)
@@ -137,14 +105,24 @@ def built(tmp_path_factory: pytest.TempPathFactory, program: str) -> pathlib.Pat
     shutil.copy(program, top / "crates/psi/out/psi")
     (top / "bad.toml").write_text(BAD_NET)
     (top / "bad.log").write_text("psi-log 1\nqueues x\n")
-    (top / "other.log").write_text(OTHER_LOG)
+    (top / "other.log").write_text(logs_of_formats()[1])
     return top
 
 
 @pytest.fixture(scope="module")
 def installed(tmp_path_factory: pytest.TempPathFactory, program: str) -> pathlib.Path:
-    """The script of a release."""
-    return release(tmp_path_factory.mktemp("installed"), program)
+    """The script of what a release installs for psi."""
+    top = tmp_path_factory.mktemp("installed")
+    library, doc = top / "lib/psi-sampler", top / "share/doc/psi-sampler"
+    (top / "bin").mkdir()
+    shutil.copytree(TOP / "tools", library / "tools")
+    (library / "python").symlink_to(TOP / "python")
+    (library / "tools/command/installed").rename(top / "bin/psi")
+    (library / "crates/psi/out").mkdir(parents=True)
+    shutil.copy2(program, library / "crates/psi/out/psi")
+    doc.mkdir(parents=True)
+    shutil.copy2(TOP / "CITATION.cff", doc)
+    return top / "bin/psi"
 
 
 @pytest.fixture(params=("checkout", "release"))
@@ -185,12 +163,10 @@ def on_terminal(words: Sequence[object], folder: pathlib.Path) -> tuple[int, byt
     )
     os.close(other)
     out, shown = run.communicate(b"version = 3\n")[0], b""
-    try:
+    # A terminal ends with an error.
+    with contextlib.suppress(OSError):
         while piece := os.read(own, 4096):
             shown += piece
-    except OSError:
-        # So a terminal ends.
-        pass
     os.close(own)
     return run.returncode, out, shown.decode().replace("\r\n", "\n").splitlines()
 
@@ -205,18 +181,16 @@ def test_terminal(expect: Expectations, script: pathlib.Path, program: str, buil
     }
     for words, (place, sentence) in calls.items():
         status, out, line = ended([program, *words], built)[0]
-        found = on_terminal([script, *words], built)
-        shown = found[2]
-        same = (status, out, line.decode().splitlines()) == (*found[:2], shown[:1])
-        expect(same, f"{script} {words} on a terminal: {found}, not {status} {line!r}")
+        *found, shown = on_terminal([script, *words], built)
+        same = [status, out, line.decode().splitlines()] == [*found, shown[:1]]
+        expect(same, f"{script} {words} on a terminal: {found} {shown}, not {status} {line!r}")
         expect(len(shown) > 2 and shown[1] == place, f"{words} has no line {place}: {shown}")
         expect(sentence in " ".join(shown[2:]), f"{words} doesn't say {sentence}: {shown}")
     # What comes through a pipe can't be read a second time.
     for others in (["nonsense"], ["check", NET], ["check", "absent.toml"], ["check", "/dev/stdin"]):
         status, out, line = ended([program, *others], built)[0]
-        wanted = status, out, line.decode().splitlines()
-        found = on_terminal([script, *others], built)
-        expect(found == wanted, f"{script} {others} on a terminal: {found}, not {wanted}")
+        ending = on_terminal([script, *others], built)
+        expect(ending == (status, out, line.decode().splitlines()), f"{script} {others} on a terminal: {ending}")
 
 
 def processor_time(words: Sequence[object], folder: pathlib.Path) -> float:

@@ -6,7 +6,7 @@ import sys
 
 import pytest
 
-from tests.support import TOP, answer
+from tests.support import printed_by
 
 HOURS = 4 * 3_600
 
@@ -14,9 +14,7 @@ HOURS = 4 * 3_600
 def printed_by_study(program: str, study: str) -> str:
     """What a study prints, of which there are the name and its words; PSI is the program."""
     name, *words = (program if word == "PSI" else word for word in study.split())
-    status, out, err = answer([sys.executable, "-m", f"tests.study_{name}", *words], TOP, seconds=HOURS)
-    assert status == 0, (out + err).decode()
-    return out.decode()
+    return printed_by(sys.executable, "-m", f"tests.study_{name}", *words, seconds=HOURS)
 
 
 @pytest.mark.slow
