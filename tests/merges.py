@@ -3,14 +3,13 @@
 The lines that are wanted are written from docs/FORMATS.md, 'Reports, merged'.
 """
 
-import pathlib
+import contextlib
 import random
 import tempfile
 from collections.abc import Mapping, Sequence
 
 from psi_tools.io import reports as merge_reports
-from tests.support import Answer
-
+from tests.support import Answer, write
 
 # Four samples of six are met. Of `a` the sum of four numbers from 1 to 4, both reached, is 7 to 13;
 # of the reward that of four from -5 to 7 is -8 to 16.
@@ -49,12 +48,8 @@ ONE_QUEUE = "sum,c,10\nleast,c,1\ngreatest,c,4\n"
 TWO_VALUES = "reward-sum,c,1\nreward-least,c,0\nreward-greatest,c,1\n"
 
 
-def queues(count: int) -> str:
-    return "".join(f"sum,q{place},0\n" for place in range(count))
-
-
-def rewards(count: int) -> str:
-    return "".join(f"reward-sum,q{place},0\n" for place in range(count))
+def sums(count: int, item: str = "sum") -> str:
+    return "".join(f"{item},q{place},0\n" for place in range(count))
 
 
 SAMPLES, ROW, TEXT = "refused 3 Samples line", "refused 1 Row line", "refused 2 Text line 0"
@@ -115,10 +110,10 @@ FILES = {
     "two queues of one name": (changed({10: "sum,a,0", 11: "least,a,0", 12: "greatest,a,0"}), f"{SAMPLES} 10"),
     "two rewards of one name": (f"{NONE}sum,a,0\nreward-sum,b,0\nreward-sum,b,0\n", f"{SAMPLES} 7"),
     "a reward named as a queue": (f"{NONE}sum,a,0\nsum,b,0\nreward-sum,b,0\n", None),
-    "32 queues": (NONE + queues(32), None),
-    "33 queues": (NONE + queues(33), f"{SAMPLES} 37"),
-    "64 rewards": (NONE + queues(1) + rewards(64), None),
-    "65 rewards": (NONE + queues(1) + rewards(65), f"{SAMPLES} 70"),
+    "32 queues": (NONE + sums(32), None),
+    "33 queues": (NONE + sums(33), f"{SAMPLES} 37"),
+    "64 rewards": (NONE + sums(1) + sums(64, "reward-sum"), None),
+    "65 rewards": (NONE + sums(1) + sums(65, "reward-sum"), f"{SAMPLES} 70"),
     "no queue": (NONE, f"{SAMPLES} 5"),
     "no queue but a reward": (f"{NONE}reward-sum,a,0\n", f"{SAMPLES} 5"),
     "a queue behind a reward": (f"{NONE}sum,a,0\nreward-sum,a,0\nsum,b,0\n", f"{SAMPLES} 7"),
@@ -165,28 +160,22 @@ REPORTS = [BASE] * 6 + [
     f"{LARGE}sum,b-2,0\nreward-sum,a,0\n",
 ]
 
+OTHER = "other network line"
 # What two files are, and what is said before the second's name.
 PAIRS = {
     "two reports": (BASE, BASE, None),
     "the second without a sample that is met": (BASE, f"{NONE}sum,a,0\nsum,b-2,0\nreward-sum,a,0\n", None),
-    "another name": (BASE, changed({10: "sum,b,0", 11: "least,b,0", 12: "greatest,b,0"}), 10),
-    "a reward less": (BASE, changed({13: None, 14: None, 15: None}), 13),
-    "a reward more": (f"{NONE}sum,a,0\nsum,b-2,0\n", BASE, 13),
-    "a queue for a reward": (f"{NONE}sum,a,0\nreward-sum,b,0\n", f"{NONE}sum,a,0\nsum,b,0\n", 6),
+    "another name": (BASE, changed({10: "sum,b,0", 11: "least,b,0", 12: "greatest,b,0"}), f"{OTHER} 10"),
+    "a reward less": (BASE, changed({13: None, 14: None, 15: None}), f"{OTHER} 13"),
+    "a reward more": (f"{NONE}sum,a,0\nsum,b-2,0\n", BASE, f"{OTHER} 13"),
+    "a queue for a reward": (f"{NONE}sum,a,0\nreward-sum,b,0\n", f"{NONE}sum,a,0\nsum,b,0\n", f"{OTHER} 6"),
+    "a wrong second file": (BASE, changed({7: "sum,a,14"}), f"{SAMPLES} 7"),
+    "too many samples": (LARGE, LARGE, "too large line 2"),
 }
-SECOND_REFUSED = "a wrong second file", (BASE, changed({7: "sum,a,14"}), f"{SAMPLES} 7")
-TOO_LARGE = "too many samples", (LARGE, LARGE, "too large line 2")
-
-
-def all_cases() -> dict[str, tuple[tuple[str, ...], str | None]]:
-    """Each case by its name: the texts of its files, and what is said of the last, if anything."""
-    cases: dict[str, tuple[tuple[str, ...], str | None]] = {}
-    cases |= {name: ((text,), message) for name, (text, message) in FILES.items()}
-    for name, (first, second, line) in PAIRS.items():
-        cases[name] = (first, second), f"other network line {line}" if line else None
-    for name, (first, second, message) in (SECOND_REFUSED, TOO_LARGE):
-        cases[name] = (first, second), message
-    return cases
+# Each case by its name: the texts of its files, and what is said of the last, if anything.
+CASES: dict[str, tuple[tuple[str, ...], str | None]] = {}
+CASES |= {name: ((text,), message) for name, (text, message) in FILES.items()}
+CASES |= {name: ((first, second), message) for name, (first, second, message) in PAIRS.items()}
 
 
 def change(text: str, chance: random.Random) -> str:
@@ -217,20 +206,15 @@ def change(text: str, chance: random.Random) -> str:
     return "\n".join(rows)
 
 
-def wanted_of_texts(texts: Sequence[str]) -> Answer:
-    """How psi_merge has to end on files 0.csv, 1.csv, .. with these texts, as merge_reports.py says:
-    the status and both texts.
-    """
-    with tempfile.TemporaryDirectory(prefix="try-merges-") as folder:
-        files = [pathlib.Path(folder, f"{place}.csv") for place in range(len(texts))]
-        for file, text in zip(files, texts):
-            file.write_bytes(text.encode())
-        status, out, message = ending_in_python(files)
-        line = f"psi_merge: {message}\n".replace(f"{folder}/", "") if message else ""
-        return status, out, line.encode()
+def wanted_of(files: Mapping[str, bytes]) -> Answer:
+    """How psi_merge has to end on files, as merge_reports.py says: the status and both texts."""
+    with tempfile.TemporaryDirectory() as folder, contextlib.chdir(folder):
+        write(folder, files)
+        status, out, message = ending_in_python([*files])
+    return status, out, f"psi_merge: {message}\n".encode() if message else b""
 
 
-def ending_in_python(files: Sequence[pathlib.Path]) -> tuple[int, bytes, str]:
+def ending_in_python(files: Sequence[object]) -> tuple[int, bytes, str]:
     """The status of a merge by the tool, what it prints, and what it says, without a process."""
     try:
         return 0, merge_reports.merged(map(str, files)).text(), ""

@@ -6,7 +6,7 @@ import subprocess
 import tempfile
 from collections.abc import Mapping, Sequence
 
-from tests.support import Answer, write
+from tests.support import Answer, answer, write
 
 SECONDS = 20
 # More growths than any call here makes.
@@ -34,21 +34,12 @@ class Refusing:
     def run(self, words: Sequence[str], folder: str, first: int = 0, last: int | None = None) -> tuple[Answer, bool]:
         """How a run ends, its status and both texts, and whether a growth was refused."""
         read, write = os.pipe()
+        bounds = {"LD_PRELOAD": self.library, "REFUSE_FROM": str(first), "REFUSE_TOLD": str(write)}
+        if last is not None:
+            bounds["REFUSE_TO"] = str(last)
         with open(read, "rb") as notes:
-            bounds = {"REFUSE_FROM": str(first), "REFUSE_TOLD": str(write)}
-            if last is not None:
-                bounds["REFUSE_TO"] = str(last)
             try:
-                done = subprocess.run(
-                    [self.program, *words],
-                    cwd=folder,
-                    stdin=subprocess.DEVNULL,
-                    capture_output=True,
-                    env={"LD_PRELOAD": self.library, **bounds},
-                    pass_fds=[write],
-                    timeout=SECONDS,
-                )
-                end = (done.returncode, done.stdout, done.stderr)
+                end = answer([self.program, *words], folder, SECONDS, env=bounds, pass_fds=[write])
             except subprocess.TimeoutExpired:
                 end = NO_END
             finally:

@@ -9,11 +9,15 @@ with status 8, nothing on standard output and just the line `out of memory` on s
 exactly as with ample memory, within a time limit. The first growths are those for the words
 themselves, as many as words of the same lengths take that are no command, since these take no
 other: where one of them is refused, the status has to be 8, and nothing is written.
+
+No call that is to take no memory takes some: the program psi_test_memory is run where the allocation
+of one number is refused, once with each such call and once with none, and prints the same.
 """
 
 import concurrent.futures
 import os
 import pathlib
+import re
 from collections.abc import Iterator
 
 import pytest
@@ -23,7 +27,7 @@ from generate.case_files import Case
 from psi_tools.model.networks import Network
 from tests import merges
 from tests.refusing import Call, Refusing
-from tests.support import Expectations, built, write
+from tests.support import TOP, Expectations, answer_as_text, built, write
 
 # For each command the words that are tried on each network, and cases by their files.
 COMMANDS = {
@@ -79,8 +83,7 @@ def calls(refusing: Refusing, folder: pathlib.Path, command: str) -> Iterator[Ca
     """The calls of a command."""
     pattern, line = COMMANDS[command]
     for case in cases(line):
-        wanted = case.status, case.out, case.err
-        yield Call(refusing, case.words, case.files, wanted)
+        yield Call(refusing, case.words, case.files, (case.status, case.out, case.err))
     if not pattern:
         return
     files = [case.files["net.toml"] for line in NETWORKS for case in cases(line)] + [ring()]
@@ -96,11 +99,9 @@ def calls(refusing: Refusing, folder: pathlib.Path, command: str) -> Iterator[Ca
 
 def calls_of_merges(refusing: Refusing) -> Iterator[Call]:
     """The calls of psi_merge; what is wanted of several reports, merge_reports.py says."""
-    cases_of = merges.all_cases()
     for name in MERGES:
-        texts, _ = cases_of[name]
-        files = {f"{place}.csv": text.encode() for place, text in enumerate(texts)}
-        yield Call(refusing, [*files], files, merges.wanted_of_texts(texts))
+        files = {f"{place}.csv": text.encode() for place, text in enumerate(merges.CASES[name][0])}
+        yield Call(refusing, [*files], files, merges.wanted_of(files))
 
 
 def try_calls(expect: Expectations, calls: list[Call]) -> None:
@@ -120,3 +121,14 @@ def test_memory_refused(program: str, library: str, expect: Expectations, tmp_pa
 
 def test_memory_refused_to_merges(program: str, library: str, expect: Expectations) -> None:
     try_calls(expect, [*calls_of_merges(Refusing("psi_merge", built(program, "psi_merge"), library))])
+
+
+@pytest.mark.slow
+@pytest.mark.needs("rt")
+@pytest.mark.xdist_group("rt")
+def test_no_call_takes_memory() -> None:
+    data = [word for name in ("net", "pair", "ring", "fork") for word in ("--data", f"{name}.toml=data/{name}.toml")]
+    words = ["rt", "try", *data, "--fail-alloc", "1000", "--cases", "words"]
+    _, out, err = answer_as_text(words, TOP / "crates/psi_test_memory", 1_800)
+    given = re.findall(r"^\d+ are given$", out + err, re.M)
+    assert len(given) == 2 and len({*given}) == 1, out + err

@@ -4,7 +4,6 @@ some hundred reports that are changed somewhere, of which both have to say the s
 
 import pathlib
 import random
-import subprocess
 import sys
 from collections.abc import Mapping, Sequence
 
@@ -12,13 +11,12 @@ import pytest
 
 from tests import merges
 from tests.merges import BASE, SAMPLES, changed
-from tests.support import TOOLS, Expectations, built
+from tests.support import TOOLS, TOP, Expectations, answer, built
 
 CHANGED = 400
 # The status, what is printed, and what is said without the program's name.
 Ending = tuple[int, bytes, str]
 STATUSES = {"refused": 3, "other": 4, "too": 5, "cannot": 6}
-CASES = merges.all_cases()
 
 
 @pytest.fixture(params=("psi_merge", "merge_reports.py"))
@@ -31,9 +29,8 @@ def merger(request: pytest.FixtureRequest, program: str) -> list[str]:
 
 def ending_of(program: Sequence[str], files: Sequence[object]) -> Ending:
     """The status of a merge, what it prints, and what it says without its name."""
-    done = subprocess.run([*program, *map(str, files)], capture_output=True)
-    message = done.stderr.decode(errors="replace")
-    return done.returncode, done.stdout, message.partition(": ")[2].removesuffix("\n")
+    status, out, err = answer([*program, *files], TOP)
+    return status, out, err.decode(errors="replace").partition(": ")[2].removesuffix("\n")
 
 
 def refusal(message: str, file: pathlib.Path) -> Ending:
@@ -49,17 +46,14 @@ def written(folder: pathlib.Path, texts: Mapping[str, str]) -> list[pathlib.Path
     return files
 
 
-@pytest.mark.parametrize("name", CASES)
+@pytest.mark.parametrize("name", merges.CASES)
 def test_a_merge(merger: list[str], tmp_path: pathlib.Path, name: str) -> None:
     """The refusal of the last file, or the report of all, which of one file is its text."""
-    texts, message = CASES[name]
+    texts, message = merges.CASES[name]
     files = written(tmp_path, {str(place): text for place, text in enumerate(texts)})
-    status, out, err = ending_of(merger, files)
-    if message:
-        assert (status, out, err) == refusal(message, files[-1])
-    else:
-        assert (status, err) == (0, "")
-        assert len(texts) > 1 or out == texts[0].encode()
+    ended = ending_of(merger, files)
+    report = texts[0].encode() if len(texts) == 1 else ended[1]
+    assert ended == (refusal(message, files[-1]) if message else (0, report, ""))
 
 
 WRONG, OTHER = changed({7: "sum,a,14"}), changed({13: None, 14: None, 15: None})
