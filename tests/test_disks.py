@@ -8,6 +8,7 @@ printed.
 It wants a system with /dev/full, /dev/zero and named pipes, and the commands `sh` and `head`.
 """
 
+import dataclasses
 import os
 import pathlib
 import pty
@@ -26,14 +27,15 @@ import pytest
 from psi_tools.model.networks import Network
 from tests import merges
 from tests.gallery import runs_of_document, runs_of_gallery
-from tests.support import EXAMPLES, SECONDS, TOP, Expectations, beside
+from tests.support import EXAMPLES, SECONDS, TOP, Expectations, beside, write
 
 # A status and both texts, where a text is None that goes elsewhere; and what else is looked at.
 End = tuple[Any, ...]
 # What a run is, the ends that it may have, and its end.
 Case = tuple[str, list[End], End]
 
-NOBODY = 65_534
+# The options of a run by a user without rights.
+NOBODY: dict[str, Any] = {} if os.geteuid() else {"user": 65_534, "group": 65_534, "extra_groups": []}
 PLACES = 16_383
 NO_NETWORK = (6, b"", b"psi: cannot read network\n")
 NO_LOG = (6, b"", b"psi: cannot read log\n")
@@ -52,9 +54,7 @@ REFUSALS = (
 REPORT = merges.BASE.encode()
 NO_FILES = (2, b"", b"psi_merge: usage: psi_merge FILE..\n")
 WRONG_REPORT = (3, b"", b"psi_merge: refused 3 Samples line 7 wrong.csv\n")
-LONG_REPORT = (3, b"", b"psi_merge: refused 0 TooLong line 0 %s\n")
-
-
+LONG_REPORT = (3, b"", b"psi_merge: refused 0 TooLong line 0 /dev/zero\n")
 # Words, one of which will not be UTF-8.
 WORDS = [["sample", "filling.toml", "0", "0", "log"]]
 WORDS_OF_MERGES = [["report.csv"], ["report.csv", "report.csv"]]
@@ -72,7 +72,7 @@ REFUSED_MERGES: tuple[tuple[list[str], End], ...] = (
     (["absent", "wrong.csv"], no_report("absent")),
     (["report.csv", "absent"], no_report("absent")),
     (["wrong.csv", "absent"], WRONG_REPORT),
-    (["report.csv", "/dev/zero", "absent"], (3, b"", LONG_REPORT[2] % b"/dev/zero")),
+    (["report.csv", "/dev/zero", "absent"], LONG_REPORT),
 )
 
 
@@ -85,31 +85,28 @@ def filling_log() -> bytes:
     """The log of its sample by the rules of the guide: each step moves the lower end of the box,
     and the last one begins with a single state.
     """
-    steps = PLACES + 1
-    lines = ["psi-log 2", "queues 1", "seed 0", "stream 0", f"horizon {steps}"]
-    lines.append(f"begin box 0 {PLACES}")
-    for low in range(1, steps):
-        lines.append(f"step {steps - low + 1} 0 move 0,{low},{PLACES}")
+    lines = ["psi-log 2", "queues 1", "seed 0", "stream 0", f"horizon {PLACES + 1}", f"begin box 0 {PLACES}"]
+    lines += [f"step {PLACES + 2 - low} 0 move 0,{low},{PLACES}" for low in range(1, PLACES + 1)]
     return "\n".join([*lines, f"step 1 0 set {PLACES}", f"end {PLACES}", ""]).encode()
 
 
+@dataclasses.dataclass
 class Tried:
     """A program: its path, words whose answer goes to standard output, with its front, words whose answer is a line
     on standard error, with their end, words that name a file `pieces`, with the data and sizes of pieces and
     their end, and words of which each is to be another one."""
 
-    def __init__(self, path: str, folder: pathlib.Path) -> None:
-        self.path, self.folder = path, folder
-        self.answers: list[tuple[list[str], bytes]] = []
-        self.refusals: Sequence[tuple[list[str], End]] = ()
-        self.pieces: Sequence[tuple[list[str], bytes, tuple[int, ...], End]] = ()
-        self.words: list[list[str]] = []
+    path: str
+    answers: list[tuple[list[str], bytes]]
+    refusals: Sequence[tuple[list[str], End]]
+    pieces: Sequence[tuple[list[str], bytes, tuple[int, ...], End]]
+    words: list[list[str]]
 
     def run(self, words: Sequence[str | bytes], **more: Any) -> End:
         """The status of a run and both its texts; a text is None where it goes elsewhere."""
         pipes: dict[str, Any] = {"stdout": subprocess.PIPE, "stderr": subprocess.PIPE, **more}
         call = [self.path, *words]
-        done = subprocess.run(call, cwd=self.folder, stdin=subprocess.DEVNULL, timeout=SECONDS, **pipes)
+        done = subprocess.run(call, cwd=os.path.dirname(self.path), stdin=subprocess.DEVNULL, timeout=SECONDS, **pipes)
         return done.returncode, done.stdout, done.stderr
 
 
@@ -117,42 +114,33 @@ class Place:
     """The programs, and a folder with the files that they are run on."""
 
     def __init__(self, program: str, folder: pathlib.Path) -> None:
-        self.folder = folder
-        self.folder.chmod(0o755)
+        self.folder, self.log, wrong = folder, filling_log(), merges.changed({7: "sum,a,14"}).encode()
+        folder.chmod(0o755)
         for file in EXAMPLES.glob("*.toml"):
-            shutil.copy(file, self.folder)
-        self.write("filling.toml", filling_network())
-        self.log = filling_log()
-        self.write("filling.log", self.log)
-        self.write("report.csv", REPORT)
-        self.write("wrong.csv", merges.changed({7: "sum,a,14"}).encode())
-        (self.folder / "folder").mkdir()
-        (self.folder / "loop").symlink_to("loop")
-        self.write("locked", filling_network())
-        (self.folder / "locked").chmod(0)
+            shutil.copy(file, folder)
+        write(folder, {"filling.toml": filling_network(), "filling.log": self.log, "locked": filling_network()})
+        write(folder, {"report.csv": REPORT, "wrong.csv": wrong})
+        (folder / "folder").mkdir()
+        (folder / "loop").symlink_to("loop")
+        (folder / "locked").chmod(0)
         self.accepted = (0, b"accepted %d\nstate %d\n" % (PLACES + 1, PLACES), b"")
-        self.psi = self.program_of("psi", program)
-        self.psi.answers = [*self.shown(), (["sample", "filling.toml", "0", "0", "log"], self.log)]
-        self.psi.answers += [(["replay", "filling.toml", "filling.log"], self.accepted[1])]
-        self.psi.refusals, self.psi.words = REFUSALS, WORDS
-        self.psi.pieces = (
+        answers = [*self.shown(), (["sample", "filling.toml", "0", "0", "log"], self.log)]
+        answers += [(["replay", "filling.toml", "filling.log"], self.accepted[1])]
+        pieces = (
             (["replay", "pieces", "filling.log"], filling_network(), (1, 7, 4_096), self.accepted),
             (["replay", "filling.toml", "pieces"], self.log, (31, 8_191, 100_000), self.accepted),
         )
-        self.programs = {"psi": self.psi}
+        self.programs = {"psi": Tried(self.copied("psi", program), answers, REFUSALS, pieces, WORDS)}
         if merger := beside(program, "psi_merge"):
-            self.programs["psi_merge"] = own = self.program_of("psi_merge", merger)
-            own.answers, own.refusals, own.words = [(["report.csv"], REPORT)], REFUSED_MERGES, WORDS_OF_MERGES
-            own.pieces = ((["pieces"], REPORT, (1, 7, 4_096), (0, REPORT, b"")),)
+            path, merged = self.copied("psi_merge", merger), [(["report.csv"], REPORT)]
+            reports = ((["pieces"], REPORT, (1, 7, 4_096), (0, REPORT, b"")),)
+            self.programs["psi_merge"] = Tried(path, merged, REFUSED_MERGES, reports, WORDS_OF_MERGES)
 
-    def program_of(self, name: str, program: str | pathlib.Path) -> Tried:
+    def copied(self, name: str, program: str | pathlib.Path) -> str:
         """A program, where a user without rights may run it."""
-        shutil.copyfile(program, self.folder / name)
-        (self.folder / name).chmod(0o755)
-        return Tried(str(self.folder / name), self.folder)
-
-    def write(self, name: str, data: bytes) -> None:
-        (self.folder / name).write_bytes(data)
+        path = shutil.copyfile(program, self.folder / name)
+        path.chmod(0o755)
+        return str(path)
 
     def shown(self) -> Iterator[tuple[list[str], bytes]]:
         """Runs that the documents show, one of each command: the words, and the whole text, or its
@@ -176,8 +164,7 @@ def full_devices(place: Place, tried: Tried) -> Iterator[Case]:
             got = tried.run(words, stdout=full, stderr=full)
             yield f"{words} with no room for anything", [(7, None, None)], got
         for words, (status, _, line) in tried.refusals:
-            got = tried.run(words, stderr=full)
-            yield f"{words} and no room for the line", [(7, b"", None)], got
+            yield f"{words} and no room for the line", [(7, b"", None)], tried.run(words, stderr=full)
             got = tried.run(words, stdout=full)
             yield f"{words} with nothing for the full device", [(status, None, line)], got
 
@@ -227,8 +214,7 @@ def slow_pipes(place: Place, psi: Tried) -> Iterator[Case]:
             assert running.stdout
             end = running.stdout.fileno()
             text = b"".join(iter(lambda: os.read(end, most), b""))
-        ended = (running.returncode, text, b"")
-        yield f"a log that is read by {most} bytes", [(0, place.log, b"")], ended
+        yield f"a log that is read by {most} bytes", [(0, place.log)], (running.returncode, text)
     read, write = os.pipe()
     os.set_blocking(write, False)
     got = psi.run(["sample", "filling.toml", "0", "0", "log"], stdout=write)
@@ -236,8 +222,7 @@ def slow_pipes(place: Place, psi: Tried) -> Iterator[Case]:
     with open(read, "rb") as pipe:
         taken = pipe.read()
     wanted = (7, None, b"", place.log[: len(taken)], True)
-    what = "a log for a pipe that takes no more"
-    yield what, [wanted], (*got, taken, 0 < len(taken) < len(place.log))
+    yield "a log for a pipe that takes no more", [wanted], (*got, taken, 0 < len(taken) < len(place.log))
 
 
 def terminals(place: Place, psi: Tried) -> Iterator[Case]:
@@ -253,19 +238,12 @@ def terminals(place: Place, psi: Tried) -> Iterator[Case]:
         yield f"{words} on a terminal that is gone", [(7, None, b"")], got
 
 
-def close_others() -> None:
-    """Closes standard input and standard error."""
-    os.close(0)
-    os.close(2)
-
-
 def closed_outputs(place: Place, tried: Tried) -> Iterator[Case]:
     for words, text in tried.answers:
         got = tried.run(words, preexec_fn=lambda: os.close(1))
         yield f"{words} with standard output closed", [(7, b"", b"")], got
-        status, out, err = tried.run(words, preexec_fn=close_others)
-        got = (status, out[: len(text)], err)
-        yield f"{words} with the others closed", [(0, text, b"")], got
+        status, out, err = tried.run(words, preexec_fn=lambda: [*map(os.close, (0, 2))])
+        yield f"{words} with the others closed", [(0, text, b"")], (status, out[: len(text)], err)
     for words, wanted in tried.refusals:
         got = tried.run(words, preexec_fn=lambda: os.close(2))
         yield f"{words} with standard error closed", [(7, b"", b"")], got
@@ -316,7 +294,7 @@ def growing(place: Place, psi: Tried) -> Iterator[Case]:
     )
     for words, data, other in runs:
         for piece in (b"\n", b"\n" * 4_096):
-            place.write("grown", data)
+            write(place.folder, {"grown": data})
             ended = threading.Event()
             writer = threading.Thread(target=append, args=(place.folder / "grown", piece, ended))
             writer.start()
@@ -326,11 +304,6 @@ def growing(place: Place, psi: Tried) -> Iterator[Case]:
             yield f"{words} that grow", [place.accepted, other, LONG_LOG], got
 
 
-def nobody() -> dict[str, Any]:
-    """The options of a run by a user without rights."""
-    return {"user": NOBODY, "group": NOBODY, "extra_groups": []} if os.geteuid() == 0 else {}
-
-
 def unreadable(place: Place, psi: Tried) -> Iterator[Case]:
     longest = "./" * 2_041 + "filling.toml"
     names = ["folder", "locked", "loop", "absent", "", "filling.toml/below", "folder/absent"]
@@ -338,19 +311,16 @@ def unreadable(place: Place, psi: Tried) -> Iterator[Case]:
     for name in names:
         shown = f"{name[:20]!r} of {len(name)} bytes"
         for words in (["check", name], ["sample", name, "0", "0", "log"], ["replay", name, name]):
-            got = psi.run(words, **nobody())
-            yield f"{words[0]} of a network {shown}", [NO_NETWORK], got
-        got = psi.run(["replay", "filling.toml", name], **nobody())
-        yield f"replay of a log {shown}", [NO_LOG], got
-    got = psi.run(["replay", "./" * 2_041 + "/" + "filling.toml", "filling.log"], **nobody())
+            yield f"{words[0]} of a network {shown}", [NO_NETWORK], psi.run(words, **NOBODY)
+        yield f"replay of a log {shown}", [NO_LOG], psi.run(["replay", "filling.toml", name], **NOBODY)
+    got = psi.run(["replay", "./" * 2_041 + "/" + "filling.toml", "filling.log"], **NOBODY)
     yield "the longest name", [place.accepted], got
 
 
 def endless(place: Place, psi: Tried) -> Iterator[Case]:
     for words in (["check", "/dev/zero"], ["replay", "/dev/zero", "/dev/zero"]):
         yield f"{words} without end", [LONG_NETWORK], psi.run(words)
-    got = psi.run(["replay", "filling.toml", "/dev/zero"])
-    yield "a log without end", [LONG_LOG], got
+    yield "a log without end", [LONG_LOG], psi.run(["replay", "filling.toml", "/dev/zero"])
 
 
 def wrong_words(place: Place, tried: Tried) -> Iterator[Case]:
@@ -365,8 +335,7 @@ def unreadable_reports(place: Place, merger: Tried) -> Iterator[Case]:
     for name in ("folder", "locked", "loop", "absent", "", "report.csv/below", "x" * 4_096):
         shown = f"{name[:20]!r} of {len(name)} bytes"
         for words in ([name], ["report.csv", name], [name, "wrong.csv"]):
-            got = merger.run(words, **nobody())
-            yield f"a merge of {shown}, one of {len(words)}", [no_report(name)], got
+            yield f"a merge of {shown}, one of {len(words)}", [no_report(name)], merger.run(words, **NOBODY)
 
 
 OF_BOTH = full_devices, pipes_without_reader, closed_outputs, refusals, pieces, wrong_words
