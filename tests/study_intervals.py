@@ -18,10 +18,9 @@ import collections
 import itertools
 import os
 import pathlib
-import re
 import statistics
 import sys
-from collections.abc import Iterable, Iterator
+from collections.abc import Collection, Iterable, Iterator, Mapping
 from typing import Any
 
 TOP = pathlib.Path(__file__).resolve().parent.parent
@@ -44,7 +43,7 @@ from psi_tools.model.designs import aligned, designs_of
 from psi_tools.draw.reports import reports_of
 from psi_tools.draw.streams import blocks_of
 from psi_tools.io.reports import Report
-from psi_tools.stats.intervals import Mean, Span, Sums, difference_of_batches
+from psi_tools.stats.intervals import Mean, Sums, difference_of_batches
 from psi_tools.stats.spans import Row, Spans
 from psi_tools.model.networks import Network
 from psi_tools.draw.program import Program
@@ -124,16 +123,19 @@ def batches_from(net: Network, columns: list[tuple[str, str, Values]], lost: Val
     return found.of_network(net)
 
 
-def law_from(net: Network, name: str, values: Values, lost: Values | None = None) -> laws.Law:
-    """The law that psi-law would have of some values."""
-    numbers, counts = numpy.unique(values if lost is None else values[~lost], return_counts=True)
-    unknown = 0 if lost is None else int(lost.sum())
-    pairs = [(int(number), int(count)) for number, count in zip(numbers, counts)]
-    return laws.Law(name, "value", pairs, unknown, spans_of_name(Spans(net, {}), name))
+def law_from(
+    net: Network, name: str, counts: Mapping[int, int], unknown: int = 0, seen: Collection[int] = ()
+) -> laws.Law:
+    """The law that psi-law has of a row, by how many samples have each value; of the queue these numbers are seen."""
+    spans = Spans(net, {"q": (min(seen), max(seen))} if seen else {})
+    pairs = [(value, count) for value, count in sorted(counts.items()) if count]
+    return laws.Law(name, "value", pairs, unknown, spans.of_queue(name) if name == "q" else spans.of_reward(name))
 
 
-def spans_of_name(spans: Spans, name: str) -> Span:
-    return spans.of_queue(name) if name == "q" else spans.of_reward(name)
+def counted(values: Values) -> dict[int, int]:
+    """How many of some values have each value."""
+    numbers, counts = numpy.unique(values, return_counts=True)
+    return dict(zip(numbers.tolist(), counts.tolist()))
 
 
 def single(
@@ -151,11 +153,7 @@ def single(
         columns = [("", "q", numbers)] + ([("reward-", "r", values)] if reward else [])
         batches = batches_from(net, columns)
         tallies[0].take(batches.mean(batches.rows[-1]))
-        row = "r" if reward else "q"
-        found = law_from(net, row, values)
-        spans = Spans(net, {"q": (int(numbers.min()), int(numbers.max()))})
-        found.span = spans_of_name(spans, row)
-        tallies[1].take(found.mean())
+        tallies[1].take(law_from(net, "r" if reward else "q", counted(values), seen=counted(numbers)).mean())
     return tallies
 
 
@@ -192,7 +190,7 @@ def uncoupled(draw: numpy.random.Generator) -> list[Tally]:
         lost = draw.random(values.shape) < chance[values]
         batches = batches_from(net, [("", "q", values)], lost)
         tallies[0].take(batches.mean(batches.rows[0]))
-        tallies[1].take(law_from(net, "q", values, lost).mean())
+        tallies[1].take(law_from(net, "q", counted(values[~lost]), int(lost.sum())).mean())
     return tallies
 
 
@@ -231,12 +229,9 @@ def solved(net: Network) -> list[float]:
 def with_rewards(load: float, capacity: int) -> Network:
     """A queue with a rare reward of 0 and 1, one of 0 and 1,000, and a skewed one."""
     net = queue_of(load, capacity)
-    for name, table in (
-        ("rare, 0 and 1", rare(capacity, 1)),
-        ("skewed, 4^n", fours(capacity)),
-        ("rare, 0 and 1,000", rare(capacity, 1_000)),
-    ):
-        net.reward(re.sub("[^a-z0-9]+", "-", name), "table", ["q"], table=[table])
+    rows = {"rare-0-and-1": rare(capacity, 1), "skewed-4-n": fours(capacity), "rare-0-and-1-000": rare(capacity, 1_000)}
+    for name, row in rows.items():
+        net.reward(name, "table", ["q"], table=[row])
     return net
 
 
@@ -279,10 +274,7 @@ def law_of_row(net: Network, name: str, numbers: dict[int, int], unknown: int) -
     counts: collections.Counter[int] = collections.Counter()
     for number, count in numbers.items():
         counts[tables[name][number] if name in tables else number] += count
-    seen = [number for number, count in numbers.items() if count]
-    spans = Spans(net, {"q": (min(seen), max(seen))})
-    pairs = [(value, count) for value, count in sorted(counts.items()) if count]
-    return laws.Law(name, "value", pairs, unknown, spans_of_name(spans, name))
+    return law_from(net, name, counts, unknown, numbers)
 
 
 def swept(psi: Program) -> Tally:
