@@ -35,8 +35,7 @@ pytestmark = [pytest.mark.needs("rt"), pytest.mark.xdist_group("rt")]
 def first_answer(words: list[str], data: bytes = b"") -> tuple[int, bytes, list[bytes]]:
     """The status of a run, its text, and the lines on standard error after the first, which says that
     nothing is proved."""
-    call = [str(TOOLS / "psi-first"), *words]
-    done = subprocess.run(call, cwd=TOP, input=data, capture_output=True)
+    done = subprocess.run([TOOLS / "psi-first", *words], cwd=TOP, input=data, capture_output=True)
     claim, *lines = done.stderr.splitlines()
     assert CLAIM in claim
     return done.returncode, done.stdout, lines
