@@ -315,22 +315,25 @@ def description(net: Network) -> str:
     return "".join(line + "\n" for line in lines)
 
 
+def answer(net: Network, command: str, *words: str) -> tuple[int, str]:
+    """The status and the text of a command with these words."""
+    if command == "reward":
+        return value(net, int(words[0]), int(words[1]), words[2])
+    commands: dict[str, Callable[..., tuple[int, str]]] = {
+        "check": lambda net: (0, description(net)),
+        "report": lambda *of: (0, report(*of)),
+        "sample": sample,
+        "couple": couple,
+        "exact": exact,
+        "closed": closed,
+    }
+    return commands[command](net, *map(int, words))
+
+
 def main() -> int:
     command, file, *words = sys.argv[1:]
-    name = words.pop() if command == "reward" else ""
     with open(file, "rb") as network:
-        net = Network(tomllib.load(network))
-    numbers = list(map(int, words))
-    commands: dict[str, Callable[..., tuple[int, str]]] = {
-        "check": lambda: (0, description(net)),
-        "sample": functools.partial(sample, net),
-        "report": lambda *of: (0, report(net, *of)),
-        "couple": functools.partial(couple, net),
-        "reward": lambda seed, stream: value(net, seed, stream, name),
-        "exact": functools.partial(exact, net),
-        "closed": functools.partial(closed, net),
-    }
-    status, text = commands[command](*numbers)
+        status, text = answer(Network(tomllib.load(network)), command, *words)
     print(text, end="")
     return status
 

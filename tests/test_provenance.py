@@ -55,14 +55,6 @@ def test_tables_are_made_again(tmp_path: pathlib.Path) -> None:
         assert (tmp_path / name).read_bytes() == (SWEEP / name).read_bytes(), name
 
 
-def network_of(case: Case) -> Network | None:
-    """The network of a case, where it is small enough for the plain program."""
-    if case.status not in ANSWERED or case.words[1] not in case.files:
-        return None
-    net = Network(tomllib.loads(case.files[case.words[1]].decode()))
-    return net if math.prod(cap + 1 for cap in net.caps) <= MOST_STATES else None
-
-
 def steps_of(case: Case, net: Network) -> float:
     """About how many states the plain program follows for the answer of a case."""
     states, limit = math.prod(cap + 1 for cap in net.caps), 1 << net.limit
@@ -80,27 +72,13 @@ def steps_of(case: Case, net: Network) -> float:
     return states * horizon * (horizon if kind == "couple" else 2)
 
 
-def wanted(case: Case, net: Network) -> tuple[int, str]:
-    """What the plain program answers."""
-    command, _, *words = case.words
-    if command == "check":
-        return 0, plain.description(net)
-    if command == "reward":
-        return plain.value(net, int(words[0]), int(words[1]), words[2])
-    numbers = [*map(int, words)]
-    if command == "report":
-        return 0, plain.report(net, *numbers)
-    calls = {"sample": plain.sample, "couple": plain.couple, "exact": plain.exact, "closed": plain.closed}
-    status, text = calls[command](net, *numbers)  # type: ignore[operator]
-    return status, text
-
-
 def small_cases(name: str) -> Iterator[tuple[Case, Network]]:
     """The cases of a file that the plain program answers in little time, with their networks."""
     for case in cases(name):
-        net = network_of(case)
-        if net and steps_of(case, net) <= MOST_STEPS:
-            yield case, net
+        if case.status in ANSWERED and case.words[1] in case.files:
+            net = Network(tomllib.loads(case.files[case.words[1]].decode()))
+            if math.prod(cap + 1 for cap in net.caps) <= MOST_STATES and steps_of(case, net) <= MOST_STEPS:
+                yield case, net
 
 
 # How many cases of each command are compared at least.
@@ -112,9 +90,9 @@ OUTSIDE = {"check": 56, "sample": 150, "report": 78, "couple": 56, "reward": 54,
 def test_answers_from_outside(expect: Expectations, command: str) -> None:
     assert SOURCE[f"{command}.cases"][0] == "outside"
     for case, net in small_cases(f"{command}.cases"):
-        status, text = wanted(case, net)
+        wanted = plain.answer(net, command, *case.words[2:])
         found = (case.status, (case.out + case.err).decode())
-        expect(found == (status, text), f"{case.name}: {found}, and not {(status, text)}")
+        expect(found == wanted, f"{case.name}: {found}, and not {wanted}")
     expect(expect.count >= OUTSIDE[command], f"only {expect.count} cases are compared")
 
 
@@ -132,16 +110,13 @@ def test_logs_from_outside(expect: Expectations, tmp_path: pathlib.Path, share: 
     """What the checker, which stands apart, says of each log; of those that are written it says that they
     are right."""
     for case in itertools.islice(itertools.chain(cases("replay.cases"), cases("log.cases")), share, None, 4):
-        words, files = case.words[1:], dict(case.files)
-        is_log = case.words[0] == "sample"
+        words, is_log = case.words[1:], case.words[0] == "sample"
         if is_log and case.status != 0 or case.status in (3, 6, 8):
             continue
+        write(tmp_path, {**case.files, "written.log": case.out})
+        status, out, err = answer([*CHECKER, *([words[0], "written.log"] if is_log else words)], tmp_path)
         if is_log:
-            words, files = [words[0], "written.log"], {**files, "written.log": case.out}
-        write(tmp_path, files)
-        status, out, err = answer([*CHECKER, *words], tmp_path)
-        if is_log:
-            state = case.out.split()[-1]
-            expect(status == 0 and out.split()[-1] == state, f"{case.name}: {out!r} {err!r}")
+            is_right = status == 0 and out.split()[-1] == case.out.split()[-1]
         else:
-            expect((status, out, err) == (case.status, case.out, case.err), f"{case.name}: {out!r} {err!r}")
+            is_right = (status, out, err) == (case.status, case.out, case.err)
+        expect(is_right, f"{case.name}: {out!r} {err!r}")
