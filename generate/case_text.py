@@ -5,8 +5,10 @@ table of a network: `shared` writes so what `case` has written.
 """
 
 import collections
+import itertools
 import re
 import sys
+import textwrap
 from collections.abc import Callable, Iterable, Iterator, Mapping, Sequence
 
 from generate.case_files import Texts
@@ -155,25 +157,13 @@ class _Shared:
 
 def _used(names: Iterable[bytes]) -> list[bytes]:
     """The lines that put these names."""
-    lines: list[bytes] = []
-    for name in names:
-        if lines and len(lines[-1]) + len(name) < WIDTH:
-            lines[-1] += b" " + name
-        else:
-            lines.append(b"use " + name)
-    return lines
+    return [b"use " + line.encode() for line in textwrap.wrap(b" ".join(names).decode(), WIDTH - len("use "))]
 
 
 def _blocks(lines: Iterable[bytes]) -> Iterator[Lines]:
     """Lines, those of one text together."""
-    block: list[bytes] = []
-    for line in lines:
-        if not TEXT.match(line) or block and not TEXT.match(block[0]):
-            if block:
-                yield tuple(block)
-            block = []
-        block.append(line)
-    yield tuple(block)
+    for is_text, some in itertools.groupby(lines, key=lambda line: bool(TEXT.match(line))):
+        yield from [tuple(some)] if is_text else ((line,) for line in some)
 
 
 def shared(data: bytes) -> bytes:

@@ -5,12 +5,11 @@ length.
 
 import bisect
 from collections.abc import Callable, Iterable, Iterator, Mapping, Sequence
-from typing import Any
+from itertools import repeat
 
+from generate.small_networks import Entry
 from generate.toml_text import table
 
-# The keys of a table of a network.
-Entry = dict[str, Any]
 MOST_NETWORK = 1_048_576
 MOST_LOG = 33_554_432
 MOST_STEPS = 4_194_304
@@ -29,11 +28,6 @@ def filled(front: str, pieces: Iterable[str], back: str = "", most: int = MOST_N
     return "".join([*kept, back])
 
 
-def repeated(front: str, piece: str, back: str = "") -> str:
-    count = (MOST_NETWORK - len(front) - len(back)) // len(piece)
-    return front + count * piece + back
-
-
 def refused() -> Iterator[tuple[str, str]]:
     """Documents that are no network, by what they are full of."""
     down = ".a" * DEPTH
@@ -41,18 +35,18 @@ def refused() -> Iterator[tuple[str, str]]:
     yield "headers", filled("", (f"[{place:x}{down}]\n" for place in range(1 << 20)))
     yield "a dotted key of two parts", filled("", (f"{place:x}.a=1\n" for place in range(1 << 20)))
     yield "keys", filled("", (f"{place:x}=1\n" for place in range(1 << 20)))
-    yield "array headers", repeated("", "[[a]]\n")
-    yield "array headers and keys", repeated("", "[[a]]\na=1\n")
-    yield "tables in braces", repeated("a=[", "{a=1},", "]")
-    yield "dotted keys in braces", repeated("a=[", "{a" + ".a" * (DEPTH - 3) + "=1},", "]")
-    yield "braces in braces", repeated("a=[", 78 * "{a=" + "1" + 78 * "}" + ",", "]")
-    yield "empty arrays", repeated("a=[", "[],", "]")
-    yield "arrays in arrays", repeated("a=[", 78 * "[" + 78 * "]" + ",", "]")
-    yield "numbers", repeated("a=[", "1,", "]")
-    yield "strings", repeated("a=[", '"",', "]")
-    yield "escapes", repeated('a="', "\\t", '"')
-    yield "one name", repeated("", "a")
-    yield "a comment", repeated("#", "a")
+    yield "array headers", filled("", repeat("[[a]]\n"))
+    yield "array headers and keys", filled("", repeat("[[a]]\na=1\n"))
+    yield "tables in braces", filled("a=[", repeat("{a=1},"), "]")
+    yield "dotted keys in braces", filled("a=[", repeat("{a" + ".a" * (DEPTH - 3) + "=1},"), "]")
+    yield "braces in braces", filled("a=[", repeat(78 * "{a=" + "1" + 78 * "}" + ","), "]")
+    yield "empty arrays", filled("a=[", repeat("[],"), "]")
+    yield "arrays in arrays", filled("a=[", repeat(78 * "[" + 78 * "]" + ","), "]")
+    yield "numbers", filled("a=[", repeat("1,"), "]")
+    yield "strings", filled("a=[", repeat('"",'), "]")
+    yield "escapes", filled('a="', repeat("\\t"), '"')
+    yield "one name", filled("", repeat("a"))
+    yield "a comment", filled("#", repeat("a"))
 
 
 def with_fault(files: Iterable[tuple[str, str]]) -> Iterator[tuple[str, str]]:
@@ -116,13 +110,12 @@ def accepted() -> Iterator[tuple[str, str]]:
     rows = [*7 * [values], values[:65_000]]
     queues = [*wide[:7], {"name": "q7", "capacity": 64_999}]
     yield "values of one reward", network(far, queues, arrival, reward_tables(1, rows))
-    both: list[Entry] = [*index_events("q0", 4, 65_535)]
+    both = [*index_events("q0", 4, 65_535)]
     yield "both values", network(far, one, both, reward_tables(3, [values]))
     parts = [{"queue": name, "shift": 1} for name in NAMES]
     yield "parts", network(far, wide, guarded(1_000, lambda place: parts))
     bare = [{"queue": name} for name in NAMES]
-    mixed = [*both, *guarded(1_000, lambda place: bare)]
-    yield "parts and index values", network(far, wide, mixed)
+    yield "parts and index values", network(far, wide, [*both, *guarded(1_000, lambda place: bare)])
     lists = [{"name": f"a{place}", "kind": "arrival", "rate": 1, "to": NAMES} for place in range(1_000)]
     yield "lists", network(far, wide, lists)
 
@@ -168,8 +161,7 @@ def all_states() -> Iterator[tuple[str, str]]:
         return [{"queue": NAMES[0], "shift": -place}, {"queue": NAMES[1], "least": place % 256}]
 
     rewards = reward_tables(64, 2 * [[value % 10 for value in range(256)]])
-    network_of_two = network(top, each(2, 255), [*index, *guarded(510, two)], rewards)
-    yield "2 queues of 255", network_of_two
+    yield "2 queues of 255", network(top, each(2, 255), [*index, *guarded(510, two)], rewards)
 
 
 # For each of the first twelve queues two others, the last four of them one, each with the number
@@ -238,8 +230,11 @@ def digits(most: int) -> int:
     return sum(most + 1 - 10**place for place in range(8) if 10**place <= most)
 
 
-def filled_log(queues: int, capacity: int, regions: Sequence[str], most: int = MOST_LOG) -> str:
-    """The longest log of these regions in turn, each step with the number of the one event."""
+def filled_log(
+    queues: int, capacity: int, regions: Sequence[str], most: int = MOST_LOG, is_numbered: bool = True
+) -> str:
+    """The longest log of these regions in turn, each step with the number of the one event. Where the steps aren't
+    numbered, each has the number 1, which is short."""
     front = f"psi-log 2\nqueues {queues}\nseed 0\nstream 0\nhorizon %d\n"
     front += f"begin box {state(queues, 0)} {state(queues, capacity)}\n"
     end = f"end {state(queues, 0)}\n"
@@ -248,22 +243,12 @@ def filled_log(queues: int, capacity: int, regions: Sequence[str], most: int = M
         turns, more = divmod(steps, len(regions))
         texts = turns * len("".join(regions)) + len("".join(regions[:more]))
         apart = len(front % steps) + len(end)
-        return apart + steps * len("step  0 \n") + digits(steps) + texts
+        return apart + steps * len("step  0 \n") + (digits(steps) if is_numbered else steps) + texts
 
     steps = bisect.bisect_right(range(1, MOST_STEPS + 1), most, key=length)
-    lines = (f"step {steps - place} 0 {regions[place % len(regions)]}\n" for place in range(steps))
+    numbers = range(steps, 0, -1) if is_numbered else repeat(1, steps)
+    lines = (f"step {number} 0 {regions[place % len(regions)]}\n" for place, number in enumerate(numbers))
     return "".join([front % steps, *lines, end])
-
-
-def short_log(queues: int, capacity: int, regions: Sequence[str], most: int = MOST_LOG) -> str:
-    """The log of these regions in turn with most steps; each has the number 1, which is short."""
-    front = f"psi-log 2\nqueues {queues}\nseed 0\nstream 0\nhorizon %07d\n"
-    front += f"begin box {state(queues, 0)} {state(queues, capacity)}\n"
-    end = f"end {state(queues, 0)}\n"
-    turn = "".join(f"step 1 0 {region}\n" for region in regions)
-    turns = (most - len(front % 0) - len(end)) // len(turn)
-    steps = turns * len(regions)
-    return front.replace("%07d", str(steps)) + turns * turn + end
 
 
 def spaced_log(steps: int) -> str:
@@ -280,25 +265,22 @@ def logs() -> Iterator[tuple[str, str, str]]:
     yield "moves of a queue", one_event(32, 1, 0), filled_log(32, 1, there_and_back)
     great = dict(accepted())["parts and index values"]
     yield "moves of a queue of a great network", great, filled_log(32, 65_535, there_and_back)
-    yield "short moves of nothing", one_event(32, 1, 1), short_log(32, 1, ["move"])
-    yield "short moves of a queue", one_event(32, 1, 0), short_log(32, 1, there_and_back)
-    yield "short moves of a queue of a great network", great, short_log(32, 65_535, there_and_back)
+    yield "short moves of nothing", one_event(32, 1, 1), filled_log(32, 1, ["move"], is_numbered=False)
+    yield "short moves of a queue", one_event(32, 1, 0), filled_log(32, 1, there_and_back, is_numbered=False)
+    yield "short moves of a queue of a great network", great, filled_log(32, 65_535, there_and_back, is_numbered=False)
     for steps in (0, 1_048_577, 2_097_153):
         yield f"spaces behind {steps} short steps", one_event(1, 1, 0), spaced_log(steps)
     yield "spaces, and a great network", great, spaced_log(0)
     yield "sets of a state", one_event(1, 1, 0), filled_log(1, 1, ["set 0"])
-    zeros = "set " + state(12, 0)
-    yield "sets of a state of 12 queues", one_event(12, 1, 0), filled_log(12, 1, [zeros])
+    yield "sets of a state of 12 queues", one_event(12, 1, 0), filled_log(12, 1, [f"set {state(12, 0)}"])
     for count in (10, 100, 1_000, 4_096):
-        states = "set " + " ".join(map(str, range(count)))
-        log = filled_log(1, count - 1, [states])
+        log = filled_log(1, count - 1, ["set " + " ".join(map(str, range(count)))])
         yield f"sets of {count} states", one_event(1, count - 1, count - 1), log
 
 
 def slow_logs(part: int) -> Iterator[tuple[str, str, str]]:
     """Logs of a part of the greatest length that go from 4,096 states to a set and back."""
     for queues, capacity in ((1, 4_095), (12, 1)):
-        turns = ["set " + state(queues, 0), f"box {state(queues, 0)} {state(queues, capacity)}"]
-        name = f"boxes of {queues} queues and sets in turn"
+        turns = [f"set {state(queues, 0)}", f"box {state(queues, 0)} {state(queues, capacity)}"]
         log = filled_log(queues, capacity, turns, MOST_LOG // part)
-        yield name, one_event(queues, capacity, 0), log
+        yield f"boxes of {queues} queues and sets in turn", one_event(queues, capacity, 0), log

@@ -94,8 +94,7 @@ class Sweep:
         for event, row in itertools.zip_longest(net.events, table.rows):
             if row is not None:
                 self.compare(event, *row)
-        missing = len(net.events) - len(table.rows)
-        if missing > 0:
+        if (missing := len(net.events) - len(table.rows)) > 0:
             self.lines.append(f"{name}: events without a row: {missing}")
         self.agrees = not self.lines
         counted = ", ".join(f"{count} {what}" for what, count in self.counts.items())
@@ -108,7 +107,8 @@ class Sweep:
             self.lines.append(f"{place}: another event")
         if event is not None:
             after = dict(zip(self.states, images))
-            self.compare_states(place, event, after)
+            for x, y in after.items():
+                self.count("states", event.after(x) == y, f"{place}: state {text_of(x)} doesn't become {text_of(y)}")
             self.compare_boxes(place, event, after)
             self.count("marks", all_kinds.is_marked(event, after), f"{place}: another mark")
         self.counts["events"] += len(self.lines) == before
@@ -119,18 +119,13 @@ class Sweep:
         else:
             self.lines.append(line)
 
-    def compare_states(self, place: str, event: Event, after: dict[State, State]) -> None:
-        for x, y in after.items():
-            line = f"{place}: state {text_of(x)} doesn't become {text_of(y)}"
-            self.count("states", event.after(x) == y, line)
-
     def compare_boxes(self, place: str, event: Event, after: dict[State, State]) -> None:
         for low, high in itertools.product(self.states, repeat=2):
             if is_below(low, high):
                 states = box(low, high)
                 agrees = hull(map(event.after, states)) == hull(after[x] for x in states)
-                ends = f"from {text_of(low)} to {text_of(high)}"
-                self.count("boxes", agrees, f"{place}: another envelope {ends}")
+                line = f"{place}: another envelope from {text_of(low)} to {text_of(high)}"
+                self.count("boxes", agrees, line)
 
 
 def put(folder: pathlib.Path, name: str, text: str) -> str:
@@ -156,8 +151,7 @@ def write_right(data: pathlib.Path) -> tuple[list[str], list[str]]:
 def write_wrong(data: pathlib.Path) -> tuple[list[str], list[str]]:
     """Writes tables that are wrong in one place each; their names, and what is printed of them."""
     text = (DATA / "wrong.toml").read_text()
-    net = Network(tomllib.loads(text))
-    file = put(data, "wrong.toml", text)
+    net, file = Network(tomllib.loads(text)), put(data, "wrong.toml", text)
     names: list[str] = []
     lines: list[str] = []
     for name, change in compared_changes():

@@ -31,28 +31,19 @@ def room_of(program: pathlib.Path, folder: pathlib.Path) -> None:
     (folder / "crates/psi/out/psi").symlink_to(program)
 
 
-def draw_gallery(room: pathlib.Path, env: dict[str, str]) -> int:
-    """Draws each network of the gallery; returns how many cannot be drawn."""
-    wrong = 0
-    for net in sorted((TOP / "examples").glob("*.toml")):
-        call = ["tools/psi-plot", "network", f"examples/{net.name}", "-o", f"network-{net.stem}.svg"]
-        wrong += subprocess.run(call, cwd=room, env=env).returncode != 0
-    return wrong
-
-
 def main() -> int:
     program = pathlib.Path(sys.argv[1]) if len(sys.argv) > 1 else TOP / "crates/psi/out/psi"
     folder = pathlib.Path(sys.argv[2]) if len(sys.argv) > 2 else TOP / "docs/pictures"
     text, wrong = TOUR.read_text(), 0
+    calls = [block for block in BLOCK.findall(text) if "tools/psi-plot" in block]
+    for name in sorted(net.stem for net in (TOP / "examples").glob("*.toml")):
+        calls.append(f"tools/psi-plot network examples/{name}.toml -o network-{name}.svg")
     folder.mkdir(parents=True, exist_ok=True)
     with tempfile.TemporaryDirectory() as name:
         room = pathlib.Path(name)
         room_of(program.resolve(), room)
         env = {**os.environ, "PATH": f"{room}:{os.environ['PATH']}"}
-        for block in BLOCK.findall(text):
-            if "tools/psi-plot" in block:
-                wrong += subprocess.run(["sh", "-c", block], cwd=room, env=env).returncode != 0
-        wrong += draw_gallery(room, env)
+        wrong += sum(subprocess.run(["sh", "-c", call], cwd=room, env=env).returncode != 0 for call in calls)
         drawn = sorted(room.glob("*.svg"))
         for picture in drawn:
             if os.path.getsize(picture) > MOST_BYTES:

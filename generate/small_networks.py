@@ -57,10 +57,8 @@ class Dice:
 def some(dice: Dice, queues: Sequence[str], without: str | None = None, least: int = 1) -> list[str]:
     """Some of the queues in some order, without this one: at least that many if there are others."""
     others = [queue for queue in queues if queue != without]
-    start, is_back = dice.below(len(queues)), dice.coin()
-    others = others[start:] + others[:start]
-    if is_back:
-        others.reverse()
+    start, step = dice.below(len(queues)), -1 if dice.coin() else 1
+    others = (others[start:] + others[:start])[::step]
     kept = [queue for queue in others if dice.below(3) > 0]
     return kept if len(kept) >= least else others[:least]
 
@@ -162,15 +160,6 @@ def closed_network(number: int) -> str:
     return text
 
 
-def asked(command: str, number: int) -> tuple[str, list[int]]:
-    """The file of a number, and the last words of the command that is asked of it."""
-    if command == "closed":
-        text = closed_network(number)
-        total = Dice(number).below(2 + sum(Network(tomllib.loads(text)).caps))
-        return text, [total]
-    return network(number), [number % 7] if command == "exact" else []
-
-
 def is_kept(command: str, number: int, answer: str) -> bool:
     """Whether the case of a number is written, of which this is wanted."""
     if command != "exact" or number % 10 == 0:
@@ -182,8 +171,12 @@ def is_kept(command: str, number: int, answer: str) -> bool:
 def cases(count: int, command: str) -> Iterator[bytes]:
     """The cases of a command, of that many numbers."""
     for number in range(count):
-        text, last = asked(command, number)
-        numbers, net = [number, number * number, *last], Network(tomllib.loads(text))
+        text = closed_network(number) if command == "closed" else network(number)
+        net, numbers = Network(tomllib.loads(text)), [number, number * number]
+        if command == "closed":
+            numbers.append(Dice(number).below(2 + sum(net.caps)))
+        if command == "exact":
+            numbers.append(number % 7)
         status, answer = getattr(plain, command)(net, *numbers)
         if not is_kept(command, number, answer):
             continue

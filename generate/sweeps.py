@@ -17,6 +17,7 @@ What is wanted is what the plain program answers (plain.py), which lists states 
 with the proved one.
 """
 
+import collections
 import functools
 import itertools
 import tomllib
@@ -93,9 +94,9 @@ def form(entry: Entry) -> tuple[object, ...]:
 def drawn_kinds(dice: Dice, caps: dict[str, int]) -> Iterator[tuple[Entry, list[Entry]]]:
     """An event of each form of every kind, with all of its kind."""
     entries = list(all_kinds.kinds(caps))
-    forms: dict[tuple[object, ...], list[Entry]] = {}
+    forms = collections.defaultdict(list)
     for entry in entries:
-        forms.setdefault(form(entry), []).append(entry)
+        forms[form(entry)].append(entry)
     for alike in forms.values():
         drawn = dice.pick(alike)
         yield drawn, [entry for entry in entries if entry["kind"] == drawn["kind"]]
@@ -103,17 +104,13 @@ def drawn_kinds(dice: Dice, caps: dict[str, int]) -> Iterator[tuple[Entry, list[
 
 def movers(dice: Dice, caps: dict[str, int]) -> list[Entry]:
     """Three events that move all states: into a box, and each queue one up or down."""
-    box: list[Entry] = []
-    one: list[Entry] = []
-    back: list[Entry] = []
+    moves: list[tuple[Entry, ...]] = []
     for queue, cap in caps.items():
         floor = dice.below(cap + 1)
-        ceiling = floor + dice.below(cap + 1 - floor)
+        box = {"queue": queue, "floor": floor, "ceiling": floor + dice.below(cap + 1 - floor)}
         shift = 1 if dice.coin() else -1
-        box.append({"queue": queue, "floor": floor, "ceiling": ceiling})
-        one.append({"queue": queue, "shift": shift})
-        back.append({"queue": queue, "shift": -shift})
-    return [{"kind": "guarded", "part": parts} for parts in (box, one, back)]
+        moves.append((box, {"queue": queue, "shift": shift}, {"queue": queue, "shift": -shift}))
+    return [{"kind": "guarded", "part": [*parts]} for parts in zip(*moves)]
 
 
 def network(caps: dict[str, int], servers: dict[str, int], split: int, entries: Sequence[Entry]) -> dict[str, Any]:
