@@ -4,17 +4,18 @@ A definition of crates/NAME/specs/FILE.antt is found by the `use` lines of the f
 type of a source by its module `declared`. A name that isn't found is an error.
 """
 
+import itertools
 import pathlib
 import re
-from typing import Literal, TypeVar
 from collections.abc import Mapping
+from typing import Literal, TypeVar
 
 from gate import TOP
 
 CRATES = TOP / "crates"
 # What belongs to the language, and so has no definition.
 LANGUAGE = set(
-    "abbrev unfoldable pub record data where module infixl infixr infix let in then else " "Type Unit tt".split()
+    "abbrev unfoldable pub record data where module infixl infixr infix let in then else Type Unit tt".split()
 )
 SIGNS = set("→ × ¬ ⊥ = : . ←".split())
 WORD = re.compile(r"(?!λ)[^\W\d]\w*(?:\.\w+)*")
@@ -54,12 +55,6 @@ class Item:
         return Missing(f"{place}: {self.name} names {name}, which is nothing")
 
 
-def text_of(found: re.Match[str] | None, *groups: int) -> str:
-    """The first of some groups of what was found that has a text."""
-    assert found
-    return next(text for text in map(found.group, groups) if text)
-
-
 class File:
     """A file of definitions, or of source: what it imports, and what it defines."""
 
@@ -78,28 +73,23 @@ class File:
 
     def header(self) -> str:
         """The sentence at the head of the file, which says what it is about."""
-        begun: list[str] = []
-        for line in self.lines:
-            if not line.startswith(("-- ", "//! ")):
-                break
-            begun.append(line.split(" ", 1)[1])
-        return " ".join(begun)
+        begun = itertools.takewhile(lambda line: line.startswith(("-- ", "//! ")), self.lines)
+        return " ".join(line.split(" ", 1)[1] for line in begun)
 
     def read_use(self, line: str) -> None:
-        found = re.match(r"(pub |ghost )?use (Rattle\.[\w.]+?)(?:\.\{([^{}]*)\}| as (\w+))?$", line)
-        if not found and re.match(r"(pub |ghost )?use Rattle", line):
-            raise Missing(f"{self.path.relative_to(TOP)}: a line isn't read: {line}")
-        if not found:
+        if not re.match(r"(pub |ghost )?use Rattle", line):
             return
+        found = re.match(r"(pub |ghost )?use (Rattle\.[\w.]+?)(?:\.\{([^{}]*)\}| as (\w+))?$", line)
+        if not found:
+            raise Missing(f"{self.path.relative_to(TOP)}: a line isn't read: {line}")
         shown, module, names, alias = found.groups()
         if names is None:
             self.aliases[alias or module.split(".")[-1]] = module
             return
         for entry in names.split(","):
             name, _, other = entry.strip().partition(" as ")
-            self.names[other or name] = (module, name)
-            if shown == "pub ":
-                self.passed_on[other or name] = (module, name)
+            for known in (self.names, self.passed_on) if shown == "pub " else (self.names,):
+                known[other or name] = module, name
 
 
 class Spec(File):
@@ -139,11 +129,11 @@ class Spec(File):
             elif words.startswith("infix"):
                 fixity = [line]
             else:
-                name = text_of(ITEM.match(words), 1)
-                item = Item(self, name, indent, comment, [lines for _, lines in modules])
+                found = ITEM.match(words)
+                assert found, words
+                item = self.items[found[1]] = Item(self, found[1], indent, comment, [lines for _, lines in modules])
                 item.text = fixity + [line]
                 comment, fixity = [], []
-                self.items[item.name] = item
         for own in list(self.items.values()):
             for made in own.makers:
                 self.items[made] = own
@@ -160,24 +150,20 @@ class Source(File):
         super().__init__(path)
         self.types: dict[str, str] = {}
         self.types_passed_on: dict[str, str] = {}
-        for line in self.lines:
-            found = re.match(r"(pub )?use ([\w:]+)::(?:\{(.*)\}|(\w+));", line)
-            for name in text_of(found, 3, 4).split(",") if found else []:
-                self.types[name.strip()] = text_of(found, 2)
-                if found and found.group(1):
-                    self.types_passed_on[name.strip()] = text_of(found, 2)
         for start, line in enumerate(self.lines):
+            if found := re.match(r"(pub )?use ([\w:]+)::(?:\{(.*)\}|(\w+));", line):
+                names = dict.fromkeys(map(str.strip, (found[3] or found[4]).split(",")), found[2])
+                self.types |= names
+                self.types_passed_on |= names if found[1] else {}
             found = re.match(r"(?:pub(?:\(\w+\))? )?(struct|enum|trait) (\w+)", line)
             if found:
                 self.read_type(start, *found.groups())
 
     def until_closed(self, start: int) -> list[str]:
         """The lines of a declaration from its first on."""
-        end = start
-        if not self.lines[start].endswith(";"):
-            while not self.lines[end].startswith(("}", ")")):
-                end += 1
-        return self.lines[start : end + 1]
+        lines = enumerate(self.lines[start:], start + 1)
+        end = next(end for end, line in lines if line.startswith(("}", ")")) or self.lines[start].endswith(";"))
+        return self.lines[start:end]
 
     def read_type(self, start: int, kind: str, name: str) -> None:
         begin = start
@@ -236,10 +222,8 @@ class Sources:
 
     def declared(self, crate: str, name: str) -> Item:
         """The declaration of a type of a crate, or of one that it passes on from another crate."""
-        found = []
-        for path in sorted((CRATES / crate / "src").rglob("*.rt")):
-            if name in self.file(path, Source).items:
-                found.append(self.files[path].items[name])
+        files = (self.file(path, Source) for path in sorted((CRATES / crate / "src").rglob("*.rt")))
+        found = [file.items[name] for file in files if name in file.items]
         if not found:
             root = self.file(CRATES / crate / "src" / "lib.rt", Source)
             origin = root.types_passed_on.get(name, "").split("::")[0]
@@ -306,12 +290,8 @@ def modules_of(item: Item) -> str:
 
 def left_sides(item: Item, code: str) -> set[str]:
     """The words on the left of a definition's equations."""
-    found = set()
-    for line in code.split("\n"):
-        left = re.match(r" {%d}([\w(].*?) =(?: |$)" % item.indent, line)
-        if left and " : " not in left.group(1):
-            found |= set(WORD.findall(left.group(1)))
-    return found
+    sides = re.findall(r"^ {%d}([\w(].*?) =(?: |$)" % item.indent, code, re.M)
+    return {word for side in sides if " : " not in side for word in WORD.findall(side)}
 
 
 def uses(sources: Sources, item: Item) -> list[Item]:

@@ -102,10 +102,9 @@ class File:
 def files_of_crates() -> dict[tuple[str, str], File]:
     files = {}
     for path in sorted(TOP.glob("crates/*/*/**/*")):
-        crate, folder, *rest = path.relative_to(TOP / "crates").parts
-        if folder in ("src", "specs", "proofs") and path.suffix in COMMENT:
-            module = ".".join([folder, *rest])[: -len(path.suffix)]
-            files[crate, module] = File(path, crate, module)
+        crate, *parts = path.relative_to(TOP / "crates").with_suffix("").parts
+        if parts[0] in ("src", "specs", "proofs") and path.suffix in COMMENT:
+            files[crate, ".".join(parts)] = File(path, crate, ".".join(parts))
     return files
 
 
@@ -138,9 +137,9 @@ def main(names: Collection[str]) -> int:
     for key, file in files.items():
         for name, line in file.lines.items() if file.has_lemmas() else ():
             if (*key, name) not in reached and (not names or file.crate in names):
-                found += 1
+                found = 1
                 print(f"{file.path.relative_to(TOP)}:{line}: {name}")
-    return 1 if found else 0
+    return found
 
 
 if __name__ == "__main__":

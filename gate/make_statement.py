@@ -74,12 +74,8 @@ class Section:
 
 
 class Part:
-    """A part of the page.
-
-    It begins with clauses and names. What is shown later, or is left out for a reason, isn't
-    followed, and of what is cut the named cases are shown. A section has a title, words, and the
-    paths that belong to it.
-    """
+    """A part of the page. It begins with clauses and names. What is shown later, or is left out for a
+    reason, isn't followed, and of what is cut the named cases are shown."""
 
     def __init__(self, title: str) -> None:
         self.title = title
@@ -188,11 +184,12 @@ def renamed(items: list[Item]) -> str:
 def place_of(part: Part, item: Item) -> tuple[int, int]:
     """The section of a definition and its place there, by the longest path that is told for it."""
     path = item.file.path.relative_to(CRATES).as_posix()
-    found = []
-    for number, section in enumerate(part.sections):
-        for place, named in enumerate(section.paths):
-            if (path + "/").startswith(named + "/"):
-                found.append((len(named), number, place))
+    found = [
+        (len(named), number, place)
+        for number, section in enumerate(part.sections)
+        for place, named in enumerate(section.paths)
+        if f"{path}/".startswith(f"{named}/")
+    ]
     if not found:
         raise Missing(f"{part.title}: no section for {item.name} of {path}")
     return max(found)[1:]
@@ -201,9 +198,9 @@ def place_of(part: Part, item: Item) -> tuple[int, int]:
 def sections(part: Part, order: list[Item]) -> list[str]:
     """The sections of a part, file by file: in the order of their paths, and then of naming."""
     lines: list[str] = []
-    files: dict[pathlib.Path, list[Item]] = {}
+    files = collections.defaultdict(list)
     for item in order:
-        files.setdefault(item.file.path, []).append(item)
+        files[item.file.path].append(item)
     groups = sorted(files.values(), key=lambda group: place_of(part, group[0]))
     for number, section in enumerate(part.sections):
         lines += [f"### {section.title}", ""] + section.words
@@ -234,22 +231,18 @@ def page(sources: Sources) -> list[str]:
             put(sources, part, named, shown, order)
         lines += sections(part, order)
         counts.append((part.title, order))
-    left = {name for part in parts for name in part.later} - {name for _, name in shown}
-    unused = set(sources.kit) - sources.kit_used
-    if left:
+    if left := {name for part in parts for name in part.later} - {name for _, name in shown}:
         raise Missing(f"a part leaves {min(left)} to a later one, which hasn't it")
-    if unused:
+    if unused := set(sources.kit) - sources.kit_used:
         raise Missing(f"gate/kit_names.txt tells {min(unused)} for nothing")
     return lines + ending(sources, counts)
 
 
 def ending(sources: Sources, counts: list[tuple[str, list[Item]]]) -> list[str]:
     """What the kit gives, and how much it is in all."""
-    lines = ["## What the kit gives", ""]
-    lines += ["These names belong to Rattle's library, and aren't followed further.", ""]
+    lines = ["## What the kit gives", "", "These names belong to Rattle's library, and aren't followed further.", ""]
     lines += [f"- `{name}`: {reported}" for name, reported in sources.kit.items()]
-    lines += ["", "## How much it is", ""]
-    lines += ["| Part | Definitions | Types of sources | Lines | Files | Crates |"]
+    lines += ["", "## How much it is", "", "| Part | Definitions | Types of sources | Lines | Files | Crates |"]
     lines += ["|---|---|---|---|---|---|"]
     for title, order in counts + [("All", [item for _, order in counts for item in order])]:
         types = [item for item in order if isinstance(item.file, Source)]

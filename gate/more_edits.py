@@ -50,12 +50,10 @@ class Wrong(Exception):
 
 def needed(names: Iterable[str], below: dict[str, list[str]]) -> list[str]:
     """These crates and those that they stand on, lowest first."""
-    found, left = set(), list(names)
-    while left:
-        name = left.pop()
-        if name in below and name not in found:
-            found.add(name)
-            left += below[name]
+    found = {*names}
+    for name in reversed(below):
+        if name in found:
+            found.update(below[name])
     return [name for name in below if name in found]
 
 
@@ -69,7 +67,6 @@ def usual_jobs() -> int:
 
 
 def git(*words: object) -> None:
-    """Runs git."""
     done = subprocess.run(["git", *map(str, words)], capture_output=True, text=True)
     if done.returncode:
         raise Wrong(f"git {words[0]}: {done.stderr.strip()}")
@@ -90,8 +87,7 @@ def make_clone(clone: pathlib.Path) -> None:
 def cut_to(clone: pathlib.Path, kept: list[str]) -> None:
     """Leaves in the clone these crates alone."""
     crates = crates_below(clone)
-    lines = [f"{name}: {' '.join(crates[name])}\n" for name in kept]
-    (clone / "crates.txt").write_text("".join(lines))
+    (clone / "crates.txt").write_text("".join(f"{name}: {' '.join(crates[name])}\n" for name in kept))
     for name in set(crates) - set(kept):
         shutil.rmtree(clone / "crates" / name)
 
@@ -125,7 +121,6 @@ def kind_of(message: str) -> str:
 
 
 def report(crate: str, file: str, message: str) -> None:
-    """Tells of an edit that isn't refused."""
     print(f"crates/{crate}/more-edits/{file}: {message}", flush=True)
 
 
@@ -169,10 +164,9 @@ def try_all(clone: pathlib.Path, names: Iterable[str], jobs: int) -> list[str]:
     print(f"proving the crates of {sum(map(len, edits.values()))} edits", file=sys.stderr, flush=True)
     proved = proved_of(clone, jobs)
     tried = []
-    for crate in [it for it in edits if it not in proved]:
-        for file in edits[crate]:
-            report(crate, file, f"{UNTRIED}: the crate isn't proved without it")
-            tried.append(UNTRIED)
+    for crate, file in ((crate, file) for crate in edits if crate not in proved for file in edits[crate]):
+        report(crate, file, f"{UNTRIED}: the crate isn't proved without it")
+        tried.append(UNTRIED)
     with ThreadPoolExecutor(jobs) as pool:
         runs = [pool.submit(try_edits, clone, it, edits[it]) for it in edits if it in proved]
         return tried + [kind for it in runs for kind in it.result()]
