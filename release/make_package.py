@@ -46,27 +46,15 @@ BUILT = "crates/psi/out/psi"
 NAME = "psi-sampler"
 # The other proved programs, each with its crate, that are packed where they are built.
 OTHERS = {"psi-merge": "psi_merge", "psi-states": "psi_states", "psi-paths": "psi_paths"}
-TOOLS = (
-    "packaged.py",
-    "merge_reports.py",
-    "check_log.py",
-    "check_interval.py",
-    "mean_values.py",
-    "command",
-    *(f"psi-{name}" for name in NAMES),
-)
+SCRIPTS = "packaged", "merge_reports", "check_log", "check_interval", "mean_values"
+TOOLS = *(f"{name}.py" for name in SCRIPTS), "command", *(f"psi-{name}" for name in NAMES)
 # The folders of python/ that are packed.
 MODULES = "psi", "psi_tools"
 DOCUMENTS = "README.md", "CITATION.cff", "SECURITY.md", "PERFORMANCE.md", "docs"
-DEPENDS = (
-    "python3 (>= 3.11)",
-    "python3-numpy",
-    "python3-scipy",
-    "python3-pandas",
-    "python3-matplotlib",
-    "parallel",
-    "graphviz",
-)
+DEPENDS = "python3 (>= 3.11), python3-numpy, python3-scipy, python3-pandas, python3-matplotlib, parallel, graphviz"
+# An archive in which nothing depends on the time, the user or the order of the disk.
+TAR = "tar --sort=name --owner=0 --group=0 --numeric-owner --format=posix".split()
+PAX = "--pax-option=exthdr.name=%d/PaxHeaders/%f,delete=atime,delete=ctime"
 
 
 def printed_by(*words: str) -> str:
@@ -184,11 +172,11 @@ def fill_control(root: pathlib.Path, version: str, program: pathlib.Path) -> Non
     """What dpkg reads: the fields, the digests of all files, and what is done before a removal."""
     files = sorted(file for file in root.rglob("*") if file.is_file() and not file.is_symlink())
     size = sum(-(-file.stat().st_size // 1024) for file in files)
-    fields: dict[str, object] = {"name": NAME, "version": version, "size": size, "by": maintainer()}
-    fields["depends"] = ", ".join([f"libc6 (>= {glibc_of(program)})", *DEPENDS])
-    names = [str(file.relative_to(root)) for file in files]
-    sums = subprocess.check_output(["md5sum", *names], cwd=root, text=True)
-    placed(root / "DEBIAN/control").write_text((FILES / "control").read_text().format(**fields))
+    depends = f"libc6 (>= {glibc_of(program)}), {DEPENDS}"
+    sums = subprocess.check_output(["md5sum", *(file.relative_to(root) for file in files)], cwd=root, text=True)
+    control = (FILES / "control").read_text()
+    control = control.format(name=NAME, version=version, size=size, by=maintainer(), depends=depends)
+    placed(root / "DEBIAN/control").write_text(control)
     (root / "DEBIAN/md5sums").write_text(sums)
     copy(FILES / "prerm", root / "DEBIAN/prerm", 0o755)
 
@@ -202,12 +190,9 @@ def make_package(
     fill_library(root, programs)
     fill_documents(root, version, second)
     fill_control(root, version, programs["psi"])
-    subprocess.run(
-        ["dpkg-deb", "--root-owner-group", "-Zxz", "--build", str(root), str(package)],
-        check=True,
-        stdout=subprocess.DEVNULL,
-        env={**os.environ, "SOURCE_DATE_EPOCH": str(second)},
-    )
+    environment = {**os.environ, "SOURCE_DATE_EPOCH": str(second)}
+    call = ["dpkg-deb", "--root-owner-group", "-Zxz", "--build", str(root), str(package)]
+    subprocess.run(call, check=True, stdout=subprocess.DEVNULL, env=environment)
     return package
 
 
@@ -215,9 +200,8 @@ def make_archive(
     room: pathlib.Path, folder: pathlib.Path, programs: dict[str, pathlib.Path], version: str, second: int
 ) -> pathlib.Path:
     """The archive. Its folder is that of the package without /usr, and has links within it alone."""
-    glibc = glibc_of(programs["psi"])
     top = f"{NAME}-{version}"
-    archive = folder / f"{top}-linux-x86-64-glibc-{glibc}.tar.xz"
+    archive = folder / f"{top}-linux-x86-64-glibc-{glibc_of(programs['psi'])}.tar.xz"
     usr = room / NAME / "usr"
     shutil.rmtree(usr / "lib/python3")
     copy(FILES / "Dockerfile", usr / "Dockerfile")
@@ -225,32 +209,15 @@ def make_archive(
         copy(TOP / name, usr / name)
     link(usr / "share/doc" / NAME / "examples", usr / "examples")
     usr.rename(room / top)
-    subprocess.run(
-        [
-            "tar",
-            "--sort=name",
-            f"--mtime=@{second}",
-            "--owner=0",
-            "--group=0",
-            "--numeric-owner",
-            "--format=posix",
-            "--pax-option=exthdr.name=%d/PaxHeaders/%f,delete=atime,delete=ctime",
-            "-cJf",
-            str(archive),
-            top,
-        ],
-        cwd=room,
-        check=True,
-    )
+    subprocess.run([*TAR, f"--mtime=@{second}", PAX, "-cJf", archive, top], cwd=room, check=True)
     return archive
 
 
 def stripped(program: pathlib.Path, room: pathlib.Path, name: str) -> pathlib.Path:
     """A copy of a program without its symbols."""
     copied = room / name
-    shutil.copyfile(program, copied)
-    copied.chmod(0o755)
-    subprocess.run(["strip", "--strip-all", "-R", ".comment", str(copied)], check=True)
+    copy(program, copied, 0o755)
+    subprocess.run(["strip", "--strip-all", "-R", ".comment", copied], check=True)
     return copied
 
 
@@ -264,10 +231,9 @@ def main(words: list[str]) -> int:
     os.umask(0o022)
     with tempfile.TemporaryDirectory() as name:
         room = pathlib.Path(name)
-        programs = {"psi": stripped(program, room, "psi")}
-        for other, crate in OTHERS.items():
-            if built := beside(program, crate):
-                programs[other] = stripped(built, room, other)
+        found: dict[str, pathlib.Path | None] = {"psi": program}
+        found |= {other: beside(program, crate) for other, crate in OTHERS.items()}
+        programs = {name: stripped(built, room, name) for name, built in found.items() if built}
         made = [make(room, folder, programs, version, second) for make in (make_package, make_archive)]
     digests = [hashlib.sha256(file.read_bytes()).hexdigest() for file in made]
     sums = folder / "SHA256SUMS"

@@ -25,12 +25,14 @@ import re
 import sys
 
 import tools.packaged  # noqa: F401
-from collections.abc import Callable, Iterator
+from collections.abc import Callable, Iterator, Mapping
 from typing import Any
 from psi_tools.cli.completion import kinds_of, options_of
 
 TOP = pathlib.Path(__file__).resolve().parent.parent
 ITEM = re.compile(r"( *)(-|\d+\.) +")
+# What begins a block of its own, beside a blank line.
+BLOCK = re.compile(rf"```|#|\||> |{ITEM.pattern}")
 # The name of another page, which isn't broken over two lines.
 PAGE = re.compile(r"(psi-[a-z]+\(\d\))")
 INLINE = re.compile(r"`([^`]+)`|\*\*(.+?)\*\*|\*(.+?)\*|!?\[((?:[^\]`]|`[^`]*`)*)\]\(([^)\s]*)\)")
@@ -66,6 +68,12 @@ OF_SOURCES = (
     " by `tools/psi-states`.",
     " It is built by `rt run` in `crates/psi_paths`, as `crates/psi_paths/out/psi_paths`, and called by"
     " `tools/psi-paths`.",
+)
+# What the texts of options say of a checkout, and what of a package.
+OF_OPTIONS = (
+    ("the built program; crates/psi/out/psi, or psi on the PATH,", "the program psi; that on the PATH"),
+    ("merge_reports.py", "a tool of Python"),
+    ("psi_merge where it is built", "psi-merge where it is there"),
 )
 # What stands elsewhere in the package.
 PLACES = (
@@ -162,19 +170,9 @@ def blocks_of(lines: list[str]) -> Iterator[tuple[str, Any]]:
             else:
                 yield "quote", [one[2:] for one in lines[begin:place]]
         else:
-            while place < len(lines) and lines[place].strip() and not starts_block(lines[place]):
+            while place < len(lines) and lines[place].strip() and not BLOCK.match(lines[place]):
                 place += 1
             yield "text", " ".join(one.strip() for one in lines[begin:place])
-
-
-def starts_block(line: str) -> bool:
-    """Whether a line begins a block of its own."""
-    return line.startswith(("```", "#", "|", "> ")) or ITEM.match(line) is not None
-
-
-def cells_of(row: str) -> list[str]:
-    """The cells of a row; a bar in code stays."""
-    return [cell.strip() for cell in re.split(r"(?<!\\)\|", row.strip().strip("|"))]
 
 
 def shown_width(cell: str) -> int:
@@ -184,7 +182,8 @@ def shown_width(cell: str) -> int:
 
 def table(rows: list[str]) -> Iterator[str]:
     """A table: as one where it fits a page, else as a list of its first column's cells."""
-    head, *cells = [cells_of(row) for row in rows[:1] + rows[2:]]
+    split = (re.split(r"(?<!\\)\|", row.strip().strip("|")) for row in rows[:1] + rows[2:])
+    head, *cells = ([cell.strip() for cell in row] for row in split)
     columns = [*zip(head, *cells)]
     if len(head) > 2 and sum(max(map(shown_width, column)) + 3 for column in columns) <= MOST_WIDE:
         form = " ".join("l" for _ in head)
@@ -229,31 +228,29 @@ def rendered(lines: list[str]) -> Iterator[str]:
         before = kind
 
 
-def one_paragraph(text: str) -> str:
-    return " ".join(text.split())
-
-
 def options_text(command: str) -> str:
     """The options of a command, as a list."""
     reader = importlib.import_module(f"psi_tools.cli.{command}").parser()
-    lines = ["| Option | Says |", "|---|---|"]
+    texts = {}
     for names, metavar, choices, text in options_of(reader):
         value = "" if metavar is None else f" {'|'.join(choices) if choices else metavar}"
-        text = text.replace(
-            "the built program; crates/psi/out/psi, or psi on the PATH,", "the program psi; that on the PATH"
-        )
-        text = text.replace("merge_reports.py", "a tool of Python").replace(
-            "psi_merge where it is " "built", "psi-merge where it is there"
-        )
-        lines.append(f"| `{', '.join(names)}{value}` | {one_paragraph(text)} |".replace("||", "|"))
-    return "\n".join(line.replace("text|csv|json", "FORMAT").replace("text|json", "FORMAT") for line in lines)
+        value = value.replace("text|csv|json", "FORMAT").replace("text|json", "FORMAT")
+        for ours, theirs in OF_OPTIONS:
+            text = text.replace(ours, theirs)
+        texts[f"`{', '.join(names)}{value}`"] = text
+    return listed("Option | Says", texts)
+
+
+def listed(head: str, texts: Mapping[str, str]) -> str:
+    """A table of two columns, which is a list on a page."""
+    rows = [f"| {name} | {' '.join(text.split())} |" for name, text in texts.items()]
+    return "\n".join([f"| {head} |", "|---|---|", *rows])
 
 
 def kinds_text(command: str) -> str:
     """The kinds of a command's first word, as a list."""
     reader = importlib.import_module(f"psi_tools.cli.{command}").parser()
-    rows = [f"| `{kind}` | {one_paragraph(text)} |" for kind, (_, text) in kinds_of(reader).items()]
-    return "\n".join(["| Kind | Models |", "|---|---|", *rows])
+    return listed("Kind | Models", {f"`{kind}`": text for kind, (_, text) in kinds_of(reader).items()})
 
 
 def help_block(heading: str) -> list[list[str]]:
@@ -272,15 +269,13 @@ def commands_text() -> str:
     """The help on each command of psi, as a list."""
     sections = re.split(r"^== (\w+)\n", HELP.read_text(), flags=re.M)
     texts = dict(zip(sections[1::2], sections[2::2]))
-    names = dict.fromkeys(usage.split()[0] for usage, _ in help_block("Commands"))
-    rows = [f"| `{name}` | {one_paragraph(texts[name])} |" for name in names]
-    return "\n".join(["| Command | What it does |", "|---|---|", *rows])
+    names = (usage.split()[0] for usage, _ in help_block("Commands"))
+    return listed("Command | What it does", {f"`{name}`": texts[name] for name in names})
 
 
 def statuses_text() -> str:
     """The statuses of psi, as a list."""
-    rows = [f"| {status} | {text} |" for status, text in help_block("Exit status")]
-    return "\n".join(["| Status | Meaning |", "|---|---|", *rows])
+    return listed("Status | Meaning", dict(help_block("Exit status")))
 
 
 def source_of(text: str) -> str:
@@ -299,15 +294,9 @@ def source_of(text: str) -> str:
 
 def page(name: str, section: str, about: str, date: str, body: str) -> str:
     """A page with its head."""
-    head = [
-        "'\\\" t",
-        f'.TH {escaped(name.upper())} {section} "{date}" "PSI" ""',
-        ".nh",
-        ".ad l",
-        ".SH NAME",
-        f"{escaped(name)} \\- {plain(about)}",
-    ]
-    return "\n".join([*head, *rendered(body.split("\n"))]) + "\n"
+    head = f'.TH {escaped(name.upper())} {section} "{date}" "PSI" ""'
+    title = f"{escaped(name)} \\- {plain(about)}"
+    return "\n".join(["'\\\" t", head, ".nh", ".ad l", ".SH NAME", title, *rendered(body.split("\n"))]) + "\n"
 
 
 def guide_of(text: str) -> str:
