@@ -41,10 +41,13 @@ class Crates:
         return list(found)
 
     def folder(self, name: str) -> pathlib.Path:
-        """Returns the folder of a crate."""
         return self.top / "crates" / name
 
     def sources(self, name: str) -> list[pathlib.Path]:
         """Returns the files of a crate that its proof reads, in a fixed order."""
         parts = [self.folder(name) / part for part in ("src", "specs", "proofs")]
         return sorted(file for part in parts for file in part.rglob("*") if file.is_file())
+
+    def lines(self, name: str) -> int:
+        """Returns how many lines of code a crate has."""
+        return sum(file.read_bytes().count(b"\n") for file in self.sources(name) if file.suffix == ".rt")

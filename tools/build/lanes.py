@@ -150,8 +150,7 @@ class Lane:
     def prove(self, name: str, jobs: int, log: IO[str]) -> int:
         """Has `rt` prove a crate and build its library, and returns the exit status."""
         self.take(name)
-        words = ["rt", "lib", "--jobs", str(jobs)]
-        status = self.call(words, self.folder(name), log)
+        status = self.call(["rt", "lib", "--jobs", str(jobs)], self.folder(name), log)
         if not self.is_stopped:
             self.give(name)
         return status

@@ -64,8 +64,7 @@ def number_in(file: str, pattern: str = r"(\d+)") -> int | None:
 def processors() -> int:
     """Returns how many processors this process may use, by its affinity and its control group."""
     found = len(os.sched_getaffinity(0))
-    group = "/sys/fs/cgroup/cpu.max"
-    quota, period = number_in(group, r"^(\d+)"), number_in(group, r" (\d+)")
+    quota, period = (number_in("/sys/fs/cgroup/cpu.max", form) for form in (r"^(\d+)", r" (\d+)"))
     return min(found, max(1, quota // period)) if quota and period else found
 
 
@@ -86,15 +85,6 @@ def duration(seconds: float) -> str:
 
 def crates_of(count: int) -> str:
     return f"{count} crate" if count == 1 else f"{count} crates"
-
-
-def lines_of(crates: Crates) -> Callable[[str], int]:
-    """Returns the call that counts a crate's lines of code."""
-    def count(name: str) -> int:
-        sources = [file for file in crates.sources(name) if file.suffix == ".rt"]
-        return sum(file.read_bytes().count(b"\n") for file in sources)
-
-    return count
 
 
 class Build:
@@ -161,9 +151,7 @@ class Build:
     def run(self, work: "Work") -> bool:
         """Proves all, and returns whether all is proved."""
         while self.waiting or self.running:
-            while not self.failed and (
-                found := self.schedule.next(self.waiting, self.done, self.jobs())
-            ):
+            while not self.failed and (found := self.schedule.next(self.waiting, self.done, self.jobs())):
                 self.start(*found, work)
             if not self.running:
                 break
@@ -176,18 +164,13 @@ class Build:
                 self.end(*ended)
         return not self.waiting and not self.failed
 
-    def left(self) -> float:
-        """Returns about how many seconds are left."""
-        return self.schedule.left(self.waiting, self.done, self.running, self.pace)
-
     def say(self) -> None:
         """Tells how far it is."""
         now = time.monotonic() - self.begun
         count = self.whole - len(self.waiting) - len(self.running) - len(self.failed)
-        left = f", about {duration(self.left())} left" if now >= FIRST else ""
-        names = ", ".join(self.running)
-        whole = crates_of(self.whole)
-        tell(f"{count} of {whole} proved in {duration(now)}{left}; proving {names}")
+        seconds = self.schedule.left(self.waiting, self.done, self.running, self.pace)
+        left = f", about {duration(seconds)} left" if now >= FIRST else ""
+        tell(f"{count} of {crates_of(self.whole)} proved in {duration(now)}{left}; proving {', '.join(self.running)}")
 
 
 class Work:
@@ -224,18 +207,13 @@ class Work:
         return status
 
 
-def kit() -> str:
-    """Returns what the toolchain calls itself."""
-    return subprocess.run(["rt", "version"], capture_output=True, text=True).stdout.strip()
-
-
 def build(cpu: str, room: pathlib.Path) -> bool:
     """Builds the program with lanes in a folder, and returns whether it is built."""
-    name = kit()
+    name = subprocess.run(["rt", "version"], capture_output=True, text=True).stdout.strip()
     if LOGIC not in name:
         tell(f"the toolchain is {name or 'unknown'}; PSI was tried with logic {LOGIC} alone")
     crates = Crates(TOP, PROGRAM)
-    costs = Costs((HERE / "seconds.txt").read_text(), lines_of(crates))
+    costs = Costs((HERE / "seconds.txt").read_text(), crates.lines)
     # Copies in the place of links would fill the disk, so there is only one.
     most = None if has_links(room.parent) else 1
     schedule = Schedule(crates, costs, processors(), memory(), most)

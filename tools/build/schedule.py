@@ -61,9 +61,7 @@ class Schedule:
     several, since that chain decides when all is over, and a crate beside which nothing else can be
     started."""
 
-    def __init__(
-        self, crates: Crates, costs: Costs, processors: int, memory: float, most: int | None = None
-    ) -> None:
+    def __init__(self, crates: Crates, costs: Costs, processors: int, memory: float, most: int | None = None) -> None:
         """`processors` is how many may be used, `memory` how many MB, and `most` how many crates
         may be under way at a time, if that is bounded."""
         self.crates, self.costs, self.most = crates, costs, most or len(crates.names)
@@ -112,9 +110,7 @@ class Schedule:
                 return name, jobs
         return None if running else (ready[0], 1)
 
-    def left(
-        self, waiting: Collection[str], done: Collection[str], running: UnderWay, pace: "Pace"
-    ) -> float:
+    def left(self, waiting: Collection[str], done: Collection[str], running: UnderWay, pace: "Pace") -> float:
         """Returns about how many seconds the rest takes, by playing it through. `running` has jobs
         and the seconds so far at full speed."""
         clock, waiting, done = 0.0, set(waiting), set(done)
