@@ -3,9 +3,6 @@
 
 import pathlib
 import runpy
-import sys
 
-CHECKER = pathlib.Path(__file__).resolve().parent.parent / "python/psi_tools/check_interval.py"
-
-sys.dont_write_bytecode = True
-runpy.run_path(str(CHECKER), run_name="__main__")
+TOP = pathlib.Path(__file__).resolve().parent.parent
+runpy.run_path(str(TOP / "python/psi_tools/check_interval.py"), run_name="__main__")

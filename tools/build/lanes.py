@@ -34,13 +34,11 @@ def link(source: str | os.PathLike[str], target: str | os.PathLike[str]) -> None
 
 def has_links(folder: pathlib.Path) -> bool:
     """Returns whether a file of a folder can have a second name."""
-    with tempfile.NamedTemporaryFile(dir=folder) as file:
-        try:
-            os.link(file.name, f"{file.name}.link")
-        except OSError:
-            return False
+    with tempfile.NamedTemporaryFile(dir=folder) as file, contextlib.suppress(OSError):
+        os.link(file.name, f"{file.name}.link")
         os.unlink(f"{file.name}.link")
         return True
+    return False
 
 
 def link_tree(source: pathlib.Path, target: pathlib.Path, *left_out: str) -> None:

@@ -9,36 +9,23 @@ This calls functions of the toolchain that are not public. Where the toolchain h
 says so, and there is nothing to share either. It prints how many crates are made known.
 """
 
-import importlib.machinery
 import os
 import pathlib
+import runpy
 import shutil
 import sys
-import types
 
 TOP = pathlib.Path(__file__).resolve().parent.parent.parent
 
 
-def toolchain() -> types.ModuleType:
-    """Returns the command `rt` as a module."""
-    sys.dont_write_bytecode = True
-    path = os.path.realpath(shutil.which("rt") or "rt")
-    loader = importlib.machinery.SourceFileLoader("rt_command", path)
-    module = types.ModuleType("rt_command")
-    module.__file__ = path
-    sys.modules["rt_command"] = module
-    loader.exec_module(module)
-    return module
-
-
 def main() -> int:
+    sys.dont_write_bytecode = True
     try:
-        rt = toolchain()
-        folder = str(TOP / "crates/psi")
-        built = [it for it in rt.rtlib.Crate(folder, str(TOP), {}).below() if it.is_built()]
+        rt = runpy.run_path(os.path.realpath(shutil.which("rt") or "rt"), run_name="rt_command")
+        built = [it for it in rt["rtlib"].Crate(str(TOP / "crates/psi"), str(TOP), {}).below() if it.is_built()]
         for crate in built:
-            rt.offer(crate, crate.stamp())
-    except (AttributeError, OSError, TypeError) as fault:
+            rt["offer"](crate, crate.stamp())
+    except (AttributeError, KeyError, OSError, TypeError) as fault:
         print(f"offer_built.py: this toolchain shares nothing: {fault}", file=sys.stderr)
         return 1
     print(f"{len(built)} crates are known to other checkouts")
