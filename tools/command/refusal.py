@@ -5,9 +5,9 @@ and the text of its line, and a sentence. The scripts named psi call it where st
 terminal. It prints nothing where it has nothing to say.
 """
 
+import os
 import pathlib
 import re
-import stat
 import sys
 
 sys.dont_write_bytecode = True
@@ -44,14 +44,6 @@ REJECTED = {
 CAUSES = {"refused": REFUSED, "rejected": REJECTED}
 
 
-def is_plain(path: str) -> bool:
-    """Returns whether a file can be read a second time."""
-    try:
-        return stat.S_ISREG(pathlib.Path(path).stat().st_mode)
-    except (OSError, ValueError):
-        return False
-
-
 def of_network(line: str, path: str) -> str:
     """Returns what there is to say of a network file."""
     data = read_file(path)
@@ -72,9 +64,10 @@ def of_log(line: str, path: str) -> str:
 
 
 def main(line: str, *words: str) -> None:
-    of = (of_log, words[2:3]) if line.startswith("psi: log ") else (of_network, words[1:2])
-    if of[1] and is_plain(of[1][0]):
-        sys.stdout.write(of[0](line, of[1][0]))
+    of, file = (of_log, words[2:3]) if line.startswith("psi: log ") else (of_network, words[1:2])
+    # Only a plain file can be read a second time.
+    if file and os.path.isfile(file[0]):
+        sys.stdout.write(of(line, file[0]))
 
 
 if __name__ == "__main__":
