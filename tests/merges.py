@@ -53,7 +53,7 @@ def sums(count: int, item: str = "sum") -> str:
 
 
 SAMPLES, ROW, TEXT = "refused 3 Samples line", "refused 1 Row line", "refused 2 Text line 0"
-HUGE = 2**63
+HUGE, MOST = 2**63, 2_097_120_000_000_000
 LARGE = f"item,name,value\nsamples,-,{HUGE}\nmet,-,0\nuncoupled,-,{HUGE}\nsum,a,0\n"
 
 # What a file is, its text, and what is said before its name; nothing where it is a report.
@@ -81,12 +81,9 @@ FILES = {
     "a least of 65,536": (changed({8: "least,a,65536"}), f"{SAMPLES} 8"),
     "a greatest below the least": (changed({9: "greatest,a,0"}), f"{SAMPLES} 9"),
     "a reward's greatest below its least": (changed({15: "reward-greatest,a,-6"}), f"{SAMPLES} 15"),
-    "a reward as great as may be": (
-        changed({13: "reward-sum,a,2097119999999985", 15: "reward-greatest,a,2097120000000000"}),
-        None,
-    ),
-    "a reward that is too great": (changed({15: "reward-greatest,a,2097120000000001"}), f"{SAMPLES} 15"),
-    "a reward that is too small": (changed({14: "reward-least,a,-2097120000000001"}), f"{SAMPLES} 14"),
+    "a reward as great as may be": (changed({13: f"reward-sum,a,{MOST - 15}", 15: f"reward-greatest,a,{MOST}"}), None),
+    "a reward that is too great": (changed({15: f"reward-greatest,a,{MOST + 1}"}), f"{SAMPLES} 15"),
+    "a reward that is too small": (changed({14: f"reward-least,a,{-MOST - 1}"}), f"{SAMPLES} 14"),
     # rewards of one state
     "one state": (changed(ONE_STATE | ONE_VALUE), None),
     "one state with two values of a reward": (changed(ONE_STATE), f"{SAMPLES} 15"),
@@ -206,20 +203,19 @@ def change(text: str, chance: random.Random) -> str:
     return "\n".join(rows)
 
 
+def files_of(texts: Sequence[str]) -> dict[str, bytes]:
+    """The files 0.csv, 1.csv, .. with these texts."""
+    return {f"{place}.csv": text.encode() for place, text in enumerate(texts)}
+
+
 def wanted_of(files: Mapping[str, bytes]) -> Answer:
     """How psi_merge has to end on files, as merge_reports.py says: the status and both texts."""
     with tempfile.TemporaryDirectory() as folder, contextlib.chdir(folder):
         write(folder, files)
-        status, out, message = ending_in_python([*files])
-    return status, out, f"psi_merge: {message}\n".encode() if message else b""
-
-
-def ending_in_python(files: Sequence[object]) -> tuple[int, bytes, str]:
-    """The status of a merge by the tool, what it prints, and what it says, without a process."""
-    try:
-        return 0, merge_reports.merged(map(str, files)).text(), ""
-    except merge_reports.ReportError as refused:
-        return refused.status, b"", str(refused)
+        try:
+            return 0, merge_reports.merged(files).text(), b""
+        except merge_reports.ReportError as refused:
+            return refused.status, b"", f"psi_merge: {refused}\n".encode()
 
 
 def some_texts(chance: random.Random) -> list[str]:

@@ -80,7 +80,6 @@ def cases(line: str) -> list[Case]:
 
 
 def calls(refusing: Refusing, folder: pathlib.Path, command: str) -> Iterator[Call]:
-    """The calls of a command."""
     pattern, line = COMMANDS[command]
     for case in cases(line):
         yield Call(refusing, case.words, case.files, (case.status, case.out, case.err))
@@ -100,7 +99,7 @@ def calls(refusing: Refusing, folder: pathlib.Path, command: str) -> Iterator[Ca
 def calls_of_merges(refusing: Refusing) -> Iterator[Call]:
     """The calls of psi_merge; what is wanted of several reports, merge_reports.py says."""
     for name in MERGES:
-        files = {f"{place}.csv": text.encode() for place, text in enumerate(merges.CASES[name][0])}
+        files = merges.files_of(merges.CASES[name][0])
         yield Call(refusing, [*files], files, merges.wanted_of(files))
 
 

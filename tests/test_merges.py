@@ -5,13 +5,13 @@ some hundred reports that are changed somewhere, of which both have to say the s
 import pathlib
 import random
 import sys
-from collections.abc import Mapping, Sequence
+from collections.abc import Iterable, Sequence
 
 import pytest
 
 from tests import merges
 from tests.merges import BASE, SAMPLES, changed
-from tests.support import TOOLS, TOP, Expectations, answer, built
+from tests.support import TOOLS, Expectations, answer, built, write
 
 CHANGED = 400
 # The status, what is printed, and what is said without the program's name.
@@ -27,33 +27,26 @@ def merger(request: pytest.FixtureRequest, program: str) -> list[str]:
     return [sys.executable, str(TOOLS / "merge_reports.py")]
 
 
-def ending_of(program: Sequence[str], files: Sequence[object]) -> Ending:
+def ending_of(program: Sequence[str], files: Iterable[str], folder: pathlib.Path) -> Ending:
     """The status of a merge, what it prints, and what it says without its name."""
-    status, out, err = answer([*program, *files], TOP)
+    status, out, err = answer([*program, *files], folder)
     return status, out, err.decode(errors="replace").partition(": ")[2].removesuffix("\n")
 
 
-def refusal(message: str, file: pathlib.Path) -> Ending:
+def refusal(message: str, file: str) -> Ending:
     """How a merge ends that is refused so."""
     return STATUSES[message.split()[0]], b"", f"{message} {file}"
-
-
-def written(folder: pathlib.Path, texts: Mapping[str, str]) -> list[pathlib.Path]:
-    """Files with these texts by their names."""
-    files = [folder / f"{name}.csv" for name in texts]
-    for file, text in zip(files, texts.values()):
-        file.write_bytes(text.encode())
-    return files
 
 
 @pytest.mark.parametrize("name", merges.CASES)
 def test_a_merge(merger: list[str], tmp_path: pathlib.Path, name: str) -> None:
     """The refusal of the last file, or the report of all, which of one file is its text."""
     texts, message = merges.CASES[name]
-    files = written(tmp_path, {str(place): text for place, text in enumerate(texts)})
-    ended = ending_of(merger, files)
-    report = texts[0].encode() if len(texts) == 1 else ended[1]
-    assert ended == (refusal(message, files[-1]) if message else (0, report, ""))
+    files = merges.files_of(texts)
+    write(tmp_path, files)
+    ended = ending_of(merger, files, tmp_path)
+    report = files["0.csv"] if len(files) == 1 else ended[1]
+    assert ended == (refusal(message, [*files][-1]) if message else (0, report, ""))
 
 
 WRONG, OTHER = changed({7: "sum,a,14"}), changed({13: None, 14: None, 15: None})
@@ -72,23 +65,22 @@ def test_files_are_read_in_order(
     merger: list[str], tmp_path: pathlib.Path, names: str, message: str, named: str
 ) -> None:
     """A file is read only where those before it are accepted and merged."""
-    written(tmp_path, {"base": BASE, "wrong": WRONG, "other": OTHER})
-    files = {name: tmp_path / f"{name}.csv" for name in names.split()}
-    assert ending_of(merger, [*files.values()]) == refusal(message, files[named])
+    write(tmp_path, {"base": BASE.encode(), "wrong": WRONG.encode(), "other": OTHER.encode()})
+    assert ending_of(merger, names.split(), tmp_path) == refusal(message, named)
 
 
 @pytest.mark.parametrize("words", ([], ["-x"]))
-def test_no_files(merger: list[str], words: list[str]) -> None:
-    assert ending_of(merger, words)[:2] == (2, b"")
+def test_no_files(merger: list[str], tmp_path: pathlib.Path, words: list[str]) -> None:
+    assert ending_of(merger, words, tmp_path)[:2] == (2, b"")
 
 
 def test_changed_reports(program: str, expect: Expectations, tmp_path: pathlib.Path) -> None:
     """Both say the same of changed reports, of which some are merged, and some refused in each way."""
     psi_merge, chance, kinds = built(program, "psi_merge"), random.Random(1), set()
     for _ in range(CHANGED):
-        texts = merges.some_texts(chance)
-        files = written(tmp_path, {str(place): text for place, text in enumerate(texts)})
-        found, wanted = ending_of([psi_merge], files), merges.ending_in_python(files)
+        files = merges.files_of(merges.some_texts(chance))
+        write(tmp_path, files)
+        found, wanted = answer([psi_merge, *files], tmp_path), merges.wanted_of(files)
         kinds.add(found[0])
-        expect(found == wanted, f"{texts}: {found} {wanted}")
+        expect(found == wanted, f"{files}: {found} {wanted}")
     expect(kinds >= {0, 3, 4, 5}, f"the statuses are {kinds} alone")
