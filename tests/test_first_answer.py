@@ -19,7 +19,6 @@ from tests.support import CHECKER, TOOLS, TOP, answer
 CLAIM = b"it isn't proved yet (log: "
 NET = "examples/first.toml"
 SHOWN = [(words, text) for name in ("README.md", "docs/TOUR.md") for _, _, words, text in runs_of_document(TOP / name)]
-BEFORE_A_RELEASE = pytest.mark.slow, pytest.mark.release
 # Words, the status and the line on standard error, and what comes through a pipe.
 REFUSED = (
     (["sample", NET], 2, b"psi: usage word 3", b""),
@@ -29,7 +28,7 @@ REFUSED = (
     (["replay", NET, "/dev/stdin"], 4, b"psi: log refused 1 NotLog line 1", b"no log\n"),
 )
 # One `rt` at a time.
-pytestmark = [pytest.mark.needs("rt"), pytest.mark.xdist_group("rt")]
+pytestmark = [pytest.mark.slow, pytest.mark.needs("rt"), pytest.mark.xdist_group("rt")]
 
 
 def first_answer(words: list[str], data: bytes = b"") -> tuple[int, bytes, list[bytes]]:
@@ -41,9 +40,8 @@ def first_answer(words: list[str], data: bytes = b"") -> tuple[int, bytes, list[
     return done.returncode, done.stdout, lines
 
 
-@pytest.mark.slow
 @pytest.mark.parametrize(
-    "words, text", [pytest.param(*SHOWN[0]), *(pytest.param(*run, marks=BEFORE_A_RELEASE) for run in SHOWN[1:])]
+    "words, text", [pytest.param(*SHOWN[0]), *(pytest.param(*run, marks=pytest.mark.release) for run in SHOWN[1:])]
 )
 def test_a_run_that_is_shown(words: list[str], text: str) -> None:
     status, out, lines = first_answer(words)
@@ -51,14 +49,12 @@ def test_a_run_that_is_shown(words: list[str], text: str) -> None:
     assert is_shown(text, out.decode())
 
 
-@pytest.mark.slow
 @pytest.mark.release
 @pytest.mark.parametrize("words, status, line, data", REFUSED)
 def test_what_is_refused(words: list[str], status: int, line: bytes, data: bytes) -> None:
     assert first_answer(words, data) == (status, b"", [line])
 
 
-@pytest.mark.slow
 @pytest.mark.release
 def test_a_log(tmp_path: pathlib.Path) -> None:
     status, log, lines = first_answer(["sample", NET, "0", "0", "log"])

@@ -29,6 +29,7 @@ MANY = str(TOOLS / "psi-many")
 # 20,000 samples of the first network take some two seconds, a million of the second one four.
 SLOW, QUICK = str(EXAMPLES / "longest-queue.toml"), str(EXAMPLES / "tandem-blocking.toml")
 SECONDS = 300
+pytestmark = pytest.mark.slow
 # The status of a call, what it prints, and what it says on standard error.
 Ended = tuple[int, bytes, str]
 
@@ -129,10 +130,8 @@ def place(program: str, expect: Expectations, tmp_path_factory: pytest.TempPathF
     return functools.partial(Place, program, expect, tmp_path_factory)
 
 
-@pytest.mark.slow
 @pytest.mark.release
 def test_nothing_killed(place: Places) -> None:
-    """Nothing is killed."""
     here = place()
     for count in (1, 3, 5_000):
         wanted = here.one_process(SLOW, 7, 40, count)
@@ -148,7 +147,6 @@ def test_nothing_killed(place: Places) -> None:
     here.same("a merge in two steps", answer, here.one_process(QUICK, 0, 0, 3_000))
 
 
-@pytest.mark.slow
 @pytest.mark.release
 def test_processes_killed(place: Places) -> None:
     """Processes are killed while blocks are drawn."""
@@ -177,7 +175,6 @@ def test_processes_killed(place: Places) -> None:
         here.check(f"psi-many {name} draws no finished block again", kept and 0 < len(before) < 40)
 
 
-@pytest.mark.slow
 @pytest.mark.release
 def test_texts_cut_short(place: Places) -> None:
     """Samplers print less than they should, or fail."""
@@ -205,9 +202,7 @@ def test_texts_cut_short(place: Places) -> None:
     here.same("the same call by a program that works", here.run(*call), wanted)
 
 
-@pytest.mark.slow
 def test_the_program_that_merges(place: Places) -> None:
-    """The program that merges."""
     call = QUICK, 3, 0, 400, "--block", 100
     here = place()
     wanted = here.one_process(*call[:4])
@@ -220,7 +215,6 @@ def test_the_program_that_merges(place: Places) -> None:
     here.check("psi_merge is taken where it is there", (here.room / "kept/merged").exists())
 
 
-@pytest.mark.slow
 def test_a_call_ended(place: Places) -> None:
     """A call is ended in the middle, and goes on."""
     call = SLOW, 1, 0, 6_000, "--block", 200
@@ -235,7 +229,6 @@ def test_a_call_ended(place: Places) -> None:
     here.check("some blocks were finished before", 0 < before < 30, before)
 
 
-@pytest.mark.slow
 def test_files_damaged(place: Places) -> None:
     """Files of finished blocks are damaged."""
     call = QUICK, 3, 0, 4_000, "--block", 100
@@ -258,7 +251,6 @@ def test_files_damaged(place: Places) -> None:
     here.check("whole files stay", kept and len(here.blocks()) == 40)
 
 
-@pytest.mark.slow
 def test_streams_added(place: Places) -> None:
     """Streams are added to a folder, whose last block is short, while samplers are killed."""
     here = place()
@@ -275,10 +267,8 @@ def test_streams_added(place: Places) -> None:
     here.check("a killed sampler's block is told", reported in answer[2], answer[2])
 
 
-@pytest.mark.slow
 @pytest.mark.release
 def test_what_is_refused(place: Places) -> None:
-    """What is refused, by one line."""
     call = [QUICK, 3, 0, 400]
 
     def refused(name: str, words: Sequence[object], status: int = 2, **options: Any) -> None:
@@ -320,7 +310,6 @@ def test_what_is_refused(place: Places) -> None:
         here.check("no room for the report", status == 7, status)
 
 
-@pytest.mark.slow
 @pytest.mark.release
 @pytest.mark.root
 @pytest.mark.cluster
@@ -360,7 +349,6 @@ def test_hosts(place: Places) -> None:
         here.check("blocks of before count", 0 < before < 30)
 
 
-@pytest.mark.slow
 @pytest.mark.release
 @pytest.mark.root
 @pytest.mark.cluster

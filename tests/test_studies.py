@@ -9,6 +9,7 @@ import pytest
 from tests.support import printed_by
 
 HOURS = 4 * 3_600
+pytestmark = pytest.mark.slow
 
 
 def printed_by_study(program: str, study: str) -> str:
@@ -17,7 +18,6 @@ def printed_by_study(program: str, study: str) -> str:
     return printed_by(sys.executable, "-m", f"tests.study_{name}", *words, seconds=HOURS)
 
 
-@pytest.mark.slow
 @pytest.mark.parametrize(
     "study, lines",
     (("intervals --repetitions 40 --count 2000 --least 80", 21), ("guaranteed PSI --repetitions 10 --count 60", 48)),
@@ -26,7 +26,6 @@ def test_a_few_repetitions(program: str, study: str, lines: int) -> None:
     assert printed_by_study(program, study).count(" of 100  width ") == lines
 
 
-@pytest.mark.slow
 @pytest.mark.release
 @pytest.mark.parametrize("study", ("intervals", "intervals PSI", "guaranteed PSI"))
 def test_study(program: str, study: str) -> None:
