@@ -128,7 +128,6 @@ def faults_of_edges() -> Iterator[str]:
 
 
 def faults() -> Iterator[str]:
-    """What isn't so."""
     known, listed = crates_below(TOP), rows()
     names = [name for name, _ in listed]
     for name in sorted({*known, *names}):

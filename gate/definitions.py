@@ -71,6 +71,13 @@ class File:
     def crate(self) -> str:
         return self.path.relative_to(CRATES).parts[0]
 
+    def above(self, start: int, *marks: str) -> list[str]:
+        """The lines right above a line that begin with one of these marks."""
+        begin = start
+        while self.lines[begin - 1].startswith(marks):
+            begin -= 1
+        return self.lines[begin:start]
+
     def header(self) -> str:
         """The sentence at the head of the file, which says what it is about."""
         begun = itertools.takewhile(lambda line: line.startswith(("-- ", "//! ")), self.lines)
@@ -166,10 +173,7 @@ class Source(File):
         return self.lines[start:end]
 
     def read_type(self, start: int, kind: str, name: str) -> None:
-        begin = start
-        while self.lines[begin - 1].startswith(("///", "#[")):
-            begin -= 1
-        comment = [s for s in self.lines[begin:start] if s.startswith("///")]
+        comment = [s for s in self.above(start, "///", "#[") if s.startswith("///")]
         item = self.items[name] = Item(self, name, 0, comment, [])
         item.text = self.until_closed(start)
         model = [s for s in self.lines if re.match(rf"impl(<.*>)? Model for {name}\b", s)]

@@ -39,17 +39,11 @@ def clause(sources: Sources, path: str, function: str, label: str = "") -> Item:
     heads = [i for i in range(start, end) if re.match(r"    (ensures|requires) ", file.lines[i])]
     if not heads:
         raise Missing(f"{path}: {function} has no clause")
-    first, begin = heads[0], start
-    while file.lines[begin - 1].startswith(("///", "#[")):
-        begin -= 1
+    shown, comment = start, [line for line in file.above(start, "///", "#[") if not line.startswith("#[")]
     if label:
-        first = next(i for i in heads if file.lines[i].startswith(f"    ensures {label} "))
-        end = next(i for i in range(first, end) if file.lines[i].endswith("}")) + 1
-        begin = first
-        while file.lines[begin - 1].startswith("    //"):
-            begin -= 1
-    shown = first if label else start
-    comment = [line for line in file.lines[begin:shown] if not line.startswith("#[")]
+        shown = next(i for i in heads if file.lines[i].startswith(f"    ensures {label} "))
+        end = next(i for i in range(shown, end) if file.lines[i].endswith("}")) + 1
+        comment = file.above(shown, "    //")
     item = Item(file, function, 0, comment, [])
     item.text = file.lines[shown:end]
     item.head = [] if label else file.lines[start : heads[0]]
@@ -210,7 +204,6 @@ def sections(part: Part, order: list[Item]) -> list[str]:
 
 
 def page(sources: Sources) -> list[str]:
-    """The whole page."""
     head, parts = outline()
     lines = head
     shown: Shown = {}

@@ -121,7 +121,6 @@ def leads(path: str, call: str, text: str, known: dict[str, str]) -> bool:
 
 
 def faults() -> Iterator[str]:
-    """What is wrong with the list of calls."""
     text = "".join(file.read_text() for file in sorted(TESTS.glob("*.rt")))
     rows, known = listed(), bodies()
     missing = {each for each in calls() if not is_named(each[1], text)}

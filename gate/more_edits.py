@@ -128,18 +128,10 @@ def try_edits(clone: pathlib.Path, crate: str, files: list[str]) -> list[str]:
     """Tries the edits of a crate one by one, tells those that aren't refused, and gives what each
     came to."""
     begun = time.monotonic()
-    done = subprocess.run(
-        ["rt", "must-fail", crate],
-        cwd=clone,
-        env={**os.environ, "RT_JOBS": "1"},
-        stdin=subprocess.DEVNULL,
-        stdout=subprocess.PIPE,
-        stderr=subprocess.STDOUT,
-        text=True,
-        errors="replace",
-    )
-    messages = {}
-    for line in done.stdout.splitlines():
+    call, one = ["rt", "must-fail", crate], {**os.environ, "RT_JOBS": "1"}
+    done = subprocess.run(call, cwd=clone, env=one, stdin=subprocess.DEVNULL, capture_output=True, errors="replace")
+    said, messages = done.stdout + done.stderr, {}
+    for line in said.splitlines():
         found = SAID.fullmatch(line) or MISNAMED.fullmatch(line)
         if found and found[1] == crate:
             messages[found[2]] = found[3]
@@ -147,7 +139,7 @@ def try_edits(clone: pathlib.Path, crate: str, files: list[str]) -> list[str]:
         if not file.endswith(".md"):
             messages.setdefault(file, f"{UNTRIED}: rt says nothing of it (status {done.returncode})")
     if not messages or done.returncode not in (0, 1):
-        print(done.stdout[-2000:], file=sys.stderr)
+        print(said[-2000:], file=sys.stderr)
     for file, text in messages.items():
         if kind_of(text) != REFUSED:
             report(crate, file, text)

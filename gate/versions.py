@@ -26,7 +26,6 @@ RELEASE = re.compile(r"^## (\d+\.\d+\.\d+), (\d{4}-\d\d-\d\d)$", re.M)
 
 
 def text_of(name: str) -> str:
-    """The text of a file."""
     return (TOP / name).read_text()
 
 
