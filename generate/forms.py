@@ -115,14 +115,8 @@ def network(family: str, number: int) -> str:
     dice = Dice(number)
     queues = queues_of(dice, family)
     for queue in queues:
+        queue["capacity"] = min(queue["capacity"], 300 if family == "index" else 65_535)
         queue["servers"] = min(queue["servers"], queue["capacity"])
-        if family == "index":
-            queue["capacity"] = min(queue["capacity"], 300)
-            queue["servers"] = min(queue["servers"], queue["capacity"])
-    limit, split = dice.pick(LIMITS), dice.pick(SPLITS[family])
-    top = f"version = 1\nlimit = {limit}\nsplit = {split}\n"
-    return (
-        top
-        + "".join(table("queue", queue) for queue in queues)
-        + "".join(table("event", entry) for entry in ENTRIES[family](dice, queues))
-    )
+    text = f"version = 1\nlimit = {dice.pick(LIMITS)}\nsplit = {dice.pick(SPLITS[family])}\n"
+    text += "".join(table("queue", queue) for queue in queues)
+    return text + "".join(table("event", entry) for entry in ENTRIES[family](dice, queues))

@@ -53,7 +53,6 @@ def networks() -> Iterator[tuple[str, str]]:
 
 
 def file_of(caps: dict[str, int], servers: dict[str, int], entries: Iterable[Entry]) -> str:
-    """The file of a network."""
     queues = [{"name": q, "capacity": cap, "servers": servers[q]} for q, cap in caps.items()]
     events = [{"name": f"e{i}", "rate": 1, **entry} for i, entry in enumerate(entries)]
     return lists({"version": 2, "queue": queues, "event": events})

@@ -131,7 +131,6 @@ def event(dice: Dice, caps: dict[str, int]) -> Entry:
 
 
 def network(number: int) -> str:
-    """The file of the network of a number."""
     dice = Dice(number)
     caps = {name: dice.upto(4) for name in NAMES[: dice.upto(3)]}
     text = f"version = 2\nlimit = {dice.below(7)}\nsplit = {dice.pick(SPLITS)}\n"

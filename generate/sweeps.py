@@ -166,7 +166,6 @@ def cases_of(name: str, dice: Dice, is_described: bool, listed: Iterable[Listed]
 
 
 def cases() -> Iterator[bytes]:
-    """The cases of all three lists."""
     dice, entries, both = Dice(0), list(guarded()), (BOXES, SETS)
     two = ({"a": 2, "b": 2}, {"a": 1, "b": 1})
     yield from cases_of("guarded", dice, True, ((*two, entry, entries, both) for entry in entries))

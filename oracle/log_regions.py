@@ -11,8 +11,7 @@ Region = tuple[list[int], list[int], int, list[tuple[int, ...]] | None]
 
 
 def regions_of(text: str) -> Iterator[Region]:
-    """The regions of a log, from the beginning to time zero: for each the least and the greatest
-    number in each queue, how many states it has, and the states of a set."""
+    """The regions of a log, from the beginning to time zero."""
     low: list[int] = []
     high: list[int] = []
     for line in text.split("\n")[5:-2]:

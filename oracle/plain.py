@@ -263,7 +263,6 @@ def closed(net: Network, seed: int, stream: int, total: int) -> tuple[int, str]:
 
 
 def report(net: Network, seed: int, first: int, count: int) -> str:
-    """The text of a report."""
     return report_of(net, [outcome(net, seed, stream) for stream in range(first, first + count)])
 
 
@@ -300,7 +299,6 @@ def trial_heading(number: int) -> str:
 
 
 def description(net: Network) -> str:
-    """The text of a description."""
     lines = [f"queues {len(net.queues)}"]
     for queue, cap, servers in zip(net.queues, net.caps, net.servers):
         lines.append(f"queue {queue['name']} {cap} {servers}")

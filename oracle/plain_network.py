@@ -185,7 +185,6 @@ class Reward:
         self.level: int = entry.get("level", 0)
 
     def value(self, x: State) -> int:
-        """The reward of a state."""
         numbers = [x[queue] for queue in self.queues]
         if self.kind == "linear":
             return sum(weight * number for weight, number in zip(self.weights, numbers))

@@ -184,7 +184,6 @@ def fill_control(root: pathlib.Path, version: str, program: pathlib.Path) -> Non
 def make_package(
     room: pathlib.Path, folder: pathlib.Path, programs: dict[str, pathlib.Path], version: str, second: int
 ) -> pathlib.Path:
-    """The Debian package."""
     root, package = room / NAME, folder / f"{NAME}_{version}_amd64.deb"
     root.mkdir()
     fill_library(root, programs)

@@ -99,10 +99,8 @@ def least_space(words: list[str], folder: str, seconds: int, status: int, seen: 
         low, high = high, 2 * high - seen
     while high - low > STEP:
         middle = (low + high) // 2
-        if run(words, folder, seconds, middle)[0] == status:
-            high = middle
-        else:
-            low = middle
+        is_enough = run(words, folder, seconds, middle)[0] == status
+        low, high = (low, middle) if is_enough else (middle, high)
     return high
 
 
@@ -119,26 +117,19 @@ def measure(what: str, program: str, command: str, folder: str, seconds: int, ti
 
 
 def files() -> typing.Iterator[Files]:
-    """All files that are measured."""
     refused = [*hostile_files.refused()]
-    for name, network in [*refused, *hostile_files.with_fault(refused)]:
-        yield Files(name, network, "", ["check"])
-    for name, network in hostile_files.accepted():
-        yield Files(name, network, "", NETWORK_COMMANDS)
+    yield from (Files(*named, "", ["check"]) for named in (*refused, *hostile_files.with_fault(refused)))
+    yield from (Files(*named, "", NETWORK_COMMANDS) for named in hostile_files.accepted())
     network = hostile_files.closed()
     commands = [command for command in NETWORK_COMMANDS if command != "closed"]
     yield Files("closed events", network, "", commands)
     yield Files("closed events", network, "", ["closed"], seconds=3)
-    for name, network in hostile_files.all_states():
-        yield Files(name, network, "", ["exact"])
+    yield from (Files(*named, "", ["exact"]) for named in hostile_files.all_states())
     for name, limit, network, commands in hostile_files.lasting():
         yield Files(name, network, "", commands, times=1 << (22 - limit))
-    for name, network, log in hostile_files.logs():
-        yield Files(name, network, log, ["replay"])
-    for name, network, log in hostile_files.slow_logs(1):
-        yield Files(name, network, log, ["replay"], seconds=3)
-    for name, network, log in hostile_files.slow_logs(PART):
-        yield Files(name, network, log, ["replay"], times=PART)
+    yield from (Files(*named, ["replay"]) for named in hostile_files.logs())
+    yield from (Files(*named, ["replay"], seconds=3) for named in hostile_files.slow_logs(1))
+    yield from (Files(*named, ["replay"], times=PART) for named in hostile_files.slow_logs(PART))
 
 
 def main() -> None:
