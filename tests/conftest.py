@@ -14,7 +14,6 @@ from tests.support import BUILT, TOP, Expectations, printed_by
 
 @pytest.fixture(scope="session")
 def program() -> str:
-    """The path of the built program."""
     path = os.path.abspath(os.environ.get("PSI", BUILT))
     assert os.access(path, os.X_OK), f"the tests want the built program, {path}"
     return path

@@ -61,19 +61,18 @@ def commands_of(text: str) -> Iterator[str]:
 class Clone:
     """A fresh clone, and what its commands have printed."""
 
-    def __init__(self, program: str | None, room: pathlib.Path) -> None:
+    def __init__(self, program: str, room: pathlib.Path) -> None:
         self.top = room / "psi"
         # Its path isn't one of this program's, so a tool can't use what stands beside.
         printed_by("git", "clone", "-q", TOP, self.top)
         self.answers: dict[str, list[Ran]] = {}
-        if program:
-            others = ((name, beside(program, name)) for name in ("psi_states", "psi_paths"))
-            for name, path in (("psi", program), *others):
-                if path:
-                    built = self.top / "crates" / name / "out" / name
-                    built.parent.mkdir(parents=True)
-                    shutil.copy(path, built)
-                    os.utime(built, (time.time() + 1, time.time() + 1))
+        others = ((name, beside(program, name)) for name in ("psi_states", "psi_paths"))
+        for name, path in (("psi", program), *others):
+            if path:
+                built = self.top / "crates" / name / "out" / name
+                built.parent.mkdir(parents=True)
+                shutil.copy(path, built)
+                os.utime(built, (time.time() + 1, time.time() + 1))
 
     def execute(self, command: str) -> TextAnswer:
         """The status of a command, and both its texts."""

@@ -41,7 +41,6 @@ class Log:
         return bool(self.header[0][1] == 2)
 
     def lines(self) -> list[str]:
-        """The lines of the log."""
         lines = [f"{name} {number}" for name, number in self.header]
         lines.append(" ".join(["begin", *region_words(self.regions[0])]))
         for numbers, before, after in zip(self.steps, self.regions, self.regions[1:]):

@@ -63,7 +63,6 @@ def made_report(names: Sequence[str], rewards: Sequence[str], met: int, lost: in
 
 
 def exact_of(states: int, sizes: Sequence[int], constant: int | None, region: int | None) -> str:
-    """A text of exact."""
     lines = [f"states {states}", *(f"image {1 << k} {size}" for k, size in enumerate(sizes))]
     longest = 1 << (len(sizes) - 1)
     lines.append(f"constant {constant} 1,2" if constant else f"not constant within {longest}")

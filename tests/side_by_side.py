@@ -6,6 +6,7 @@ begins late is waited for. Those that are marked `release` run one after the oth
 """
 
 import pathlib
+import sys
 import tempfile
 import time
 from collections.abc import Generator
@@ -20,10 +21,8 @@ FOLDER = pytest.StashKey[str]()
 
 def register(config: pytest.Config) -> None:
     """Makes pytest call the functions of this module, once for all folders of tests."""
-    from tests import side_by_side
-
     if not config.pluginmanager.has_plugin(NAME):
-        config.pluginmanager.register(side_by_side, NAME)
+        config.pluginmanager.register(sys.modules[NAME], NAME)
 
 
 def pytest_configure(config: pytest.Config) -> None:

@@ -58,7 +58,6 @@ def report_of(text: str) -> dict[tuple[str, str], int]:
 
 
 def version_of_citation() -> str:
-    """The version that CITATION.cff has."""
     found = re.search(r'^version: "(.*)"$', (TOP / "CITATION.cff").read_text(), re.M)
     assert found
     return found[1]
@@ -80,7 +79,6 @@ def answer_as_text(words: Sequence[object], folder: str | pathlib.Path, *more: f
 
 
 def write(folder: str | pathlib.Path, files: Mapping[str, bytes]) -> None:
-    """Writes files into a folder."""
     for name, data in files.items():
         pathlib.Path(folder, name).write_bytes(data)
 

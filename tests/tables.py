@@ -19,9 +19,9 @@ from generate.toml_text import table
 from oracle.plain_network import Network
 from psi_tools.model.networks import Network as Made
 from tests.refusing import Call, Refusing
-from tests.support import Answer, Expectations, built
+from tests.support import Answer, Expectations, TextAnswer, answer_as_text, built
 
-MOST_STREAM = 2**64 - 1
+MOST_STREAM, HOUR = 2**64 - 1, 3_600
 # A queue that is served as fast as it fills.
 MADE = Made(limit=8).queue("a", 2).event("in", "arrival", 1, to=["a"]).event("out", "service", 1, source="a")
 QUEUE = MADE.toml()
@@ -56,12 +56,12 @@ class RefusingTable(Refusing):
         return [*words[:-1], "-" * len(words[-1])], (2, b"", usage)
 
 
-def limited(most: int) -> Callable[[], None]:
-    """What makes a process write at most that many bytes to a file."""
+def limited(kind: int, most: int) -> Callable[[], None]:
+    """What limits a process to so many bytes of a file that it writes, or of memory."""
 
     def limit() -> None:
         signal.signal(signal.SIGXFSZ, signal.SIG_IGN)
-        resource.setrlimit(resource.RLIMIT_FSIZE, (most, most))
+        resource.setrlimit(kind, (most, most))
 
     return limit
 
@@ -101,10 +101,9 @@ class TableTests:
         """Holds that something is what is wanted."""
         self.expect(given == wanted, f"{what}: {given!r:.300} instead of {wanted!r:.300}")
 
-    def run(self, program: str, *words: object) -> tuple[int, str, str]:
+    def run(self, program: str, *words: object) -> TextAnswer:
         """The status of a run, and both its texts."""
-        done = subprocess.run([program, *map(str, words)], cwd=self.room, capture_output=True, stdin=subprocess.DEVNULL)
-        return done.returncode, done.stdout.decode(), done.stderr.decode()
+        return answer_as_text([program, *words], self.room, HOUR)
 
     def file(self, text: str, name: str = "net.toml") -> None:
         """Writes a file."""
@@ -223,9 +222,8 @@ class TableTests:
         for most in places:
             target = self.room / "table.csv"
             with open(target, "wb") as out:
-                done = subprocess.run(
-                    words, cwd=self.room, stdout=out, stderr=subprocess.PIPE, preexec_fn=limited(most)
-                )
+                limit = limited(resource.RLIMIT_FSIZE, most)
+                done = subprocess.run(words, cwd=self.room, stdout=out, stderr=subprocess.PIPE, preexec_fn=limit)
             given = done.returncode, target.read_bytes() == whole[:most], done.stderr
             self.is_same(f"a file of {most} bytes", given, (7, True, b""))
         with open("/dev/full", "wb") as full:
@@ -244,13 +242,9 @@ class TableTests:
 
     def fits(self, pieces: int, *words: object) -> bool:
         """Whether a table of the words from COUNT on is made within that many times 64 KiB of memory."""
-
-        def limit() -> None:
-            resource.setrlimit(resource.RLIMIT_AS, (pieces * 65_536, pieces * 65_536))
-
-        call = [self.program, "net.toml", "5", "0", *map(str, words)]
+        call, limit = [self.program, "net.toml", 5, 0, *words], limited(resource.RLIMIT_AS, pieces * 65_536)
         nowhere = subprocess.DEVNULL
-        done = subprocess.run(call, cwd=self.room, preexec_fn=limit, stdout=nowhere, stderr=nowhere)
+        done = subprocess.run([*map(str, call)], cwd=self.room, preexec_fn=limit, stdout=nowhere, stderr=nowhere)
         return done.returncode == 0
 
     @pytest.mark.slow

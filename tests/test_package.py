@@ -201,7 +201,6 @@ def install(bare: Bare, package: pathlib.Path) -> tuple[int, str]:
 
 
 def try_tour(expect: Expectations, bare: Bare) -> None:
-    """The tour, as it stands."""
     name = "docs/TOUR.md"
     expect(bare.read(name) == (TOP / name).read_bytes(), "the package has another tour")
     document = documents.Document(name, bare.read(name).decode(), expect)
@@ -264,7 +263,6 @@ def try_examples(expect: Expectations, bare: Bare) -> None:
 
 
 def try_completion(expect: Expectations, bare: Bare) -> None:
-    """What completion gives for some words."""
     for line, wanted in COMPLETIONS.items():
         words = line.split(" ")
         script = (

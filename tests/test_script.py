@@ -63,7 +63,6 @@ def ended(words: Sequence[object], folder: pathlib.Path, path: str | None = None
 
 
 def try_help(expect: Expectations, script: pathlib.Path, top: pathlib.Path) -> None:
-    """What a script answers itself."""
     calls = [["--help"], ["-h"], ["help"], ["--version"], *(["help", name] for name in COMMANDS)]
     answers = {}
     for words in calls:
@@ -89,12 +88,6 @@ def try_help(expect: Expectations, script: pathlib.Path, top: pathlib.Path) -> N
     with open("/dev/full", "wb") as full:
         status = subprocess.run([script, "--help"], stdout=full).returncode
     expect(status == 7, f"where the help can't be written the status is {status}")
-
-
-@pytest.fixture(scope="module")
-def unbuilt(tmp_path_factory: pytest.TempPathFactory) -> pathlib.Path:
-    """A checkout in which nothing is built."""
-    return checkout(tmp_path_factory.mktemp("unbuilt"))
 
 
 @pytest.fixture(scope="module")
@@ -131,7 +124,8 @@ def script(request: pytest.FixtureRequest, built: pathlib.Path, installed: pathl
     return built / "psi" if request.param == "checkout" else installed
 
 
-def test_help_of_a_checkout(expect: Expectations, unbuilt: pathlib.Path) -> None:
+def test_help_of_a_checkout(expect: Expectations, tmp_path: pathlib.Path) -> None:
+    unbuilt = checkout(tmp_path)
     try_help(expect, unbuilt / "psi", unbuilt)
     own, first = (ended([unbuilt / it, "--help"], unbuilt)[0] for it in ("psi", "tools/psi-first"))
     expect(own == first, f"psi-first --help: {first!r}")
