@@ -92,12 +92,6 @@ def is_shown(text: str, printed: str) -> bool:
     return printed.startswith(front) and len(printed) > len(front)
 
 
-def guides() -> list[pathlib.Path]:
-    """The guides; README.md, docs/START.md and docs/TOUR.md are tried by test_documents.py."""
-    elsewhere = {TOP / "docs/START.md", TOP / "docs/TOUR.md"}
-    return sorted({*(TOP / "docs").glob("*.md")} - elsewhere)
-
-
 def fault_of_run(program: str, run: Run) -> str | None:
     """What is wrong with a run; none where it is as it is shown."""
     file, folder, words, text = run
@@ -117,8 +111,9 @@ def faults_of_runs(program: str, *files: pathlib.Path) -> Iterator[str | None]:
 
 
 def faults_of_texts(program: str) -> Iterator[str | None]:
-    """For each text of the gallery and the guides what is wrong with it, or none."""
-    files = guides()
+    """For each text of the gallery and the guides what is wrong with it, or none; README.md, docs/START.md and
+    docs/TOUR.md are tried by test_documents.py."""
+    files = sorted({*(TOP / "docs").glob("*.md")} - {TOP / "docs/START.md", TOP / "docs/TOUR.md"})
     yield from (fault_of_run(program, run) for run in runs_of_gallery())
     yield from faults_of_runs(program, *files)
     with tempfile.TemporaryDirectory() as room:

@@ -3,7 +3,6 @@ one place or left as it is. The changes are drawn by their number, so they are a
 """
 
 import copy
-import pathlib
 import tempfile
 import types
 from collections.abc import Callable, Iterator
@@ -11,7 +10,7 @@ from collections.abc import Callable, Iterator
 from generate import small_networks
 from generate.toml_text import table
 from tests.log_changes import ChangedLog, NoPlace, with_key
-from tests.support import EXAMPLES, answer
+from tests.support import EXAMPLES, answer, write
 
 Change = Callable[[ChangedLog], str | None]
 CHANGES: list[Change] = [each for each in vars(ChangedLog).values() if isinstance(each, types.FunctionType)]
@@ -43,7 +42,7 @@ def networks() -> Iterator[str]:
 def written(program: str, number: int, net: str) -> ChangedLog | None:
     """A log that the program writes for a network, neither short nor long; or none."""
     with tempfile.TemporaryDirectory() as room:
-        pathlib.Path(room, "net.toml").write_text(net)
+        write(room, {"net.toml": net.encode()})
         for stream in range(STREAMS):
             status, text, fault = answer([program, "sample", "net.toml", number, stream, "log"], room)
             assert status in (0, 1), f"the program writes no log: {fault!r}"

@@ -9,6 +9,7 @@ It wants a system with /dev/full, /dev/zero and named pipes, and the commands `s
 """
 
 import dataclasses
+import functools
 import os
 import pathlib
 import pty
@@ -55,8 +56,8 @@ REPORT = merges.BASE.encode()
 NO_FILES = (2, b"", b"psi_merge: usage: psi_merge FILE..\n")
 WRONG_REPORT = (3, b"", b"psi_merge: refused 3 Samples line 7 wrong.csv\n")
 LONG_REPORT = (3, b"", b"psi_merge: refused 0 TooLong line 0 /dev/zero\n")
+SAMPLE = ["sample", "filling.toml", "0", "0", "log"]
 # Words, one of which will not be UTF-8.
-WORDS = [["sample", "filling.toml", "0", "0", "log"]]
 WORDS_OF_MERGES = [["report.csv"], ["report.csv", "report.csv"]]
 
 
@@ -124,13 +125,13 @@ class Place:
         (folder / "loop").symlink_to("loop")
         (folder / "locked").chmod(0)
         self.accepted = (0, b"accepted %d\nstate %d\n" % (PLACES + 1, PLACES), b"")
-        answers = [*self.shown(), (["sample", "filling.toml", "0", "0", "log"], self.log)]
-        answers += [(["replay", "filling.toml", "filling.log"], self.accepted[1])]
+        replay = ["replay", "filling.toml", "filling.log"], self.accepted[1]
+        answers = [*self.shown(), (SAMPLE, self.log), replay]
         pieces = (
             (["replay", "pieces", "filling.log"], filling_network(), (1, 7, 4_096), self.accepted),
             (["replay", "filling.toml", "pieces"], self.log, (31, 8_191, 100_000), self.accepted),
         )
-        self.programs = {"psi": Tried(self.copied("psi", program), answers, REFUSALS, pieces, WORDS)}
+        self.programs = {"psi": Tried(self.copied("psi", program), answers, REFUSALS, pieces, [SAMPLE])}
         if merger := beside(program, "psi_merge"):
             path, merged = self.copied("psi_merge", merger), [(["report.csv"], REPORT)]
             reports = ((["pieces"], REPORT, (1, 7, 4_096), (0, REPORT, b"")),)
@@ -171,15 +172,11 @@ def full_devices(place: Place, tried: Tried) -> Iterator[Case]:
 
 def size_limits(place: Place, psi: Tried) -> Iterator[Case]:
     for most in (0, 1, 4_096, 65_536, 100_000, len(place.log) - 1):
+        limit = functools.partial(resource.setrlimit, resource.RLIMIT_FSIZE, (most, most))
         for ignored in (True, False):
             file = place.folder / "limited"
             with open(file, "wb") as out:
-                got = psi.run(
-                    ["sample", "filling.toml", "0", "0", "log"],
-                    stdout=out,
-                    restore_signals=not ignored,
-                    preexec_fn=lambda: resource.setrlimit(resource.RLIMIT_FSIZE, (most, most)),
-                )
+                got = psi.run(SAMPLE, stdout=out, restore_signals=not ignored, preexec_fn=limit)
             status = 7 if ignored else -signal.SIGXFSZ
             what = f"a log on a disk with room for {most} bytes"
             yield what, [(status, None, b"", place.log[:most])], (*got, file.read_bytes())
@@ -209,15 +206,14 @@ def readers_that_leave(place: Place, psi: Tried) -> Iterator[Case]:
 
 def slow_pipes(place: Place, psi: Tried) -> Iterator[Case]:
     for most in (1, 7, 4_096):
-        words = [psi.path, "sample", "filling.toml", "0", "0", "log"]
-        with subprocess.Popen(words, cwd=place.folder, stdout=subprocess.PIPE) as running:
+        with subprocess.Popen([psi.path, *SAMPLE], cwd=place.folder, stdout=subprocess.PIPE) as running:
             assert running.stdout
             end = running.stdout.fileno()
             text = b"".join(iter(lambda: os.read(end, most), b""))
         yield f"a log that is read by {most} bytes", [(0, place.log)], (running.returncode, text)
     read, write = os.pipe()
     os.set_blocking(write, False)
-    got = psi.run(["sample", "filling.toml", "0", "0", "log"], stdout=write)
+    got = psi.run(SAMPLE, stdout=write)
     os.close(write)
     with open(read, "rb") as pipe:
         taken = pipe.read()

@@ -4,13 +4,12 @@ it, with the same status; and some log has each cause of a refusal.
 
 import concurrent.futures
 import os
-import pathlib
 import tempfile
 
 import pytest
 
 from tests.logs import changed_logs, networks, written
-from tests.support import CHECKER, Answer, Expectations, answer
+from tests.support import CHECKER, Answer, Expectations, answer, write
 
 REFUSED = "NotLog Version Number Shape Truncated TrailingText TooLong".split()
 REJECTED = "Header StepNumber WrongEvent OutsideBox NotCovered SplitTooLarge NotSingle WrongState".split()
@@ -19,8 +18,7 @@ REJECTED = "Header StepNumber WrongEvent OutsideBox NotCovered SplitTooLarge Not
 def both_answers(program: str, net: str, text: str) -> tuple[Answer, Answer]:
     """What the program and the checker say of a log."""
     with tempfile.TemporaryDirectory() as room:
-        pathlib.Path(room, "net.toml").write_text(net)
-        pathlib.Path(room, "log").write_bytes(text.encode())
+        write(room, {"net.toml": net.encode(), "log": text.encode()})
         files = ["net.toml", "log"]
         return answer([program, "replay", *files], room), answer([*CHECKER, *files], room)
 
