@@ -129,9 +129,7 @@ def cases() -> Iterator[bytes]:
             states = box((0,) * len(net.caps), net.caps)
             assert all(is_marked(event, {x: event.after(x) for x in states}) for event in net.events), text
             name = f"kinds-{'-'.join(map(str, sizes))}-from-{front}"
-            files = {"net.toml": text.encode()}
-            out = plain.description(net).encode()
-            yield case(name, ["check", "net.toml"], files, 0, out)
+            yield case(name, ["check", "net.toml"], {"net.toml": text.encode()}, 0, plain.description(net).encode())
 
 
 if __name__ == "__main__":

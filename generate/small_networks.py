@@ -179,11 +179,10 @@ def cases(count: int, command: str) -> Iterator[bytes]:
         status, answer = getattr(plain, command)(net, *numbers)
         if not is_kept(command, number, answer):
             continue
-        files = {"net.toml": text.encode()}
         name = f"small-{number:04}" if command == "sample" else f"small-{command}-{number:04}"
-        out, err = (answer.encode(), b"") if status <= 1 else (b"", answer.encode())
+        texts = (answer.encode(), b"") if status <= 1 else (b"", answer.encode())
         words = [command, "net.toml", *map(str, numbers)]
-        yield case(name, words, files, status, out, err)
+        yield case(name, words, {"net.toml": text.encode()}, status, *texts)
 
 
 if __name__ == "__main__":
