@@ -84,7 +84,7 @@ class Samples:
             raise PsiError(f"none of {law.many:,} streams is coupled; psi-why reports what may help", 1)
         pilots, begin = pilots_of(self.count) if pilots is None else pilots, self.first + self.count
         pilot = None
-        if pilots and not law.span.two and law.ends[0] < law.ends[1]:
+        if pilots and not law.span.two and law.span.ends[0] < law.span.ends[1]:
             if begin + pilots - 1 > GREATEST:
                 raise PsiError(f"the last pilot stream would be above {GREATEST}; --pilot 0 wants none")
             seen = dataclasses.replace(self, first=begin, count=pilots).law(name, is_reward)

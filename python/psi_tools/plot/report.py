@@ -1,6 +1,5 @@
 """What the picture of reports shows of each: how many samples are met at each horizon, and the queues and rewards."""
 
-import collections
 import dataclasses
 
 from psi_tools.io.tables import Record
@@ -22,12 +21,9 @@ class Report:
 
 def report_of(batches: Batches, has_intervals: bool = False) -> Report:
     """The report of all batches together."""
-    horizons: collections.Counter[int] = collections.Counter()
-    for some in batches.horizons:
-        horizons.update(some)
     met = sum(batches.met)
     spreads: dict[str, list[Record]] = {"": [], REWARD: []}
     for row in batches.rows:
         mean = batches.mean(row) if has_intervals else Mean(sum(row.sums) / met if met else None, None)
         spreads[row.kind].append(record(f"{row.kind}mean", row.name, mean, row.least, row.greatest))
-    return Report(sum(batches.samples), batches.uncoupled, dict(sorted(horizons.items())), *spreads.values())
+    return Report(sum(batches.samples), batches.uncoupled, batches.all_horizons, *spreads.values())

@@ -1,6 +1,7 @@
 """Batches: reports of one network over different streams, each of which is one value of a mean; and their means as rows
 of a table, as those of paths, with their intervals and remarks."""
 
+import collections
 import dataclasses
 from collections.abc import Iterable, Iterator, Sequence
 
@@ -8,19 +9,7 @@ from psi_tools.errors import PsiError
 from psi_tools.io.reports import Report
 from psi_tools.io.tables import Record, aligned
 from psi_tools.model.networks import Network
-from psi_tools.stats.intervals import (
-    LEVEL,
-    NO_MEAN,
-    Mean,
-    Span,
-    Sums,
-    carried_by_few,
-    carriers,
-    mean_of_batches,
-    mean_of_two,
-    share_of,
-    spread_of,
-)
+from psi_tools.stats import intervals
 from psi_tools.stats.spans import Row, guessed_span, spans_of
 from psi_tools.stats.text import ends_shown, figures, half_shown, not_coupled
 
@@ -31,15 +20,14 @@ KINDS = {"mean": "queue", "reward-mean": "reward", "moved-rate": "moved", "chose
 
 @dataclasses.dataclass
 class Batches:
-    """Reports of one network: of each how many samples it has, how many are met, and how many at
-    each horizon, in steps; and a row for each queue and reward. Where the network is known, `spans`
-    has what each row may be."""
+    """Reports of one network: how many samples each has, how many are met, and how many at each horizon, in steps; a
+    row for each queue and reward; and, where the network is known, in `spans` what each row may be."""
 
     samples: list[int]
     met: list[int]
     horizons: list[dict[int, int]]
     rows: list[Row]
-    spans: dict[tuple[str, str], Span] = dataclasses.field(default_factory=dict)
+    spans: dict[tuple[str, str], intervals.Span] = dataclasses.field(default_factory=dict)
 
     @property
     def lost(self) -> list[int]:
@@ -51,55 +39,61 @@ class Batches:
         """How many samples of all aren't coupled."""
         return sum(self.lost)
 
+    @property
+    def all_horizons(self) -> dict[int, int]:
+        """How many samples of all are met at each horizon, in steps, ascending."""
+        whole: collections.Counter[int] = collections.Counter()
+        for some in self.horizons:
+            whole.update(some)
+        return dict(sorted(whole.items()))
+
     def of_network(self, net: Network) -> "Batches":
-        """The same batches, of a network that is known: what isn't coupled, and what didn't come,
-        is reckoned with in all intervals."""
+        """The same batches of a known network: intervals reckon with what isn't coupled, and what didn't come."""
         return dataclasses.replace(self, spans=spans_of(net, self.rows))
 
-    def span(self, row: Row) -> Span | None:
+    def span(self, row: Row) -> intervals.Span | None:
         """What the values of a row may be; none where no sample is met."""
         return self.spans.get((row.kind, row.name)) or guessed_span(row)
 
-    def mean(self, row: Row, level: float = LEVEL) -> Mean:
-        """The mean of a row over the samples that are met. Where a row has two values it is a
-        share, whose interval holds it also where one of the two is rare. What isn't coupled widens
-        an interval; where the network isn't known, there is none then."""
-        span = self.span(row)
-        if span is None:
-            return NO_MEAN
-        sums = Sums(row.sums, self.met, span, self.lost)
-        if span.two and (not self.uncoupled or self.spans):
-            return mean_of_two(sums, level)
+    def sums(self, row: Row | None) -> intervals.Sums | None:
+        """A row with its span and what isn't coupled; none where there is no row, or no sample is met."""
+        if row is None or (span := self.span(row)) is None:
+            return None
+        return intervals.Sums(row.sums, self.met, span, self.lost)
+
+    def mean(self, row: Row | None, level: float = intervals.LEVEL) -> intervals.Mean:
+        """The mean of a row over the samples that are met; of two values that of a share, also where one is rare. What
+        isn't coupled widens an interval; where the network isn't known, there is none then."""
+        sums = self.sums(row)
+        if sums is None:
+            return intervals.NO_MEAN
+        if sums.span.two and (not self.uncoupled or self.spans):
+            return intervals.mean_of_two(sums, level)
         if not self.spans and self.uncoupled:
-            sums = dataclasses.replace(sums, span=dataclasses.replace(span, least=None, greatest=None))
-        return mean_of_batches(sums, level)
+            sums = dataclasses.replace(sums, span=dataclasses.replace(sums.span, least=None, greatest=None))
+        return intervals.mean_of_batches(sums, level)
 
     def find(self, kind: str, name: str) -> Row | None:
         """The row of a queue or a reward, none where there isn't one."""
         return next((row for row in self.rows if (row.kind, row.name) == (kind, name)), None)
 
-    def share(self, counts: list[int], level: float = LEVEL) -> Mean:
-        """The share of all samples that some are, by their number in each batch."""
-        return share_of(sum(counts), sum(self.samples), level=level)
-
     def carried(self, names: list[str] | None = None) -> list[str]:
         """The lines on means that few samples carry, of all rows or of some."""
-        lines = []
+        lines: list[str] = []
         for row in self.rows:
-            spread, span = spread_of(row.sums, self.met), self.span(row)
+            spread, span = intervals.spread_of(row.sums, self.met), self.span(row)
             if spread is None or span is None or span.two or names and row.name not in names:
                 continue
-            number = carriers(spread.mean, spread.error, spread.many, row.least or 0)
-            lines.append(carried_by_few(row.name, number, spread.many))
-        return [line for line in lines if line]
+            number = intervals.carriers(spread.mean, spread.error, spread.many, row.least or 0)
+            lines += intervals.carried_by_few(row.name, number, spread.many)
+        return lines
 
 
 def batches_of(reports: Sequence[Report]) -> Batches:
     """The batches of some reports, all of one network, each as io.reports reads it."""
     first = reports[0]
-    for report in reports[1:]:
-        if report.sums() != first.sums():
-            raise PsiError("the reports are of different networks: their queues or rewards differ")
+    if any(report.sums() != first.sums() for report in reports[1:]):
+        raise PsiError("the reports are of different networks: their queues or rewards differ")
     rows = []
     for place, (kind, name) in enumerate(first.sums()):
         # The figures of a report are sums alone where no sample is met; else the extremes follow each sum.
@@ -108,8 +102,7 @@ def batches_of(reports: Sequence[Report]) -> Batches:
         ends = [(least.value, greatest.value) for _, least, greatest in (each for each in own if len(each) > 1)]
         least = min((low for low, _ in ends), default=None)
         rows.append(Row(kind.decode(), name.decode(), sums, least, max((high for _, high in ends), default=None)))
-    horizons = [dict(report.horizons) for report in reports]
-    met = [report.met for report in reports]
+    met, horizons = [report.met for report in reports], [dict(report.horizons) for report in reports]
     return Batches([report.samples for report in reports], met, horizons, rows)
 
 
@@ -118,37 +111,32 @@ def notes_of(batches: Batches, wanted: int) -> list[str]:
     hold = "the intervals hold" if batches.spans else "--net NET gives intervals that hold"
     notes = not_coupled(batches.uncoupled, sum(batches.samples), "means", hold)
     if len(batches.samples) < wanted:
-        notes.append(
-            f"NOT WHOLE: {len(batches.samples)} of {wanted} blocks are finished; those that come "
-            "first may not be typical; the same call of psi-many goes on"
-        )
+        line = f"NOT WHOLE: {len(batches.samples)} of {wanted} blocks are finished; those that come first may not be"
+        notes.append(f"{line} typical; the same call of psi-many goes on")
     return notes
 
 
 def records_of(batches: Batches, level: float) -> Iterator[Record]:
     """The rows, each with its item, its name, its mean, and the ends of its interval."""
-    horizons = sorted({horizon for some in batches.horizons for horizon in some})
-    shares = [("uncoupled", "-", [n - m for n, m in zip(batches.samples, batches.met)])]
-    for horizon in horizons:
-        counts = [some.get(horizon, 0) for some in batches.horizons]
-        shares.append(("horizon", str(horizon), counts))
-    for item, name, counts in shares:
-        yield record(item, name, batches.share(counts, level), None, None)
+    shares = [("uncoupled", "-", batches.uncoupled)]
+    shares += [("horizon", str(horizon), count) for horizon, count in batches.all_horizons.items()]
+    for item, name, count in shares:
+        yield record(item, name, intervals.share_of(count, sum(batches.samples), level=level), None, None)
     for row in batches.rows:
         mean = batches.mean(row, level)
         yield record(f"{row.kind}mean", row.name, mean, row.least, row.greatest)
 
 
-def record(item: str, name: str, mean: Mean, least: int | None, greatest: int | None) -> Record:
+def record(item: str, name: str, mean: intervals.Mean, least: int | None, greatest: int | None) -> Record:
     """One row of the answer."""
     ends = {"mean": mean.mean, "half": mean.half, "low": mean.low, "high": mean.high}
     return {"item": item, "name": name, **ends, "least": least, "greatest": greatest}
 
 
-def mean_of(each: Record) -> Mean:
+def mean_of(each: Record) -> intervals.Mean:
     """The mean of a row of the answer."""
     ends = None if each["half"] is None else (each["low"], each["high"])
-    return Mean(each["mean"], each["half"], ends)
+    return intervals.Mean(each["mean"], each["half"], ends)
 
 
 def table_of(
@@ -172,12 +160,6 @@ def table_of(
 
 def remarks(batches: Batches) -> list[str]:
     """What an interval means where all samples are alike, or few carry a mean."""
-    rows = [row for row in batches.rows if row.least is not None]
-    alike = [row.name for row in rows if row.least == row.greatest]
-    lines = batches.carried()
-    if alike:
-        lines.append(
-            f"all samples have the same value of {', '.join(alike)}: that others are rare is all "
-            "that the interval says"
-        )
-    return lines
+    alike = ", ".join(row.name for row in batches.rows if row.least is not None and row.least == row.greatest)
+    line = f"all samples have the same value of {alike}: that others are rare is all that the interval says"
+    return batches.carried() + [line] * bool(alike)

@@ -1,13 +1,8 @@
 """Confidence intervals of means, shares, differences and quantiles over independent samples.
 
 Statistics in Python, and no promise of psi: an interval of 95 % holds what it is of in some 95 % of
-all repetitions, as far as the streams are independent. Three functions serve the three kinds of
-rows, each with an estimate, a lower and an upper end:
-
-- `share_of`: values 0 and 1, by their count (Clopper and Pearson 1934);
-- `mean_of_values` and `mean_of_batches`: bounded values, by how many samples have each of them, or
-  by the sums of batches;
-- `difference_of_batches`: two designs under common random numbers.
+all repetitions, as far as the streams are independent. `share_of` serves values 0 and 1, by their count;
+`mean_of_values` and `mean_of_batches` serve bounded values; and `difference_of_batches` serves two designs.
 
 An interval of a mean reckons with a sample that did not come. Where a rare value is large, most
 sets of samples lack it, and Student's t alone would be far too narrow. So a row has a `Span`: what
@@ -19,6 +14,7 @@ import contextlib
 import dataclasses
 import functools
 import importlib
+import itertools
 import math
 import threading
 from collections.abc import Callable, Iterator, Sequence
@@ -108,9 +104,8 @@ def between(mean: float, low: float, high: float) -> Mean:
 
 @dataclasses.dataclass(frozen=True)
 class Span:
-    """The values of a row: `least` and `greatest` are the ends of what it may have at all, none
-    where that isn't known; `low` and `high` are the ends of what a sample is reckoned with that
-    did not come. `two` is true where it has no other values than the least and the greatest."""
+    """The values of a row: `least` and `greatest` are the ends of what it may have, none where they aren't known; `low`
+    and `high` those of what a sample that did not come may have. `two` says that it has these ends alone."""
 
     least: int | None
     greatest: int | None
@@ -203,8 +198,7 @@ def student_and_unseen(degrees: int, ratio: float, level: float = LEVEL) -> floa
 
 @dataclasses.dataclass(frozen=True)
 class Spread:
-    """The mean of samples in batches, its standard error, and how many batches and samples there
-    are."""
+    """The mean of samples in batches, its standard error, and how many batches and samples there are."""
 
     mean: float
     error: float | None
@@ -247,8 +241,7 @@ class Sums:
 
 
 def end_of_batches(spread: Spread, far: float, level: float = LEVEL) -> float:
-    """How far an end of the interval of a mean over batches is from the mean. `far` is the value on
-    that side which a sample is reckoned with that did not come."""
+    """How far an end is from the mean over batches; `far` is the value there of a sample that did not come."""
     unseen = abs(far - spread.mean) / spread.many
     if not spread.error:
         # All batches are alike: what didn't come in any sample comes in so few of all.
@@ -327,8 +320,7 @@ def difference_end(one: Sums, other: Sums, value: int | None, other_value: int |
 
 
 def difference_of_pairs(plus: int, minus: int, many: int, level: float = LEVEL) -> Mean:
-    """The difference of two rows of 0 and 1 by the joint counts: of `many` streams the rows differ
-    by 1 in `plus`, by -1 in `minus`, and in no other."""
+    """The difference of two rows of 0 and 1 which differ by 1 in `plus` of `many` streams, and by -1 in `minus`."""
     counts = [(-1, minus), (0, many - plus - minus), (1, plus)]
     return mean_of_values(counts, Span(-1, 1, -1, 1), level=level)
 
@@ -410,22 +402,17 @@ def deviate(values: Any, shapes: Any, x: float) -> tuple[float, float]:
 
 
 def carriers(mean: float, error: float | None, many: int, base: float) -> float:
-    """How many samples of equal size would have the sum of a row above its least value, `base`, and
-    the same variance: few where a few samples carry the sum."""
+    """How many samples of equal size would have the sum of a row above its least value, `base`, and its variance."""
     if not error:
         return float(many)
     share = (mean - base) ** 2
     return many * share / (share + error**2 * many)
 
 
-def carried_by_few(name: str, number: float, many: int) -> str | None:
+def carried_by_few(name: str, number: float, many: int) -> list[str]:
     """The line on a mean that few samples carry; none where many do."""
-    if number >= FEW:
-        return None
-    return (
-        f"few samples carry the mean of {name}: as if {max(1, round(number))} of {many:,} had the "
-        "whole sum; more streams make its interval narrower"
-    )
+    line = f"few samples carry the mean of {name}: as if {max(1, round(number))} of {many:,} had the whole sum"
+    return [f"{line}; more streams make its interval narrower"] if number < FEW else []
 
 
 def probability(count: int, many: int, unknown: int = 0, level: float = LEVEL) -> tuple[float, float]:
@@ -474,9 +461,5 @@ def quantile(
 
 def value_at(values: Sequence[tuple[int, int]], rank: int) -> int | None:
     """The value of a rank, none where there isn't one."""
-    passed = 0
-    for value, count in values:
-        passed += count
-        if 1 <= rank <= passed:
-            return value
-    return None
+    sums = itertools.accumulate(count for _, count in values)
+    return next((value for (value, _), passed in zip(values, sums) if 1 <= rank <= passed), None)

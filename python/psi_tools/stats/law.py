@@ -5,17 +5,7 @@ from collections.abc import Iterator, Sequence
 from typing import Any
 
 from psi_tools.io.tables import Record
-from psi_tools.stats.intervals import (
-    LEVEL,
-    Mean,
-    Span,
-    between,
-    carried_by_few,
-    carriers,
-    mean_of_values,
-    probability,
-    quantile,
-)
+from psi_tools.stats import intervals
 from psi_tools.stats.text import ends_shown, figures, half_shown
 
 # A share, its quantile, and the ends of its interval.
@@ -48,60 +38,51 @@ class Counted:
 
 @dataclasses.dataclass
 class Law(Counted):
-    """The distribution of a number over samples: `counts` has pairs of a value and how many samples
-    have it, ascending; of `unknown` more streams it isn't known, as they weren't coupled. `span`
-    has what the number may be."""
+    """The distribution of a number over samples: `counts` has pairs of a value and how many samples have it, ascending;
+    `unknown` more streams weren't coupled; `span` has what the number may be."""
 
     name: str
     what: str
     counts: list[tuple[int, int]]
     unknown: int
-    span: Span
+    span: intervals.Span
 
-    @property
-    def ends(self) -> tuple[int, int]:
-        """The least and the greatest that the number may be."""
-        return self.span.ends
-
-    def mean(self, level: float = LEVEL) -> Mean:
-        """The mean of the values that are known, with its interval: of two values that of a share,
-        else by the values themselves. What isn't known widens it."""
-        low, high = self.ends
+    def mean(self, level: float = intervals.LEVEL) -> intervals.Mean:
+        """The mean of the known values with its interval: of two values that of a share. What isn't known widens it."""
+        low, high = self.span.ends
         if self.span.two and self.known and low < high:
             count = sum(count for value, count in self.counts if value == high)
-            ends = probability(count, self.many, self.unknown, level)
+            ends = intervals.probability(count, self.many, self.unknown, level)
             mean = low + (high - low) * count / self.known
-            return between(mean, *(low + (high - low) * end for end in ends))
-        return mean_of_values(self.counts, self.span, self.unknown, level)
+            return intervals.between(mean, *(low + (high - low) * end for end in ends))
+        return intervals.mean_of_values(self.counts, self.span, self.unknown, level)
 
-    def carried(self) -> str | None:
-        """The line on a mean that few samples carry; none where many do, or where there
-        are two values alone."""
+    def remarks(self) -> list[str]:
+        """What is to be known of the intervals, each as a line: that few samples carry the mean, where it has any."""
         many = self.known
         if self.span.two or many < 2:
-            return None
+            return []
         mean = sum(value * count for value, count in self.counts) / many
         squares = sum(count * (value - mean) ** 2 for value, count in self.counts)
         error = (squares / (many - 1) / many) ** 0.5
-        return carried_by_few(self.name, carriers(mean, error, many, self.counts[0][0]), many)
+        return intervals.carried_by_few(self.name, intervals.carriers(mean, error, many, self.counts[0][0]), many)
 
-    def records(self, level: float = LEVEL) -> list[Record]:
+    def records(self, level: float = intervals.LEVEL) -> list[Record]:
         """Each value with its probability and that of no greater value, and their intervals."""
         below, records = 0, []
         for value, count in self.counts:
             below += count
-            low, high = probability(count, self.many, self.unknown, level)
-            lower, upper = probability(below, self.many, self.unknown, level)
-            shares = count / self.known, low, high, below / self.known, lower, upper
+            ends, most = (intervals.probability(each, self.many, self.unknown, level) for each in (count, below))
+            shares = count / self.known, *ends, below / self.known, *most
             records.append(dict(zip(RECORD, (value, count, *shares))))
         return records
 
-    def quantiles(self, shares: Sequence[float] = SHARES, level: float = LEVEL) -> Iterator[Quantile]:
+    def quantiles(self, shares: Sequence[float] = SHARES, level: float = intervals.LEVEL) -> Iterator[Quantile]:
         """The quantiles, each its share, its value, and the ends of its interval."""
+        least, greatest = self.span.ends
         for share in shares:
-            value, low, high = quantile(self.counts, share, self.unknown, level)
-            low = self.ends[0] if low is None else low
-            yield share, value, low, self.ends[1] if high is None else high
+            value, low, high = intervals.quantile(self.counts, share, self.unknown, level)
+            yield share, value, least if low is None else low, greatest if high is None else high
 
     def shown(self, key: str, number: float) -> str:
         """A number of a record as text."""
@@ -110,14 +91,8 @@ class Law(Counted):
     def mean_line(self) -> str:
         """The line of the mean."""
         mean = self.mean()
-        shown = figures(mean.mean, mean.half)
-        if mean.is_even:
-            shown += f" {half_shown(mean)}"
-        return "mean {}, {} to {}".format(shown, *ends_shown(mean))
-
-    def remarks(self) -> list[str]:
-        """What is to be known of the intervals, each as a line."""
-        return [*filter(None, [self.carried()])]
+        half = f" {half_shown(mean)}" if mean.is_even else ""
+        return "mean {}{}, {} to {}".format(figures(mean.mean, mean.half), half, *ends_shown(mean))
 
 
 @dataclasses.dataclass
@@ -130,11 +105,11 @@ class Joint(Counted):
     counts: list[tuple[tuple[int, ...], int]]
     unknown: int
 
-    def records(self, level: float = LEVEL) -> list[Record]:
+    def records(self, level: float = intervals.LEVEL) -> list[Record]:
         """The values that came together, each with their probability and its interval."""
         records: list[Record] = []
         for values, count in self.counts:
-            ends = probability(count, self.many, self.unknown, level)
+            ends = intervals.probability(count, self.many, self.unknown, level)
             cells = *values, count, count / self.known, *ends
             records.append(dict(zip((*self.columns, *SHARED), cells)))
         return records
@@ -142,15 +117,14 @@ class Joint(Counted):
 
 @dataclasses.dataclass
 class Share(Counted):
-    """How many samples meet a condition, and how many don't; of `unknown` more streams it isn't known, as they
-    weren't coupled."""
+    """How many samples meet a condition, and how many don't; `unknown` more streams weren't coupled."""
 
     condition: str
     counts: list[tuple[bool, int]]
     unknown: int
 
-    def records(self, level: float = LEVEL) -> list[Record]:
+    def records(self, level: float = intervals.LEVEL) -> list[Record]:
         """One row: how many samples meet the condition, and its probability with its interval."""
         count = sum(many for is_met, many in self.counts if is_met)
-        ends = probability(count, self.many, self.unknown, level)
+        ends = intervals.probability(count, self.many, self.unknown, level)
         return [dict(zip(SHARED, (count, count / self.known, *ends)))]

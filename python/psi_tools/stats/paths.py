@@ -21,25 +21,12 @@ import math
 from psi_tools.draw.paths import events_of, header_of, modulus_of
 from psi_tools.io.tables import Record
 from psi_tools.model.networks import Network
-from psi_tools.stats.intervals import (
-    FEW,
-    LEVEL,
-    NO_MEAN,
-    Mean,
-    Span,
-    Spread,
-    Sums,
-    between,
-    mean_of_two,
-    probability,
-    spread_of,
-    student_and_unseen,
-)
+from psi_tools.stats import intervals
 from psi_tools.stats.batches import record
 from psi_tools.stats.spans import Spans
 
 # Visits may be much larger than those that came where there are fewer than this number, of a table far more.
-FEW_VISITS, FEW_OF_TABLE = FEW + FEW // 2, 4 * FEW
+FEW_VISITS, FEW_OF_TABLE = intervals.FEW + intervals.FEW // 2, 4 * intervals.FEW
 # The kinds of rows: means of states, and rates of events.
 QUEUE, REWARD, CHOSEN, MOVED = "queue", "reward", "chosen", "moved"
 ITEMS = {QUEUE: "mean", REWARD: "reward-mean", CHOSEN: "chosen-rate", MOVED: "moved-rate"}
@@ -54,7 +41,7 @@ class PathRow:
     kind: str
     name: str
     sums: list[int]
-    span: Span
+    span: intervals.Span
     times: int
     unit: int = 1
     few: int = FEW_VISITS
@@ -75,37 +62,37 @@ class Paths:
         """How many streams there are."""
         return len(self.horizons) + self.lost
 
-    def mean(self, row: PathRow, level: float = LEVEL) -> Mean:
+    def mean(self, row: PathRow, level: float = intervals.LEVEL) -> intervals.Mean:
         """The mean of a row at a time, or the rate of an event, over the paths that are coupled."""
         if not row.times or not self.horizons:
-            return NO_MEAN
+            return intervals.NO_MEAN
         mean = self.share(row, level) if row.kind == CHOSEN else self.own_mean(row, level)
         if row.unit == 1 or mean.mean is None:
             return mean
         assert mean.ends is not None
-        return between(row.unit * mean.mean, *(row.unit * end for end in mean.ends))
+        return intervals.between(row.unit * mean.mean, *(row.unit * end for end in mean.ends))
 
-    def share(self, row: PathRow, level: float) -> Mean:
+    def share(self, row: PathRow, level: float) -> intervals.Mean:
         """The share of the steps in which an event is chosen. Its random words are no words of the
         samples, so all are independent, also of which streams are coupled."""
         count, many = sum(row.sums), row.times * len(row.sums)
-        return between(count / many, *probability(count, many, level=level))
+        return intervals.between(count / many, *intervals.probability(count, many, level=level))
 
-    def own_mean(self, row: PathRow, level: float) -> Mean:
+    def own_mean(self, row: PathRow, level: float) -> intervals.Mean:
         """The mean of a row, whose interval counts each stream that isn't coupled as the least value
         at all times for the lower end, and as the greatest for the upper one."""
         if row.times == 1 and row.span.two:
-            return mean_of_two(Sums(row.sums, [1] * len(row.sums), row.span, [self.lost]), level)
+            return intervals.mean_of_two(intervals.Sums(row.sums, [1] * len(row.sums), row.span, [self.lost]), level)
         mean = sum(row.sums) / (row.times * len(row.sums))
         low, high = (self.end(row, is_high, level) for is_high in (False, True))
         if low is None or high is None:
-            return Mean(mean, None)
-        return between(mean, row.span.clipped(low), row.span.clipped(high))
+            return intervals.Mean(mean, None)
+        return intervals.between(mean, row.span.clipped(low), row.span.clipped(high))
 
-    def spread(self, row: PathRow, value: int) -> Spread | None:
+    def spread(self, row: PathRow, value: int) -> intervals.Spread | None:
         """The mean over all paths and its error, where streams that aren't coupled have a value."""
         sums = row.sums + [value * row.times] * self.lost
-        return spread_of(sums, [row.times] * len(sums))
+        return intervals.spread_of(sums, [row.times] * len(sums))
 
     def end(self, row: PathRow, is_high: bool, level: float) -> float | None:
         """An end of the interval of a mean; none of a single path."""
@@ -129,14 +116,15 @@ class Paths:
         return spread.mean + sign * self.reach(spread, unseen, 1 / below, level)
 
     @staticmethod
-    def reach(spread: Spread, unseen: float, share: float, level: float) -> float:
+    def reach(spread: intervals.Spread, unseen: float, share: float, level: float) -> float:
         """How far an end is from the mean: by Student's t with what did not come, where the error at the end
         is larger by a share of it for each 1 from the mean to the end, and at most twice as large."""
         assert spread.error is not None
         degrees = spread.batches - 1
-        alone = spread.error * student_and_unseen(degrees, 0, level)
+        alone = spread.error * intervals.student_and_unseen(degrees, 0, level)
         more = min(alone * share, 0.5)
-        return spread.error * student_and_unseen(degrees, unseen / spread.error, level) + alone * more / (1 - more)
+        whole = spread.error * intervals.student_and_unseen(degrees, unseen / spread.error, level)
+        return whole + alone * more / (1 - more)
 
     def carried(self) -> list[str]:
         """The lines on rows whose mean few visits to other values carry."""
@@ -146,11 +134,9 @@ class Paths:
             if spread is None or not spread.error:
                 continue
             number = ((spread.mean - row.span.ends[0]) / spread.error) ** 2
-            if number < FEW:
-                lines.append(
-                    f"few visits carry the mean of {row.name}: as if {max(1, round(number))} had the whole sum; "
-                    "more streams, or longer paths, make its interval narrower"
-                )
+            if number < intervals.FEW:
+                line = f"few visits carry the mean of {row.name}: as if {max(1, round(number))} had the whole sum"
+                lines.append(f"{line}; more streams, or longer paths, make its interval narrower")
         return lines
 
 
@@ -168,7 +154,7 @@ def paths_of_rows(net: Network, steps: int, rows: list[str | None]) -> Paths:
             few = FEW_OF_TABLE if name in steep and kind == REWARD else FEW_VISITS
             found.append(PathRow(kind, name, sums, span, steps + 1, few=few))
         else:
-            found.append(PathRow(kind, name, sums, Span(0, 1, 0, 1, True), steps, modulus_of(net)))
+            found.append(PathRow(kind, name, sums, intervals.Span(0, 1, 0, 1, True), steps, modulus_of(net)))
     return Paths(steps, columns[0], rows.count(None), found)
 
 

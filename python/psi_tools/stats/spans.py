@@ -9,7 +9,7 @@ state of its queues.
 import dataclasses
 from typing import Any
 
-from psi_tools.model.networks import Network
+from psi_tools.model.networks import Network, value_of
 from psi_tools.stats.intervals import ZERO_ONE, Span
 
 # The format's own bound of customers, where the network isn't known.
@@ -19,9 +19,8 @@ Range = tuple[int, int]
 
 @dataclasses.dataclass
 class Row:
-    """A number of each sample over batches: `kind` is '' for the customers of a queue and 'reward-'
-    for the value of a reward, `sums` has the sum of each batch, and the extremes are over all
-    samples, none where no sample is met."""
+    """A number of each sample over batches: `kind` is '' for the customers of a queue and 'reward-' for a reward's
+    value, `sums` has the sum of each batch, and the extremes are over all samples, none where none is met."""
 
     kind: str
     name: str
@@ -40,12 +39,11 @@ def steps_of(net: Network) -> dict[str, int]:
     steps = dict.fromkeys(net.queues, 1)
     for event in net.table["event"]:
         to = event.get("to", [])
-        for name in [to] if isinstance(to, str) else to:
-            steps[name] = max(steps[name], event.get("size", 1))
-        if event["kind"] == "negative":
-            steps[event["on"]] = max(steps[event["on"]], event.get("amount", 1))
-        for part in event.get("part", []):
-            steps[part["queue"]] = max(steps[part["queue"]], abs(part.get("shift", 0)))
+        changes = [(name, event.get("size", 1)) for name in ([to] if isinstance(to, str) else to)]
+        changes += [(event["on"], event.get("amount", 1))] if event["kind"] == "negative" else []
+        changes += [(part["queue"], abs(part.get("shift", 0))) for part in event.get("part", [])]
+        for name, size in changes:
+            steps[name] = max(steps[name], size)
     return steps
 
 
@@ -56,20 +54,16 @@ def beyond(least: int, greatest: int, step: int, capacity: int) -> Range:
 
 
 def reward_range(reward: dict[str, Any], ranges: list[Range]) -> Range:
-    """The least and the greatest value of a reward, where its queues hold numbers of these ranges,
-    each whatever the others hold."""
-    kind = reward["kind"]
+    """The least and the greatest value of a reward whose queues hold numbers of these ranges, each on its own."""
     parts: list[Any]
-    if kind == "linear":
+    if reward["kind"] == "linear":
         parts = [sorted((w * low, w * high)) for w, (low, high) in zip(reward["weights"], ranges)]
-    elif kind == "table":
+    elif reward["kind"] == "table":
         rows = [row[low : high + 1] for row, (low, high) in zip(reward["table"], ranges)]
         parts = [(min(row), max(row)) for row in rows]
-    elif kind == "above":
-        parts = [(low > reward["level"], high > reward["level"]) for low, high in ranges]
     else:
-        fold = max if kind == "greatest" else min
-        return fold(low for low, _ in ranges), fold(high for _, high in ranges)
+        # The other kinds rise with each number.
+        parts = [[value_of(reward, numbers) for numbers in zip(*ranges)]]
     return sum(low for low, _ in parts), sum(high for _, high in parts)
 
 
@@ -88,7 +82,6 @@ class Spans:
     """The spans of the rows of a network's reports, by the extremes of its queues in them."""
 
     def __init__(self, net: Network, seen: dict[str, Range]) -> None:
-        self.net, self.seen = net, seen
         self.whole = {name: (0, most) for name, most in zip(net.queues, net.capacities)}
         steps = steps_of(net)
         self.ahead = {
@@ -120,9 +113,8 @@ def spans_of(net: Network, rows: list[Row]) -> dict[tuple[str, str], Span]:
 
 
 def guessed_span(row: Row) -> Span | None:
-    """The span of a row of a network that isn't known, by the extremes that came; none where none
-    did. Values of 0 and 1 are taken for a share. A reward is reckoned with as far again as its
-    values spread."""
+    """The span of a row of an unknown network, by the extremes that came; none where none did. Values of 0 and 1 are
+    taken for a share. A reward is reckoned with as far again as its values spread."""
     if row.ends is None:
         return None
     least, greatest = row.ends
