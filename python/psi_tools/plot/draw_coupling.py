@@ -38,8 +38,7 @@ def draw_coupling(log: Coupling, title: str) -> style.Figure:
     grid = figure.add_gridspec(rows + 2, columns, height_ratios=[0.2, *[row] * rows, 1.3])
     kinds = sorted({each.kind for each in log.bins}, reverse=True)
     handles = [matplotlib.patches.Patch(color=COLOURS[kind]) for kind in kinds]
-    labels = [SAID[kind] for kind in kinds]
-    style.head(figure.add_subplot(grid[0, :]), caption(log), handles, labels, 3)
+    style.head(figure.add_subplot(grid[0, :]), caption(log), handles, [SAID[kind] for kind in kinds], 3)
     for queue in range(queues):
         place, column = divmod(queue, columns)
         axes = figure.add_subplot(grid[place + 1, column])
@@ -71,22 +70,18 @@ def draw_queue(axes: Any, log: Coupling, queue: int) -> None:
         draw_band(axes, log, queue, kind)
     draw_shades(axes, log, queue)
     mark_met(axes, log, queue)
-    axes.set_xlim(edges[0], edges[-1])
     room = 0.5 + 0.03 * (high - low)
-    axes.set_ylim(low - room, high + room)
+    axes.set(xlim=(edges[0], edges[-1]), ylim=(low - room, high + room))
     few = 4 if columns_of(len(log.names)) == 1 else 2
+    style.whole_ticks(axes.yaxis, few, steps=style.STEPS)
     if high - low <= few:
         axes.set_yticks(range(low, high + 1))
-        axes.yaxis.set_major_formatter(lambda number, _: style.whole(round(number)))
-    else:
-        style.whole_ticks(axes.yaxis, few, steps=style.STEPS)
     name, size = style.fitted(log.names[queue], NAME_WIDTHS[columns_of(len(log.names))], 8)
     axes.set_title(name, loc="left", pad=2, fontsize=size)
 
 
 def draw_band(axes: Any, log: Coupling, queue: int, kind: Kind) -> None:
-    """The band where the regions are of this kind. A number has a height of one, as in the shades,
-    but that of one state is a line, or what the line of a bin's times covers."""
+    """The band where the regions are of this kind: a number is one high, as in the shades, and one state is a line."""
     none = math.nan, math.nan
     ends = [(each.low[queue], each.high[queue]) if each.kind == kind else none for each in log.bins]
     lows, highs = numpy.array(ends, float).T
@@ -100,8 +95,7 @@ def draw_band(axes: Any, log: Coupling, queue: int, kind: Kind) -> None:
 
 
 def draw_shades(axes: Any, log: Coupling, queue: int) -> None:
-    """Where the states of sets are: a picture with a column for each bin. Each cell has many dots,
-    since some viewers blur the ends of dots."""
+    """Where states of sets are: a column for each bin, with many dots a cell, since some viewers blur their ends."""
     low, high, bins = log.low[queue], log.high[queue], log.bins
     if all(each.kind != Kind.SET for each in bins):
         return
@@ -130,18 +124,15 @@ def draw_states(axes: Any, log: Coupling) -> None:
         if not numpy.isnan(counts).all():
             gid = f"states-{kind.name.lower()}"
             axes.stairs(counts, edges, baseline=None, color=COLOURS[kind], lw=1.6, gid=gid)
-    axes.set_yscale("log")
     most = float(max(each.states for each in log.bins))
-    axes.set_ylim(0.7, max(most, 2) ** 1.12)
-    axes.set_xlim(edges[0], edges[-1])
+    top = max(most, 2) ** 1.12
+    axes.set(yscale="log", ylim=(0.7, top), xlim=(edges[0], edges[-1]), ylabel="states", axisbelow=True)
     style.label_counts(axes, most)
     axes.set_title("states that are still followed", loc="left", pad=2)
-    axes.set_ylabel("states")
-    axes.set_axisbelow(True)
     axes.grid(axis="y", lw=0.3, color="#CCCCCC")
     mark_met(axes, log, "states")
-    place, text = (log.met - 0.5, max(most, 2) ** 1.12), f"one state from {style.whole(log.met)} on"
-    style.put_beside(axes, place, text, log.met > -log.horizon / 2, color=style.VERMILION, fontsize=8)
+    text, is_late = f"one state from {style.whole(log.met)} on", log.met > -log.horizon / 2
+    style.put_beside(axes, (log.met - 0.5, top), text, is_late, color=style.VERMILION, fontsize=8)
 
 
 def mark_met(axes: Any, log: Coupling, name: object) -> None:

@@ -20,14 +20,11 @@ def draw_exact(found: Shrinking, title: str) -> style.Figure:
     draw_images(axes, found)
     mark_horizons(axes, found)
     axes.set_xscale("log", base=2)
-    axes.set_xlim(0.85, found.longest() * 1.18)
+    axes.set(xlim=(0.85, found.longest() * 1.18), yscale="log", ylim=(0.8, top(found)))
     axes.set_xticks([*found.images], [style.whole(time) for time in found.images])
     axes.xaxis.set_minor_locator(matplotlib.ticker.NullLocator())
-    axes.set_xlabel("steps before time 0 at which all states start")
-    axes.set_yscale("log")
-    axes.set_ylim(0.8, top(found))
     style.label_counts(axes, found.states)
-    axes.set_ylabel("different states that are left at time 0")
+    axes.set(xlabel="steps before time 0 at which all states start", ylabel="different states that are left at time 0")
     axes.grid(axis="y", lw=0.3, color="#CCCCCC")
     return figure
 
@@ -35,8 +32,7 @@ def draw_exact(found: Shrinking, title: str) -> style.Figure:
 def top(found: Shrinking) -> float:
     """Where the axis of states ends: above all of them there is room for what is marked."""
     is_marked = found.constant is not None or found.region is not None
-    end: float = 1.6 * found.states ** (1.25 if is_marked else 1.03)
-    return end
+    return float(1.6 * found.states ** (1.25 if is_marked else 1.03))
 
 
 def caption(found: Shrinking) -> str:
@@ -50,7 +46,7 @@ def caption(found: Shrinking) -> str:
         text += " or earlier, are one" + f": {found.state}" * (len(found.state or "") <= 40)
     if found.region is None and found.constant is not None:
         text += f"; no region run of up to {longest} steps ends in one"
-    return "\n".join(textwrap.wrap(text, 100))
+    return textwrap.fill(text, 100)
 
 
 def draw_images(axes: Any, found: Shrinking) -> None:
@@ -67,20 +63,13 @@ def draw_images(axes: Any, found: Shrinking) -> None:
 
 
 def mark_horizons(axes: Any, found: Shrinking) -> None:
-    """The horizons at which the map is constant, and at which the region run has one state."""
-    if found.constant is not None and found.constant == found.region:
-        what = "all states have met, and the region is one state"
-        mark(axes, found, found.constant, what, "both", 0)
-        return
-    if found.constant is not None:
-        mark(axes, found, found.constant, "all states have met", "constant", 0)
-    if found.region is not None:
-        mark(axes, found, found.region, "the region is one state", "region", 1)
-
-
-def mark(axes: Any, found: Shrinking, time: int, what: str, name: str, place: int) -> None:
-    """A line at a horizon, and what it is beside it."""
-    colour, dashes = ((style.VERMILION, (0, (4, 2))), (style.BLACK, (0, (1, 1))))[place]
-    axes.axvline(time, color=colour, lw=1.3, ls=dashes, zorder=1.5, gid=name)
-    text = "\n".join(textwrap.wrap(f"{what}: {style.whole(time)} steps", LABEL_WIDTH))
-    style.put_beside(axes, (time, top(found)), text, time**2 > found.longest(), 2 + 12 * place, color=colour)
+    """A line at the horizons at which the map is constant, and the region run has one state, and what each is."""
+    marks = [(found.constant, "all states have met", "constant"), (found.region, "the region is one state", "region")]
+    if found.constant == found.region:
+        marks = [(found.constant, "all states have met, and the region is one state", "both")]
+    looks = (style.VERMILION, (0, (4, 2))), (style.BLACK, (0, (1, 1)))
+    for down, ((time, what, name), (colour, dashes)) in enumerate(zip(marks, looks)):
+        if time is not None:
+            axes.axvline(time, color=colour, lw=1.3, ls=dashes, zorder=1.5, gid=name)
+            text = textwrap.fill(f"{what}: {style.whole(time)} steps", LABEL_WIDTH)
+            style.put_beside(axes, (time, top(found)), text, time**2 > found.longest(), 2 + 12 * down, color=colour)

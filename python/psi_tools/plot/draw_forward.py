@@ -31,8 +31,7 @@ def draw_forward(found: Forward, title: str) -> style.Figure:
         axes.set_ylim(0, highest)
     head = figure.add_subplot(grid[0, :])
     last = len(found.law) - 1
-    colours = style.BLUE, style.VERMILION
-    lines = [head.plot([], [], color=colour, lw=1.2)[0] for colour in colours]
+    lines = [head.plot([], [], color=colour, lw=1.2)[0] for colour in (style.BLUE, style.VERMILION)]
     law = head.plot([], [], "_", color=style.BLACK, ms=9, mew=1.6)[0]
     labels = ["begun with 0 customers", f"begun with {last}, others between", "the law at time 0"]
     style.head(head, "", [*lines, law], labels, 3)
@@ -46,7 +45,7 @@ def draw_ends(axes: Any, found: Forward, steps: int, ends: Any) -> None:
         colour = BEGINNINGS(begin / max(1, len(ends) - 1))
         axes.plot(numbers, shares, color=colour, lw=1, zorder=2, gid=f"after-{steps}-from-{begin}")
     draw_law(axes, found, f"law-{steps}")
-    axes.set_title(f"after {style.whole(steps)} steps: off by at most {off(found.distance(steps))}")
+    axes.set_title(f"after {style.whole(steps)} steps: off by at most {max(0.001, found.distance(steps)):.3f}")
 
 
 def draw_met(axes: Any, found: Forward) -> None:
@@ -56,7 +55,6 @@ def draw_met(axes: Any, found: Forward) -> None:
     for bar, number in zip(bars, numbers):
         bar.set_gid(f"met-{number}")
     draw_law(axes, found, "law-met")
-    axes.set_ylim(0, None)
     axes.set_title("when all have met for the first time")
 
 
@@ -64,12 +62,5 @@ def draw_law(axes: Any, found: Forward, name: str) -> None:
     """The law that is wanted, and what the axes are."""
     axes.plot(found.law, "_", color=style.BLACK, ms=9, mew=1.6, zorder=3, gid=name)
     axes.set_xlabel(f"customers in {style.printable(found.name)}", parse_math=False)
-    axes.set_ylabel("probability")
-    axes.set_xlim(-0.6, len(found.law) - 0.4)
+    axes.set(ylabel="probability", xlim=(-0.6, len(found.law) - 0.4), ylim=(0, None))
     style.whole_ticks(axes.xaxis, 11)
-    axes.set_ylim(0, None)
-
-
-def off(distance: float) -> str:
-    """A distance of laws, as text."""
-    return f"{distance:.3f}" if distance >= 0.001 else "0.001"

@@ -40,8 +40,7 @@ def draw_probabilities(axes: Any, law: Law, records: list[Record], values: Any) 
     else:
         axes.fill_between(values, lows, highs, color=style.SKY, step="mid", lw=0, zorder=2)
         axes.plot(values, shares, color=style.BLUE, lw=0.8, drawstyle="steps-mid", zorder=3)
-    axes.set_ylim(0, None)
-    axes.set_ylabel("probability")
+    axes.set(ylim=(0, None), ylabel="probability")
     mean = law.mean()
     text = f"{law.known:,} samples, intervals of 95 %"
     if mean.mean is not None and mean.ends is not None:
@@ -55,8 +54,7 @@ def draw_probabilities(axes: Any, law: Law, records: list[Record], values: Any) 
 
 
 def draw_shares(axes: Any, law: Law, records: list[Record], values: Any) -> None:
-    """How often the number is at most a value, with the quantiles. The line begins at 0 below the
-    least value, and goes on beyond the greatest, so that its last step is seen."""
+    """How often the number is at most a value, from below the least to beyond the greatest, and the quantiles."""
     margin = max(0.5, 0.02 * float(values[-1] - values[0]))
     ends = numpy.concatenate([[values[0] - margin], values, [values[-1] + margin]])
     shares, low, high = (
@@ -70,5 +68,4 @@ def draw_shares(axes: Any, law: Law, records: list[Record], values: Any) -> None
         axes.plot([value], [share], "o", color=style.VERMILION, ms=3.5, zorder=4)
     message = ", ".join(f"{share * 100:g} % at most {value}" for share, value, *_ in quantiles)
     axes.set_title(message, loc="left", pad=3)
-    axes.set_ylim(0, 1.03)
-    axes.set_ylabel("probability of at most this value")
+    axes.set(ylim=(0, 1.03), ylabel="probability of at most this value")

@@ -1,7 +1,5 @@
 """Draws a network as the field draws one: waiting lines, servers, routes, losses and blocking."""
 
-from __future__ import annotations
-
 import math
 from typing import Any, NamedTuple
 
@@ -68,8 +66,7 @@ def draw_network(picture: NetworkPicture, title: str = "") -> Any:
     axes = figure.add_axes((0, 0, 1, 1))
     axes.axis("off")
     left = (layout.size[0] - width) / 2
-    axes.set_xlim(left, left + width)
-    axes.set_ylim(low, top)
+    axes.set(xlim=(left, left + width), ylim=(low, top))
     if title:
         put_text(axes, (left + width / 2, top - TITLE_HEIGHT / 2), title, 10, weight="bold")
     for number, (arrow, curve) in enumerate(zip(scene.arrows, layout.curves)):

@@ -1,7 +1,5 @@
 """Draws the runs of coupling from the past, one below the other on one time axis, those that fail too."""
 
-from __future__ import annotations
-
 from typing import Any
 
 import matplotlib.patches

@@ -1,7 +1,5 @@
 """Draws a path that begins in a sample, one row for each queue, beside the coupling that led to it."""
 
-from __future__ import annotations
-
 from typing import Any
 
 from psi_tools.plot import style

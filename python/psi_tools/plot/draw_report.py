@@ -1,5 +1,6 @@
 """Draws reports side by side: horizons, and each queue and reward with its mean and extremes."""
 
+import pathlib
 from collections.abc import Callable, Sequence
 from typing import Any
 
@@ -31,32 +32,24 @@ class Rows:
         for place, spreads in enumerate(lists):
             for spread in spreads:
                 self.rows.setdefault(spread["name"], []).append((place, spread))
-        self.greatest = max((max(self.ends(name)) for name in self.rows), default=1) or 1
-
-    def ends(self, name: str) -> list[int]:
-        """The extremes of a row."""
-        ends = [end for _, spread in self.rows[name] for end in (spread["least"], spread["greatest"])]
-        return [end for end in ends if end is not None] or [0]
-
-    def parts(self) -> list[list[str]]:
-        """The names that stand in each column."""
+        # The extremes of each row.
+        self.ends: dict[str, tuple[int, int]] = {}
+        for name, row in self.rows.items():
+            found = [spread[end] for _, spread in row for end in ("least", "greatest") if spread[end] is not None] or [
+                0
+            ]
+            self.ends[name] = min(found), max(found)
+        self.greatest = max((greatest for _, greatest in self.ends.values()), default=1) or 1
         names = [*self.rows]
         half = -(-len(names) // 2)
-        return [names] if len(names) < MANY else [names[:half], names[half:]]
-
-    def height(self, name: str) -> float:
-        """How high a row is, in inches."""
-        return 0.1 + 0.12 * len(self.rows[name])
-
-    def greatest_height(self) -> float:
-        """How high the highest column is."""
-        return max(sum(map(self.height, names)) for names in self.parts())
+        # The names that stand in each column, and how high each row and the highest column are, in inches.
+        self.parts = [names] if len(names) < MANY else [names[:half], names[half:]]
+        self.heights = {name: 0.1 + 0.12 * len(rows) for name, rows in self.rows.items()}
+        self.height = max(sum(self.heights[name] for name in part) for part in self.parts)
 
     def scale(self, name: str) -> tuple[float, float]:
         """Where the axis of a row begins, and how long it is."""
-        if self.is_queues:
-            return 0, 1
-        least, greatest = min(self.ends(name)), max(self.ends(name))
+        least, greatest = (0, 1) if self.is_queues else self.ends[name]
         return (least, greatest - least) if greatest > least else (least - 0.5, 1)
 
 
@@ -64,35 +57,31 @@ class Rows:
 def draw_report(named: Named, title: str) -> style.Figure:
     """The figure of some reports, each with the path of its file."""
     reports = [report for _, report in named]
-    panels = [Rows([report.queues for report in reports], True)]
-    panels.append(Rows([report.rewards for report in reports], False))
+    panels = [Rows([report.queues for report in reports], True), Rows([report.rewards for report in reports], False)]
     panels = [rows for rows in panels if rows.rows]
-    stems = stems_of(named)
+    # What each report is called: the name of its file, in full where two are alike.
+    stems = [style.printable(pathlib.Path(path).stem, 40) for path, _ in named]
+    if len({*stems}) < len(stems):
+        stems = [style.printable(path) for path, _ in named]
     counts = [style.whole(report.samples) for report in reports]
     labels = [f"{stem} ({count} samples)" for stem, count in zip(stems, counts)]
-    columns = style.columns_of(labels)
-    heights = [0.2 * -(-len(labels) // columns), 1.7, *(rows.greatest_height() for rows in panels)]
+    longest = max(map(len, labels))
+    columns = 1 if longest > 44 else 2 if longest > 32 else 3
+    heights = [0.2 * -(-len(labels) // columns), 1.7, *(rows.height for rows in panels)]
     figure = style.new_figure(1.5 + sum(heights) + 0.55 * len(panels), title or "Perfect samples")
     grid = figure.add_gridspec(len(heights), 2, height_ratios=heights)
     handles = [matplotlib.patches.Patch(fc=COLOURS[k], ec="white", hatch=HATCHES[k], lw=0) for k in range(len(reports))]
     style.head(figure.add_subplot(grid[0, :]), caption(stems, reports), handles, labels, columns)
     draw_horizons(figure.add_subplot(grid[1, :]), reports)
     for place, rows in enumerate(panels, 2):
-        parts = rows.parts()
-        for column, names in enumerate(parts):
-            cell = grid[place, column] if len(parts) > 1 else grid[place, :]
-            panel = figure.add_subplot(cell)
-            draw_rows(panel, rows, names, len(parts))
+        columns = len(rows.parts)
+        for column, names in enumerate(rows.parts):
+            panel = figure.add_subplot(grid[place, column] if columns > 1 else grid[place, :])
+            draw_rows(panel, rows, names, columns)
             if column == 0:
                 title = "customers in each queue" if rows.is_queues else "rewards"
-                panel.set_title(title, loc="left", pad=3 if len(parts) == 1 else 12)
+                panel.set_title(title, loc="left", pad=3 if columns == 1 else 12)
     return figure
-
-
-def stems_of(named: Named) -> list[str]:
-    """What each report is called: the name of its file, in full where two are alike."""
-    stems = [style.stem(path) for path, _ in named]
-    return stems if len({*stems}) == len(stems) else [style.printable(path) for path, _ in named]
 
 
 def caption(stems: list[str], reports: list[Report]) -> str:
@@ -126,10 +115,9 @@ def draw_horizons(axes: Any, reports: list[Report]) -> None:
     labels = [str(1 << k) if is_short and k < 10 else f"2{style.raised(k)}" for k in powers]
     labels += ["not\ncoupled"] * is_lost
     axes.set_xticks([*range(len(powers)), *[lost] * is_lost], labels)
-    axes.set_xlim(-0.6, (lost if is_lost else len(powers) - 1) + 0.6)
+    axes.set(xlim=(-0.6, (lost if is_lost else len(powers) - 1) + 0.6), ylabel="% of samples")
     axes.yaxis.set_major_locator(matplotlib.ticker.MaxNLocator(5, steps=style.STEPS))
     axes.set_xlabel("steps before time 0 at which the runs from all states begin")
-    axes.set_ylabel("% of samples")
     axes.set_title("horizons at which the samples are met", loc="left", pad=3)
 
 
@@ -137,7 +125,7 @@ def draw_rows(axes: Any, rows: Rows, names: list[str], columns: int) -> None:
     """A row for each name: a line from least to greatest, and a mark at the mean."""
     y = 0.0
     for name in names:
-        height, (low, length) = rows.height(name), rows.scale(name)
+        height, (low, length) = rows.heights[name], rows.scale(name)
         axes.axhline(y, color="#DDDDDD", lw=0.4)
         text, size = style.fitted(name, NAME_WIDTHS[columns], 7.5)
         put(axes, -0.015, y - height / 2, text, "right", size)
@@ -145,24 +133,15 @@ def draw_rows(axes: Any, rows: Rows, names: list[str], columns: int) -> None:
             line = y - 0.05 - 0.12 * (place + 0.5)
             draw_spread(axes, report, spread, line, lambda value: (value - low) / length)
         y -= height
-    axes.set_yticks([])
-    axes.set_ylim(-rows.greatest_height(), 0)
+    axes.set(yticks=[], ylim=(-rows.height, 0))
     axes.spines["left"].set_visible(False)
     put(axes, 1.015, 0.02, "mean (least to greatest)", "left", 6.5, va="bottom")
-    label_rows(axes, rows)
-
-
-def label_rows(axes: Any, rows: Rows) -> None:
-    """The ticks, and what they are."""
     if rows.is_queues:
-        axes.set_xlim(-0.03 * rows.greatest, 1.03 * rows.greatest)
+        axes.set(xlim=(-0.03 * rows.greatest, 1.03 * rows.greatest), xlabel="customers")
         style.whole_ticks(axes.xaxis, 5, steps=style.STEPS)
         axes.grid(axis="x", lw=0.3, color="#CCCCCC")
-        axes.set_xlabel("customers")
     else:
-        axes.set_xlim(-0.03, 1.03)
-        axes.set_xticks([])
-        axes.set_xlabel("each from its least to its greatest value")
+        axes.set(xticks=[], xlim=(-0.03, 1.03), xlabel="each from its least to its greatest value")
 
 
 def draw_spread(axes: Any, k: int, spread: Record, y: float, place: Callable[[float], float]) -> None:

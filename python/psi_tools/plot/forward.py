@@ -36,22 +36,18 @@ class Forward:
     met: numpy.ndarray[Any, Any]
 
     def distance(self, steps: int) -> float:
-        """How far the distribution after some steps is from the stationary one at most, as half the sum
-        of the differences: no event's probability differs more."""
+        """The total variation distance of the distribution after some steps from the stationary one, at most."""
         return float(abs(self.after[steps] - self.law).sum(axis=1).max() / 2)
 
 
 def maps_of(net: Network) -> list[Map]:
-    """What each event makes of each number of customers, and its share of the random words; that of idle
-    is among them."""
+    """What each event, idle included, makes of each number of customers, and its share of the random words."""
     require(len(net.queues) == 1, "forward takes a network of one queue")
     [capacity] = net.capacities
     require(capacity <= MOST_PLACES, f"forward takes a queue of a capacity of at most {MOST_PLACES}")
     for event in net.table["event"]:
-        require(
-            event["kind"] in KINDS and not (event["kind"] == "service" and event.get("to")),
-            f"forward has no event such as {event['name']}; it has {', '.join(KINDS)}",
-        )
+        is_known = event["kind"] in KINDS and not (event["kind"] == "service" and event.get("to"))
+        require(is_known, f"forward has no event such as {event['name']}; it has {', '.join(KINDS)}")
     plain = net.followed()
     rates = numpy.diff([0, *plain.totals, plain.modulus])
     maps = (numpy.array([event.after((number,))[0] for number in range(capacity + 1)]) for event in plain.events)
@@ -77,32 +73,26 @@ def stationary(matrix: Numbers) -> Numbers:
 
 
 def met_of(maps: list[Map], count: int) -> Numbers:
-    """The law of the state in which the runs from all states are one for the first time: of the
-    pairs of the least and the greatest of them, which all others stand between."""
-    for _, after in maps:
-        is_monotone = bool((numpy.diff(after) >= 0).all())
-        require(is_monotone, "forward takes a network whose events are all monotone")
-    place = {(low, high): low * count + high for low in range(count) for high in range(count)}
-    step = numpy.zeros((count * count, count * count))
-    for share, after in maps:
-        for (low, high), begin in place.items():
-            step[begin, place[int(after[low]), int(after[high])]] += share
-    apart = [place[pair] for pair in place if pair[0] < pair[1]]
-    ends = [place[number, number] for number in range(count)]
+    """The law of the state in which the runs from all states meet, by pairs of the least and the greatest of them."""
+    is_monotone = all((numpy.diff(after) >= 0).all() for _, after in maps)
+    require(is_monotone, "forward takes a network whose events are all monotone")
+    # A pair is one number, with the greatest as its last digit.
+    pairs = [(share, numpy.add.outer(count * after, after).ravel()) for share, after in maps]
+    step = matrix_of(pairs, count * count)
+    low, high = numpy.divmod(numpy.arange(count * count), count)
+    apart, ends = numpy.flatnonzero(low < high), numpy.flatnonzero(low == high)
     lines = numpy.eye(len(apart)) - step[numpy.ix_(apart, apart)]
     require(numpy.linalg.matrix_rank(lines) == len(apart), "not all states meet")
     shares = numpy.linalg.solve(lines, step[numpy.ix_(apart, ends)])
-    found: Numbers = shares[apart.index(place[0, count - 1])]
+    found: Numbers = shares[apart == count - 1][0]
     return found
 
 
 def numbers_of(words: Sequence[str]) -> list[int]:
     """The numbers of steps that the arguments name."""
     for word in words:
-        require(
-            bool(NUMBER.fullmatch(word)) and len(word) < 9 and 0 < int(word) <= MOST_STEPS,
-            f"{word} isn't a number of steps from 1 to {MOST_STEPS}",
-        )
+        is_number = NUMBER.fullmatch(word) and len(word) < 9 and 0 < int(word) <= MOST_STEPS
+        require(is_number, f"{word} isn't a number of steps from 1 to {MOST_STEPS}")
     require(len(words) <= MOST_PARTS, f"forward takes at most {MOST_PARTS} numbers of steps")
     return sorted({int(word) for word in words}) or [*STEPS]
 

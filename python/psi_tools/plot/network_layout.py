@@ -1,8 +1,6 @@
 """Where the nodes and arrows of a network's picture stand: graphviz's `dot` finds the places, and a wide layout is
 folded into rows, as a long line of queues is folded on a page."""
 
-from __future__ import annotations
-
 import bisect
 import dataclasses
 import json

@@ -5,8 +5,6 @@ fork or join, each choice by an index, and each guarded event. The arrows of an 
 which its list is tried.
 """
 
-from __future__ import annotations
-
 import dataclasses
 import enum
 from typing import Any

@@ -1,7 +1,5 @@
 """The page of psi-page: one HTML file in which the runs of a sample are stepped through."""
 
-from __future__ import annotations
-
 import base64
 import dataclasses
 import hashlib

@@ -8,8 +8,6 @@ A path that begins in a sample comes from it, too; where psi_paths is built, the
 its row.
 """
 
-from __future__ import annotations
-
 import dataclasses
 from collections.abc import Iterable, Iterator
 from typing import Any
@@ -118,10 +116,8 @@ def past_of(program: str | None, path: str, seed: int, stream: int, new_words: b
     runs: list[Run] = []
     require(stream + follower.net.limit < 2**64 or not new_words, "there are not as many streams for new words")
     for power in range(follower.net.limit + 1):
-        require(
-            1 << power <= MOST_STEPS,
-            f"{path}: no run of at most {MOST_STEPS:,} steps coalesces; longer ones aren't drawn",
-        )
+        no_run = f"{path}: no run of at most {MOST_STEPS:,} steps coalesces; longer ones aren't drawn"
+        require(1 << power <= MOST_STEPS, no_run)
         runs.append(follower.run(seed, stream + power if new_words else stream, 1 << power))
         if runs[-1].has_coalesced:
             break

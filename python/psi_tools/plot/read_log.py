@@ -30,9 +30,8 @@ class Kind(enum.IntEnum):
 
 @dataclasses.dataclass
 class Bin:
-    """Some consecutive times: for each queue the least and the greatest number of customers, the
-    greatest number of states, and for each queue how large a part of the states of a set, at most,
-    has its number in each shade."""
+    """Some consecutive times: each queue's least and greatest number of customers, the greatest number of states, and
+    for each queue how large a part of the states of a set, at most, has its number in each shade."""
 
     low: list[int]
     high: list[int]
@@ -46,8 +45,7 @@ class Bin:
         self.high = [max(pair) for pair in zip(self.high, other.high)]
         self.states, self.kind = max(self.states, other.states), max(self.kind, other.kind)
         for mine, shades in zip(self.shades, other.shades):
-            for shade, share in shades.items():
-                mine[shade] = max(share, mine.get(shade, 0))
+            mine.update({shade: max(share, mine.get(shade, 0)) for shade, share in shades.items()})
 
 
 @dataclasses.dataclass
@@ -101,8 +99,7 @@ def ends_of(region: check_log.Region) -> tuple[list[int], list[int]]:
 def thinned(
     steps: Iterable[tuple[int, Any, Any]], first: check_log.Region, horizon: int
 ) -> tuple[list[Bin], int, int, tuple[int, ...]]:
-    """The bins of a log's regions, how many times each has, the time of the first region from which
-    on all have one state, and that state."""
+    """A log's bins, how many times each has, from which time on all regions have one state, and that state."""
     low, high = ends_of(first)
     width = -(-(horizon + 1) // (MOST_TIMES // columns_of(len(low))))
     bins: list[Bin] = []
@@ -130,11 +127,10 @@ def read_log(data: bytes) -> Coupling:
     try:
         regions = check_log.read(data)
         queues, seed, stream, horizon, first = itertools.islice(regions, 5)
-        thin = thinned(itertools.islice(regions, horizon), first, horizon)
+        bins, width, met, last = thinned(itertools.islice(regions, horizon), first, horizon)
         (state,) = regions
     except check_log.Fault as fault:
         raise InputError(f"not a log: {str(fault).removeprefix('psi: log refused ')}") from None
-    bins, width, met, last = thin
     require(state == last, f"line {7 + horizon} has another state than the line before")
     names = [f"queue {queue}" for queue in range(queues)]
     return Coupling(seed, stream, horizon, state, names, *ends_of(first), met, width, bins)

@@ -1,35 +1,28 @@
 """What the pictures share: colours, the form of numbers and titles, and how one is saved."""
 
 import contextlib
-import functools
 import io
 import logging
 import math
-import os
-import pathlib
 import re
 import textwrap
 import warnings
-from collections.abc import Callable, Iterator
-from typing import Any, ParamSpec, TypeVar
+from collections.abc import Iterator
+from typing import Any
 
 from psi_tools import errors
 
-Arguments = ParamSpec("Arguments")
-Drawn = TypeVar("Drawn")
 Figure = Any  # matplotlib has no types of its own yet.
 
 
 @contextlib.contextmanager
 def quiet() -> Iterator[None]:
-    """Keeps matplotlib quiet: that a font is looked for, or lacks a character, is no news. In
-    the end warnings and logs are as they were."""
+    """Keeps matplotlib quiet for a while: that a font is looked for, or lacks a character, is no news."""
     logger = logging.getLogger("matplotlib")
     level = logger.level
     logger.setLevel(logging.ERROR)
     try:
-        with warnings.catch_warnings():
-            warnings.simplefilter("ignore")
+        with warnings.catch_warnings(action="ignore"):
             yield
     finally:
         logger.setLevel(level)
@@ -76,43 +69,35 @@ STYLE = {
 }
 
 
-def styled(draw: Callable[Arguments, Drawn]) -> Callable[Arguments, Drawn]:
-    """Makes a function draw in the style of the pictures: what matplotlib is set to, and the
-    filters of warnings, are for its caller as they were before."""
+@contextlib.contextmanager
+def in_style() -> Iterator[None]:
+    """Has the style of the pictures. Then what matplotlib is set to, and the filters of warnings, are as before."""
+    with quiet(), matplotlib.rc_context():
+        matplotlib.rcdefaults()
+        matplotlib.rcParams.update(STYLE)
+        yield
 
-    @functools.wraps(draw)
-    def drawn(*words: Arguments.args, **named: Arguments.kwargs) -> Drawn:
-        with quiet(), matplotlib.rc_context():
-            matplotlib.rcdefaults()
-            matplotlib.rcParams.update(STYLE)
-            return draw(*words, **named)
 
-    return drawn
+# Makes a function draw in the style of the pictures.
+styled = in_style()
 
 
 def new_figure(height: float, title: str) -> Figure:
     """An empty figure of a page's width, with a title, for a function that is `styled`."""
     figure = matplotlib.figure.Figure(figsize=(WIDTH, height))
-    lines = textwrap.wrap(printable(title, 200), 80)
-    figure.suptitle("\n".join(lines), fontsize=10, weight="bold", parse_math=False)
+    figure.suptitle(textwrap.fill(printable(title, 200), 80), fontsize=10, weight="bold", parse_math=False)
     return figure
 
 
 def head(axes: Any, text: str, handles: list[Any], labels: list[str], columns: int) -> None:
     """What stands below the title, in axes of its own: the caption, and a legend."""
     axes.axis("off")
-    axes.set_title("\n".join(textwrap.wrap(text, 96)), pad=3, parse_math=False)
+    axes.set_title(textwrap.fill(text, 96), pad=3, parse_math=False)
     # A label that begins with '_' would be left out.
     labels = [" " * label.startswith("_") + label for label in labels]
     legend = axes.legend(handles, labels, loc="center", ncol=columns, borderpad=0, borderaxespad=0)
     for label in legend.get_texts():
         label.set_parse_math(False)
-
-
-def columns_of(labels: list[str]) -> int:
-    """In how many columns of a legend such labels stand."""
-    longest = max(map(len, labels))
-    return 1 if longest > 44 else 2 if longest > 32 else 3
 
 
 @styled
@@ -132,14 +117,9 @@ def saved(figure: Figure, form: str) -> bytes:
 
 
 def clips_numbered(drawn: bytes) -> bytes:
-    """The same SVG, its clip paths numbered as they come: some of the names that matplotlib gives
-    them are made of places in memory."""
+    """The same SVG, its clip paths numbered: some of matplotlib's names for them are made of places in memory."""
     names: dict[bytes, bytes] = {}
-
-    def named(found: re.Match[bytes]) -> bytes:
-        return bytes(found[1]) + names.setdefault(found[2], b"clip%d" % len(names))
-
-    return CLIP.sub(named, drawn)
+    return CLIP.sub(lambda found: found[1] + names.setdefault(found[2], b"clip%d" % len(names)), drawn)
 
 
 def printable(text: str, most: int = 60) -> str:
@@ -149,8 +129,7 @@ def printable(text: str, most: int = 60) -> str:
 
 
 def fitted(name: str, points: float, size: float) -> tuple[str, float]:
-    """A name, and the size at which it isn't wider than this number of points; it is cut where that would
-    be too small to read."""
+    """A name, cut if need be, and the size at which it isn't wider than this number of points, if it can be read."""
     font = matplotlib.font_manager.FontProperties(size=size)
     for most in (60, 24, 16, 10):
         text = printable(name, most)
@@ -160,34 +139,18 @@ def fitted(name: str, points: float, size: float) -> tuple[str, float]:
     return text, min(size, size * points / max(width, 1))
 
 
-def stem(path: str | os.PathLike[str]) -> str:
-    """The name of a file without its folder and its ending."""
-    return printable(pathlib.Path(path).stem, 40)
-
-
-def whole(number: int) -> str:
-    """A whole number, its digits in groups of three; a great one as a power."""
+def whole(number: float, form: str = ",") -> str:
+    """A number, its digits in groups of three; a great one as a product with a power of ten."""
     sign, size = "−" * (number < 0), abs(number)
-    return f"{sign}{size:,}" if size < 10**7 else sign + power(f"{size:.2e}")
-
-
-def power(text: str) -> str:
-    """A number in Python's form with an exponent, as a product."""
-    digits, exponent = text.split("e")
-    return f"{digits.rstrip('0').rstrip('.')}·10{raised(int(exponent))}"
+    if size < 10**7:
+        return f"{sign}{size:{form}}"
+    digits, exponent = f"{size:.2e}".split("e")
+    return f"{sign}{digits.rstrip('0').rstrip('.')}·10{raised(int(exponent))}"
 
 
 def mean(number: float) -> str:
     """A mean, with three places while it isn't great."""
-    sign, size = "−" * (number < 0), abs(number)
-    if size >= 10**7:
-        return sign + power(f"{size:.2e}")
-    return f"{sign}{size:,.3f}" if size < 1000 else f"{sign}{size:,.0f}"
-
-
-def ten_to(number: float) -> str:
-    """A power of ten, written as one."""
-    return "1" if number == 1 else f"10{raised(round(math.log10(number)))}"
+    return whole(number, ",.3f" if abs(number) < 1000 else ",.0f")
 
 
 def raised(exponent: int) -> str:
@@ -220,8 +183,7 @@ def put_beside(axes: Any, place: tuple[float, float], text: str, is_left: bool, 
 
 
 def label_counts(axes: Any, most: float) -> None:
-    """Ticks of a logarithmic axis from 1 on: powers of ten, with 2 and 5 between while there are
-    few."""
+    """Ticks of a logarithmic axis from 1 on: powers of ten, with 2 and 5 between while there are few."""
     digits = int(math.log10(most)) if most >= 1 else 0
     if most <= 5:
         ticks: list[float] = [*range(1, 6)]
@@ -232,5 +194,8 @@ def label_counts(axes: Any, most: float) -> None:
         ticks = [10.0**k for k in range(0, digits + 1, step)]
     axes.yaxis.set_major_locator(matplotlib.ticker.FixedLocator([t for t in ticks if t <= most]))
     axes.yaxis.set_minor_locator(matplotlib.ticker.NullLocator())
-    message = whole if digits <= 5 else ten_to
-    axes.yaxis.set_major_formatter(lambda count, _: message(round(count)))
+
+    def label(count: float, _: object) -> str:
+        return whole(round(count)) if digits <= 5 or count < 10 else f"10{raised(round(math.log10(count)))}"
+
+    axes.yaxis.set_major_formatter(label)
