@@ -300,8 +300,7 @@ class Log:
         return tuple(self.number(piece, 0, MOST_CUSTOMERS) for piece in pieces)
 
     def region(self, name: bytes, ranges: Sequence[tuple[int, int]], before: Box | None) -> tuple[Any, ...]:
-        """The next line: numbers in these ranges, and a region. Where a box before it is given, a
-        box has to be a move."""
+        """The next line: numbers in these ranges, and a region: a move of the box before it, where one is given."""
         words, place = self.words(), len(ranges) + 1
         (first, *numbers), form = words[:place], words[place : place + 1]
         found = [word.split(b",") for word in words[place + 1 :]]
@@ -333,8 +332,7 @@ class Log:
 
 
 def read(data: bytes) -> Iterator[Any]:
-    """Reads a log: gives queues, seed, stream, horizon and first region; then time, event and
-    region of each step; then the last state."""
+    """Reads a log: queues, seed, stream, horizon, region; time, event and region of each step; and the last state."""
     hold(len(data) <= LONGEST, "refused 7 TooLong", 0)
     log = Log(data)
     first, *version = log.words()

@@ -1,13 +1,13 @@
 """The blocks of streams that are drawn, and the folder in which finished ones are kept."""
 
+import contextlib
 import fcntl
 import hashlib
 import os
 import pathlib
 import re
-import stat
-from collections.abc import Iterable
-from typing import Any, NamedTuple
+from collections.abc import Iterable, Iterator
+from typing import NamedTuple
 
 from psi_tools.errors import PsiError, reason
 from psi_tools.io import files
@@ -15,14 +15,13 @@ from psi_tools.io.reports import Report, ReportError, read
 from psi_tools.io.samples import is_table
 from psi_tools.model.networks import Network, header_of
 
-UNWRITTEN = 7
 # What stands in the file `lock` of a folder that is psi-many's own, and what is a number of those
 # lines that a folder is bound to.
 MARK, NUMBERS = b"a folder of psi-many\n", ("seed", "first", "count", "block", "closed", "states")
 # What a folder may have at its top where a call was stopped before it was bound.
 BEGUN = {"lock", "blocks", "net.toml"}
 MOST_BLOCKS = 1_048_576
-FILE = re.compile(r"([0-9]{7,})\.([0-9a-f]{16})\.csv")
+FILE = re.compile(r"([0-9]{7,})\.[0-9a-f]{16}\.csv")
 # The names of the queues and rewards of a block's text, in their order.
 Names = tuple[object, ...]
 
@@ -39,6 +38,20 @@ def digest_of(text: bytes) -> str:
     return hashlib.sha256(text).hexdigest()
 
 
+def is_as_written(file: pathlib.Path, text: bytes) -> bool:
+    """Whether the name of a block's file has the digest of its text."""
+    return file.name.endswith(f".{digest_of(text)[:16]}.csv")
+
+
+@contextlib.contextmanager
+def writing(path: pathlib.Path) -> Iterator[None]:
+    """Refuses a path below which something can't be written."""
+    try:
+        yield
+    except OSError as fault:
+        raise PsiError(f"{fault.filename or path} can't be written: {reason(fault)}", files.UNWRITTEN) from None
+
+
 def whole_report(text: bytes, count: int) -> Report | None:
     """The whole report of this number of samples that a text is; none where it is anything else."""
     try:
@@ -48,21 +61,14 @@ def whole_report(text: bytes, count: int) -> Report | None:
     return report if report.samples == count else None
 
 
-def digest_in(file: pathlib.Path) -> str | None:
-    """The digest in the name of a block's file."""
-    found = FILE.fullmatch(file.name)
-    return found[2] if found else None
-
-
 def write_whole(path: pathlib.Path, text: bytes, is_synced: bool = True) -> None:
-    """Writes a file under another name first, so that under its own it is never cut short; after a loss of
-    power only where it is synced, which takes a while."""
+    """Replaces a file in one step, so that it is never cut short; unless it is synced, a loss of power may cut it."""
     front = f"part.{os.uname().nodename}.{os.getpid()}."
     try:
         files.replace(str(path), [text], front, f".{path.name}", is_synced)
     except OSError as fault:
         # Folder.tidy removes what a kill leaves of it.
-        raise PsiError(f"{path} can't be written: {reason(fault)}", UNWRITTEN) from None
+        raise PsiError(f"{path} can't be written: {reason(fault)}", files.UNWRITTEN) from None
 
 
 def resolved(path: str | os.PathLike[str]) -> pathlib.Path:
@@ -74,8 +80,7 @@ def resolved(path: str | os.PathLike[str]) -> pathlib.Path:
 
 
 def is_left(name: str) -> bool:
-    """Whether a file's name is that of what a call has begun to write, and will not end: one of
-    this machine whose process is gone."""
+    """Whether a file's name is that of what a call on this machine, which is gone, has begun to write."""
     front = f"part.{os.uname().nodename}."
     number = name.removeprefix(front).partition(".")[0]
     if not name.startswith(front) or not number.isdigit():
@@ -89,8 +94,7 @@ def sealed(lines: str) -> str:
 
 
 def read_sealed(path: pathlib.Path) -> dict[str, str] | None:
-    """What a folder is bound to according to a file; none where it isn't as it was written. A file of
-    an earlier version has no line `digest`."""
+    """What a file binds a folder to; none where it isn't as it was written. Earlier versions have no line `digest`."""
     try:
         text = path.read_bytes().decode()
     except (OSError, UnicodeDecodeError):
@@ -111,8 +115,7 @@ def refuse_links(entries: Iterable[os.DirEntry[str]], command: str) -> None:
 
 
 def bound_in(folder: pathlib.Path) -> tuple[dict[str, str] | None, bool]:
-    """What a folder is bound to, none where that can't be read, and whether its file is damaged, so
-    that it is the copy that has it."""
+    """What a folder is bound to, none where that can't be read, and whether the copy has it as its file is damaged."""
     own, copy = (read_sealed(folder / name) for name in ("bound", "bound.copy"))
     is_damaged = copy is not None and (own is None or "digest" not in own)
     found = copy if is_damaged else own
@@ -123,49 +126,38 @@ def bound_in(folder: pathlib.Path) -> tuple[dict[str, str] | None, bool]:
 
 
 class Folder:
-    """The folder of a call: what it is bound to, a copy of the network, and the finished blocks.
-
-    The name of a block's file has its number and the digest of its text, which show whether the
-    text is as it was written.
-    """
+    """The folder of a call: what it is bound to, a copy of the network, and the finished blocks."""
 
     def __init__(self, path: str | os.PathLike[str]) -> None:
         self.is_damaged = self.is_restored = False
+        self.read: Network | None = None
         self.path = resolved(path)
         self.net, self.blocks = self.path / "net.toml", self.path / "blocks"
 
     def lock(self) -> None:
-        """Makes the folder, and keeps other calls from it as long as this one runs. It refuses a
-        folder that is neither empty nor psi-many's own, and one with a link in it."""
+        """Makes the folder, and keeps other calls from it while this one runs; refuses one that isn't psi-many's."""
         self.look()
         path = self.path / "lock"
-        try:
+        with writing(path):
             self.path.mkdir(parents=True, exist_ok=True)
             flags = os.O_RDWR | os.O_CREAT | os.O_NOFOLLOW | os.O_CLOEXEC
             self.locked = open(os.open(path, flags, 0o666), "r+b", buffering=0)
-        except OSError as fault:
-            raise PsiError(f"{fault.filename or path} can't be written: {reason(fault)}", UNWRITTEN) from None
         try:
             fcntl.flock(self.locked, fcntl.LOCK_EX | fcntl.LOCK_NB)
         except BlockingIOError:
             raise PsiError(f"another psi-many is at work in {self.path}") from None
         except OSError as fault:
-            raise PsiError(f"{path} can't be locked: {reason(fault)}", UNWRITTEN) from None
-        self.begin(path)
-        self.tidy_left()
-
-    def begin(self, path: pathlib.Path) -> None:
-        """Marks the folder as psi-many's own, before anything else is made in it."""
-        try:
-            # An empty file is one that a full disk or a kill has left, or of an earlier version.
-            if os.fstat(self.locked.fileno()).st_size < len(MARK):
-                rest = MARK
-                while rest:
-                    number = os.pwrite(self.locked.fileno(), rest, len(MARK) - len(rest))
-                    rest = rest[number:]
+            raise PsiError(f"{path} can't be locked: {reason(fault)}", files.UNWRITTEN) from None
+        with writing(path):
+            # The mark comes first. An empty file is one that a full disk or a kill has left, or of an earlier version.
+            rest = MARK if os.fstat(self.locked.fileno()).st_size < len(MARK) else b""
+            while rest:
+                rest = rest[os.pwrite(self.locked.fileno(), rest, len(MARK) - len(rest)) :]
             self.blocks.mkdir(exist_ok=True)
-        except OSError as fault:
-            raise PsiError(f"{fault.filename or path} can't be written: {reason(fault)}", UNWRITTEN) from None
+        # What a full disk or a kill has left is removed, but for what tasks elsewhere may write.
+        left = (file for file in self.blocks.glob("part.*") if is_left(file.name))
+        for file in (*self.path.glob("part.*"), *left):
+            file.unlink(missing_ok=True)
 
     def look(self) -> None:
         """Refuses a folder that isn't psi-many's to write in."""
@@ -186,9 +178,9 @@ class Folder:
         """Whether a folder with some files is psi-many's: it is bound, or begins to be."""
         if bound_in(self.path)[0]:
             return True
+        lock = self.path / "lock"
         try:
-            is_plain = stat.S_ISREG(os.lstat(self.path / "lock").st_mode)
-            mark = (self.path / "lock").read_bytes() if is_plain else None
+            mark = lock.read_bytes() if lock.is_file() else None
         except OSError:
             return False
         if mark == MARK:
@@ -200,38 +192,33 @@ class Folder:
         return any((self.path / name).exists() for name in ("bound", "bound.copy"))
 
     def bind(self, net: bytes, wanted: dict[str, int], size: int | None, fitting: int) -> int:
-        """Binds a new folder to a call, whose blocks have `size` streams, or as many as are fitting
-        where that isn't given; refuses a folder that is bound to another call, but for one of fewer
-        streams, to which the others are added. Gives how many it was bound to before.
-        """
-        asked: dict[str, object] = {"network": digest_of(net), **wanted}
+        """Binds a new folder to a call, whose blocks have `size` streams, or as many as are fitting where that isn't
+        given; adds streams to a call of fewer, and refuses any other. Gives how many it was bound to before."""
+        asked = {"network": digest_of(net), **{key: str(number) for key, number in wanted.items()}}
         if not self.is_bound():
             write_whole(self.net, net)
-            self.write_bound({**asked, "block": size or fitting})
+            self.write_bound({**asked, "block": str(size or fitting)})
         self.read_bound()
         if self.is_damaged:
             self.write_bound(self.bound)
             self.is_restored = True
         before, count = self.count, wanted["count"]
         if size:
-            asked["block"] = size
+            asked["block"] = str(size)
         for key in dict.fromkeys([*asked, "closed", "states"]):
-            value = asked.get(key)
-            if value is None and self.bound.get(key) is None or key == "count" and before < count:
-                continue
-            if str(value) != self.bound.get(key):
-                other = f"{key} {self.bound.get(key)}, not {value}"
-                raise PsiError(f"the blocks in {self.path} are of another call: {other}")
+            own, value = self.bound.get(key), asked.get(key)
+            if own != value and (key != "count" or before > count):
+                raise PsiError(f"the blocks in {self.path} are of another call: {key} {own}, not {value}")
         if count > MOST_BLOCKS * self.size:
             raise PsiError(f"there would be more than {MOST_BLOCKS} blocks of {self.size} streams")
         if self.net.read_bytes() != net:
             write_whole(self.net, net)
         if before < count:
-            self.write_bound({**self.bound, "count": count})
+            self.write_bound({**self.bound, "count": str(count)})
             self.read_bound()
         return before
 
-    def write_bound(self, bound: dict[str, Any]) -> None:
+    def write_bound(self, bound: dict[str, str]) -> None:
         """Writes what the folder is bound to, and a copy for the case that the file is damaged."""
         lines = sealed("".join(f"{key} {value}\n" for key, value in bound.items()))
         write_whole(self.path / "bound", lines.encode())
@@ -249,9 +236,8 @@ class Folder:
         self.has_samples = "states" in bound
 
     def network(self) -> Network:
-        """The network, read from its copy."""
-        if not hasattr(self, "read"):
-            self.read = Network.read(self.net)
+        """The network, read from its copy once."""
+        self.read = self.read or Network.read(self.net)
         return self.read
 
     def bound_network(self) -> Network | None:
@@ -302,34 +288,27 @@ class Folder:
         for file in (*self.blocks.glob("part.*"), *self.path.glob("part.*"), *self.path.glob("merged.*")):
             file.unlink(missing_ok=True)
 
-    def tidy_left(self) -> None:
-        """Removes what a full disk or a kill has left, but for what tasks elsewhere may write."""
-        left = (file for file in self.blocks.glob("part.*") if is_left(file.name))
-        for file in (*self.path.glob("part.*"), *left):
-            file.unlink(missing_ok=True)
-
     def finished(self, reports: dict[int, Report] | None = None) -> dict[int, pathlib.Path]:
-        """The files of the blocks that are whole and of one network, by number. Others are removed:
-        those cut short or changed, and all of a block that has several. What was wrong with them is
-        kept in `removed`, by number. Where `reports` is given, it gets the reports that were read.
+        """The files of the blocks that are whole and of one network, by number. Others are removed, as are all of a
+        block that has several, and `removed` has what was wrong with them. `reports` gets the reports that were read.
         """
-        whole: dict[int, list[pathlib.Path]] = {}
+        listed = dict(sorted(self.listed().items()))
         names: dict[int, Names] = {}
         self.removed: dict[int, str] = {}
-        for number, same in sorted(self.listed().items()):
-            text = same[0].read_bytes()
+        for number, (file, *others) in listed.items():
+            text = file.read_bytes()
             names[number] = self.names_in(number, text, reports) or ()
-            if len(same) > 1:
+            if others:
                 self.removed[number] = "has several files"
-            elif digest_in(same[0]) != digest_of(text)[:16]:
+            elif not is_as_written(file, text):
                 self.removed[number] = "isn't as it was written"
             elif not names[number]:
                 self.removed[number] = f"isn't of {max(0, self.block(number).count)} samples"
-            whole[number] = same
         most = max((names[n] for n in names if n not in self.removed), key=len, default=())
         for number, those in names.items():
             if number not in self.removed and those != most:
                 self.removed[number] = "has fewer queues and rewards than others"
-        for file in (file for number in self.removed for file in whole[number]):
-            file.unlink()
-        return {number: same[0] for number, same in whole.items() if number not in self.removed}
+        for number in self.removed:
+            for file in listed.pop(number):
+                file.unlink()
+        return {number: file for number, (file,) in listed.items()}

@@ -14,8 +14,10 @@ from psi_tools.io.reports import Report
 from psi_tools.model.moves import Moves, describe_classes, loads_of
 from psi_tools.model.networks import Network, Table, checked
 
-# A limit that was tried, with the report of its streams; and what was found, by what it is.
+# A limit that was tried, with the report of its streams; events with states that show what they upset; and what was
+# found, by what it is.
 Tried = tuple[int, Report]
+Upset = dict[str, tuple[str, str]]
 Findings = dict[str, Any]
 
 EXPONENT = 12
@@ -37,10 +39,8 @@ def never_met(net: Network, moves: Moves) -> list[str]:
         traps = moves.traps(place)
         if len(traps) > 1 and place not in alone:
             sets = " and ".join(numbers_of(*trap) for trap in traps[:3]) + " .." * (len(traps) > 3)
-            found.append(
-                f"{name} has {len(traps)} sets of numbers that no event leaves, {sets}: states in "
-                "different ones never meet"
-            )
+            line = f"{name} has {len(traps)} sets of numbers that no event leaves, {sets}"
+            found.append(f"{line}: states in different ones never meet")
     return found
 
 
@@ -66,23 +66,16 @@ def one_sided(net: Network, moves: Moves) -> Iterator[str]:
             yield f"{name} can't leave {traps[0][0]} once it is there"
 
 
-def upset_of(check: str) -> dict[str, tuple[str, str]]:
+def upset_of(check: str) -> Upset:
     """The events that aren't monotone, each with states that show it, by what `check` prints."""
-    found: dict[str, tuple[str, str]] = {}
-    for line in check.splitlines():
-        if args := re.fullmatch(r"event (\S+) (\d+) \d+ upset (\S+) (\S+)", line):
-            found.setdefault(args[1], (args[3], args[4]))
+    found: Upset = {}
+    for event, *states in re.findall(r"^event (\S+) \d+ \d+ upset (\S+) (\S+)$", check, re.M):
+        found.setdefault(event, (states[0], states[1]))
     return found
 
 
-def heads_of(check: str) -> dict[str, int]:
-    """The numbers that `check` prints at its end."""
-    return {key: int(value) for key, value in re.findall(r"^(\w+) (\d+)$", check, re.M)}
-
-
 def horizons_of(psi: Program, net: Network, args: argparse.Namespace, limit: int) -> list[Tried]:
-    """Reports of a few streams under ever longer limits, from 2^6 steps on, until all are met, the
-    file's limit is reached or the time is over: pairs of a limit and a report."""
+    """Ever longer limits with their reports, until all streams are met, the file's limit is reached or time is over."""
     until = time.monotonic() + args.seconds
     found: list[Tried] = []
     for power in dict.fromkeys([*range(min(6, limit), limit, 2), limit]):
@@ -103,8 +96,7 @@ def horizons_of(psi: Program, net: Network, args: argparse.Namespace, limit: int
 
 
 def single_states(psi: Program, net: Network, args: argparse.Namespace) -> list[str]:
-    """What all states of a small network become by themselves, as `exact` prints it for the
-    first stream, as sentences; nothing where there are too many states, or it takes too long."""
+    """What `exact` prints of the first stream, in sentences; none where states are too many, or it takes too long."""
     try:
         done = psi.call("exact", net.data, args.seed, 0, EXPONENT, seconds=args.seconds)
     except subprocess.TimeoutExpired:
@@ -112,23 +104,15 @@ def single_states(psi: Program, net: Network, args: argparse.Namespace) -> list[
     if done.status not in (0, 1):
         return []
     found = read_exact(done.out.encode())
+    states, longest = f"{found.states:,} states, followed each by itself", found.longest()
     if found.constant is None:
-        left = found.images[found.longest()]
-        return [
-            f"of {found.states:,} states, followed each by itself, {left:,} are left after "
-            f"{found.longest():,} steps (stream 0)"
-        ]
-    longest, region = found.longest(), found.region
-    boxes = f"not within {longest:,}" if region is None else f"after {region:,}"
-    return [
-        f"all {found.states:,} states, followed each by itself, have met after "
-        f"{found.constant:,} steps (stream 0), the boxes of a run {boxes}"
-    ]
+        return [f"of {states}, {found.images[longest]:,} are left after {longest:,} steps (stream 0)"]
+    boxes = f"not within {longest:,}" if found.region is None else f"after {found.region:,}"
+    return [f"all {states}, have met after {found.constant:,} steps (stream 0), the boxes of a run {boxes}"]
 
 
 def load_rows(net: Network) -> list[dict[str, Any]]:
-    """The load of each queue as a row: its name, the rates in and out, their quotient, and the rate
-    at which customers who wait give up at most; there are none where nobody comes from outside."""
+    """The load of each queue as a row, with the greatest rate of giving up; none where nobody comes from outside."""
     loads = loads_of(net)
     if not any(each.arrivals for each in loads):
         return []
@@ -139,27 +123,20 @@ def load_rows(net: Network) -> list[dict[str, Any]]:
 
 
 def advice(
-    found: list[Tried],
-    kept: list[str],
-    upset: dict[str, tuple[str, str]],
-    heads: dict[str, int],
-    limit: int,
-    args: argparse.Namespace,
-    net: Network,
+    found: list[Tried], kept: list[str], upset: Upset, heads: dict[str, int], count: int, net: Network
 ) -> Iterator[str]:
     """What may help, each as one sentence."""
     if kept and all(map(is_move, net.table["event"])):
         yield "the network is closed: psi closed is given the number of customers"
     if kept:
         return
-    tried = found[-1] if found else None
-    if tried and tried[1].met == args.count:
-        yield f"nothing: all {args.count} streams are met"
+    if found and found[-1][1].met == count:
+        yield f"nothing: all {count} streams are met"
         return
-    if tried is None or tried[0] < limit:
+    if not found or found[-1][0] < heads["limit"]:
         yield "more time for this tool (--seconds), since the file's limit wasn't reached"
-    elif limit < 22:
-        yield f"a greater limit: 20, or 22 in version 2; the file's is {limit}"
+    elif heads["limit"] < 22:
+        yield f"a greater limit: 20, or 22 in version 2; the file's is {heads['limit']}"
     if upset and heads["split"] < 4096:
         yield f"a greater split, to 4,096; the file's is {heads['split']}"
     if upset:
@@ -177,8 +154,8 @@ def findings_of(psi: Program, args: argparse.Namespace) -> Findings:
     """All findings, by what they are."""
     net = checked(psi, args.net)
     check = psi.ask("check", net.data).out
-    heads, upset = heads_of(check), upset_of(check)
-    moves = Moves(net)
+    heads = {key: int(value) for key, value in re.findall(r"^(\w+) (\d+)$", check, re.M)}
+    upset, moves = upset_of(check), Moves(net)
     never = never_met(net, moves)
     found = [] if never else horizons_of(psi, net, args, heads["limit"])
     is_met = bool(found) and found[-1][1].met == args.count
@@ -194,5 +171,5 @@ def findings_of(psi: Program, args: argparse.Namespace) -> Findings:
         "horizons": [(power, report.met, report.horizons) for power, report in found],
         "states": [] if never or is_met else single_states(psi, net, args),
         "stopped": not never and not is_met and (not found or found[-1][0] < heads["limit"]),
-        "advice": [*advice(found, never, upset, heads, heads["limit"], args, net)],
+        "advice": [*advice(found, never, upset, heads, args.count, net)],
     }

@@ -7,16 +7,16 @@ import os
 import pathlib
 import re
 import shlex
+import shutil
 import subprocess
 import sys
 import time
-from collections.abc import Callable, Iterable, Iterator
-from typing import Protocol
+from collections.abc import Iterable, Iterator
 
-from psi_tools.draw.blocks import Block, Folder, digest_in, digest_of, whole_report, write_whole
+from psi_tools.draw.blocks import Block, Folder, digest_of, is_as_written, whole_report, write_whole
 from psi_tools.draw.states import report_of_text
-from psi_tools.draw.program import found_on_path
 from psi_tools.errors import PsiError, printable, reason
+from psi_tools.io.reports import ReportError, merged
 from psi_tools.io.terminal import Pulse, clock, is_terminal, print_error, print_note
 
 COMMAND = "psi-many"
@@ -44,25 +44,6 @@ mv -f "$part/net.toml" "$part/psi" {digest}/; rmdir "$part"
 # begun twice. On a host this is done before ssh, since there are none of these variables there.
 BEGIN = 'echo "$PARALLEL_SEQ" >>"$PSI_MANY_BEGUN"; '
 BEGIN_HERE = f'[ -z "$PSI_MANY_BEGUN" ] || {BEGIN}'
-# What draws one block: {1} is its number, {2} its first stream, and {3} how many streams it has; of
-# a closed network, whose samples are drawn one by one, it is the last one.
-STEP = """printf 'block %s\\n' {{1}} && {psi} report net.toml {seed} {{2}} {{3}} \
-&& printf 'whole %s\\n' {{1}}"""
-CLOSED_STEP = """printf 'block %s\\n' {{1}} && for stream in $(seq {{2}} {{3}}); do \
-{psi} closed net.toml {seed} $stream {total} || [ $? -eq 1 ] || exit; done \
-&& printf 'whole %s\\n' {{1}}"""
-# And of samples: psi_states, which ends with 1 where some stream isn't coupled.
-STATES_STEP = """printf 'block %s\\n' {{1}} && {{ {psi} net.toml {seed} {{2}} {{3}}{closed} || [ $? -eq 1 ]; }} \
-&& printf 'whole %s\\n' {{1}}"""
-
-
-class Way(Protocol):
-    """A way to draw blocks: `slots` are drawn at once."""
-
-    slots: int
-
-    def draw(self, folder: Folder, blocks: list[Block], progress: "Progress") -> list[Block]:
-        """Draws blocks, keeps those that come whole, and gives those that were begun several times."""
 
 
 class Progress:
@@ -87,22 +68,21 @@ class Progress:
         print_error(f"\r{line}\x1b[K" if self.redraws else line, end=end)
 
 
-def take(lines: Iterable[bytes], finish: Callable[[int, bytes], None]) -> None:
-    """Hands on each text that stands whole between the lines of its block."""
+def whole_texts(lines: Iterable[bytes]) -> Iterator[tuple[int, bytes]]:
+    """Each text that stands whole between the lines of its block, after the number of that."""
     number: bytes | None = None
     text: list[bytes] = []
     for line in lines:
         if line.startswith(b"block "):
             number, text = line[6:], []
         elif line.startswith(b"whole ") and line[6:] == number:
-            finish(int(number), b"".join(text))
+            yield int(number), b"".join(text)
         else:
             text.append(line)
 
 
 def keep(folder: Folder, number: int, text: bytes) -> bool:
-    """Keeps what a block's sampler printed, where it is whole; of a closed network its report, where samples
-    aren't kept themselves."""
+    """Keeps what a block's sampler printed, if it is whole; of a closed network its report, if samples aren't kept."""
     if folder.total is None or folder.has_samples:
         return folder.accept(number, text)
     report = report_of_text(folder.network(), text, folder.block(number).count)
@@ -110,42 +90,33 @@ def keep(folder: Folder, number: int, text: bytes) -> bool:
 
 
 def step_of(folder: Folder, psi: str) -> str:
-    """The command of one block, with psi, or psi_states, as it is called there."""
+    """The command of one block, with psi, or psi_states, as it is called there: {1} is its number, {2} its first
+    stream, and {3} how many there are, or the last one where samples of a closed network are drawn one by one."""
     if folder.has_samples:
         closed = "" if folder.total is None else f" closed {folder.total}"
-        return STATES_STEP.format(psi=psi, seed=folder.seed, closed=closed)
-    if folder.total is None:
-        return STEP.format(psi=psi, seed=folder.seed)
-    return CLOSED_STEP.format(psi=psi, seed=folder.seed, total=folder.total)
-
-
-def line_of(folder: Folder, block: Block) -> str:
-    """The line that GNU parallel reads for a block."""
-    number, first, count = block
-    is_counted = folder.total is None or folder.has_samples
-    return f"{number} {first} {count if is_counted else first + count - 1}\n"
+        # It ends with 1 where some stream isn't coupled.
+        drawing = f"{{ {psi} net.toml {folder.seed} {{2}} {{3}}{closed} || [ $? -eq 1 ]; }}"
+    elif folder.total is None:
+        drawing = f"{psi} report net.toml {folder.seed} {{2}} {{3}}"
+    else:
+        one = f"{psi} closed net.toml {folder.seed} $stream {folder.total} || [ $? -eq 1 ] || exit"
+        drawing = f"for stream in $(seq {{2}} {{3}}); do {one}; done"
+    return f"printf 'block %s\\n' {{1}} && {drawing} && printf 'whole %s\\n' {{1}}"
 
 
 def run_parallel(
     folder: Folder, blocks: list[Block], progress: Progress, args: list[str], command: str, psi: str
 ) -> list[Block]:
-    """Draws blocks by GNU parallel, and keeps those that come whole. Gives those that it has begun
-    several times."""
-
-    def finish(number: int, text: bytes) -> None:
-        if keep(folder, number, text):
-            progress.show(progress.streams + folder.block(number).count)
-
+    """Draws blocks by GNU parallel, and keeps those that come whole; gives those that were begun several times."""
     # Where this program is killed, the signal ends GNU parallel and what it runs.
-    guard = ["setpriv", "--pdeathsig", "TERM"] if found_on_path("setpriv") else []
-    call = [*guard, "parallel", "--plain", "--colsep", " ", "--retries", str(TRIES)]
-    call += [*args, BEGIN_HERE + command]
+    guard = ["setpriv", "--pdeathsig", "TERM"] if shutil.which("setpriv") else []
+    call = [*guard, "parallel", "--plain", "--colsep", " ", "--retries", str(TRIES), *args, BEGIN_HERE + command]
     begun = folder.path / "begun"
-    environment = {**os.environ, "PARALLEL_SHELL": "/bin/sh", "PSI_MANY_PSI": psi}
-    environment["PSI_MANY_BEGUN"] = str(begun)
-    lines = "".join(line_of(folder, block) for block in blocks)
+    environment = {**os.environ, "PARALLEL_SHELL": "/bin/sh", "PSI_MANY_PSI": psi, "PSI_MANY_BEGUN": str(begun)}
+    is_counted = folder.total is None or folder.has_samples
+    lines = (f"{number} {first} {count if is_counted else first + count - 1}\n" for number, first, count in blocks)
     # Neither is read once this round is over, so a loss of power takes nothing with them.
-    write_whole(folder.path / "jobs", lines.encode(), is_synced=False)
+    write_whole(folder.path / "jobs", "".join(lines).encode(), is_synced=False)
     write_whole(begun, b"", is_synced=False)
     with open(folder.path / "jobs", "rb") as jobs, open(folder.path / "said", "wb") as errors:
         with subprocess.Popen(
@@ -159,7 +130,9 @@ def run_parallel(
         ) as run:
             try:
                 assert run.stdout is not None
-                take(run.stdout, finish)
+                for number, text in whole_texts(run.stdout):
+                    if keep(folder, number, text):
+                        progress.show(progress.streams + folder.block(number).count)
             except BaseException:
                 run.terminate()
                 raise
@@ -175,8 +148,7 @@ class Here:
 
     def draw(self, folder: Folder, blocks: list[Block], progress: Progress) -> list[Block]:
         command = step_of(folder, '"$PSI_MANY_PSI"')
-        args = ["--jobs", str(self.slots)]
-        return run_parallel(folder, blocks, progress, args, command, self.psi)
+        return run_parallel(folder, blocks, progress, ["--jobs", str(self.slots)], command, self.psi)
 
 
 class Hosts:
@@ -224,9 +196,8 @@ class Hosts:
             return []
         lines = "".join(f"{slots}/{name}\n" for slots, name in self.logins)
         write_whole(folder.path / "hosts", lines.encode())
-        args = ["--ssh", BEGIN + self.ssh, "--sshloginfile", str(folder.path / "hosts")]
+        args = ["--ssh", BEGIN + self.ssh, "--sshloginfile", str(folder.path / "hosts"), "--sshdelay", "0.02"]
         command = f'cd "$HOME/.psi-many/{self.digest}" && {step_of(folder, "./psi")}'
-        args += ["--sshdelay", "0.02"]
         return run_parallel(folder, blocks, progress, args, command, self.psi)
 
 
@@ -280,19 +251,16 @@ class Slurm:
             write_whole(kept, job.encode())
         print_error(f"psi-many: waiting for the Slurm job {job}")
         try:
-            self.wait(job, folder, progress)
+            # Until all blocks are there, or no task of the job is left.
+            while self.is_queued(job):
+                time.sleep(POLL)
+                numbers = [*folder.listed()]
+                progress.show(sum(folder.block(number).count for number in numbers))
+                if len(numbers) == len(folder.all_blocks()):
+                    break
         except PsiError as error:
             raise PsiError(f"{error}; the Slurm job {job} goes on by itself", error.status) from None
         return []
-
-    def wait(self, job: str, folder: Folder, progress: Progress) -> None:
-        """Waits until all blocks are there, or no task of the job is left."""
-        while self.is_queued(job):
-            time.sleep(POLL)
-            numbers = [*folder.listed()]
-            progress.show(sum(folder.block(number).count for number in numbers))
-            if len(numbers) == len(folder.all_blocks()):
-                break
 
     def submit(self, folder: Folder, blocks: list[Block]) -> str:
         """Submits tasks, each of which draws its share of the blocks."""
@@ -349,6 +317,11 @@ def drawn(folder: Folder, block: Block, psi: str) -> tuple[int, bytes]:
     return 0, b"".join(texts)
 
 
+# A way to draw blocks: `slots` are drawn at once, and `draw` keeps those that come whole, and gives those that were
+# begun several times.
+Way = Here | Hosts | Slurm
+
+
 def draw_all(folder: Folder, way: Way) -> list[pathlib.Path]:
     """Draws the blocks that aren't finished yet, those that failed again, and gives the files."""
     blocks, finished, vain = folder.all_blocks(), folder.finished(), 0
@@ -369,15 +342,14 @@ def draw_all(folder: Folder, way: Way) -> list[pathlib.Path]:
             if vain == ROUNDS:
                 raise PsiError(line, 1)
             print_note(COMMAND, f"{line}; they are drawn again")
-    return [finished[number] for number in sorted(finished)]
+    return [*finished.values()]
 
 
 def report_removed(folder: Folder, blocks: list[Block]) -> None:
     """Reports which files of blocks weren't as they should be, and are removed."""
     for number, why in [*folder.removed.items()][:MOST_TOLD]:
         if number < len(blocks):
-            streams = streams_of(blocks[number])
-            print_note(COMMAND, f"{streams} are drawn again: the file of their block {why}")
+            print_note(COMMAND, f"{streams_of(blocks[number])} are drawn again: the file of their block {why}")
         else:
             print_note(COMMAND, f"the file of the block {number}, which this call hasn't, is removed")
     if (more := len(folder.removed) - MOST_TOLD) > 0:
@@ -390,9 +362,8 @@ def streams_of(block: Block) -> str:
 
 def last_line(folder: Folder) -> str:
     """The last line that a block that failed has printed."""
-    logs = sorted(folder.path.glob("slurm/*.log"), key=os.path.getmtime)
-    last = [folder.path / "said"] if (folder.path / "said").exists() else []
-    lines = [line for file in logs + last for line in file.read_text(errors="replace").split("\n")]
+    logs = [*sorted(folder.path.glob("slurm/*.log"), key=os.path.getmtime), *folder.path.glob("said")]
+    lines = [line for file in logs for line in file.read_text(errors="replace").split("\n")]
     return "".join([f": {line}" for line in lines if line][-1:])
 
 
@@ -403,8 +374,6 @@ def merged_once(files: list[pathlib.Path], program: str | None) -> bytes:
         if done.returncode:
             raise PsiError(f"the merge failed: {done.stderr.decode(errors='replace')}", 1)
         return done.stdout
-    from psi_tools.io.reports import ReportError, merged
-
     try:
         return merged(files).text()
     except ReportError as refused:
@@ -414,21 +383,18 @@ def merged_once(files: list[pathlib.Path], program: str | None) -> bytes:
 def merge(folder: Folder, files: list[pathlib.Path], program: str | None) -> bytes:
     """The report of all blocks, which are merged step by step, a thousand at a time."""
     made: list[pathlib.Path] = []
-    while True:
+    while len(files) > MERGED_AT_ONCE:
         parts = [files[at : at + MERGED_AT_ONCE] for at in range(0, len(files), MERGED_AT_ONCE)]
-        texts = [merged_once(part, program) for part in parts]
-        if len(texts) == 1:
-            break
-        begun = len(made)
-        for place, text in enumerate(texts, begun):
-            made.append(folder.path / f"merged.{place}")
-            write_whole(made[-1], text)
-        files = made[begun:]
+        files = [folder.path / f"merged.{place}" for place, _ in enumerate(parts, len(made))]
+        for file, part in zip(files, parts):
+            write_whole(file, merged_once(part, program))
+        made += files
+    text = merged_once(files, program)
     for file in made:
         file.unlink()
-    if whole_report(texts[0], folder.count) is None:
+    if whole_report(text, folder.count) is None:
         raise PsiError("the merged text isn't the report of all streams", 1)
-    return texts[0]
+    return text
 
 
 def joined(folder: Folder, files: list[pathlib.Path]) -> Iterator[bytes]:
@@ -439,6 +405,6 @@ def joined(folder: Folder, files: list[pathlib.Path]) -> Iterator[bytes]:
             text = file.read_bytes()
         except OSError as fault:
             raise PsiError(f"{file} can't be read: {reason(fault)}", 1) from None
-        if digest_in(file) != digest_of(text)[:16]:
+        if not is_as_written(file, text):
             raise PsiError(f"{file} isn't as it was written; the same call draws it again", 1)
         yield text[text.index(b"\n") + 1 :] if place else text

@@ -1,10 +1,12 @@
 """Running psi: where it is, what it answers, and many answers side by side."""
 
 import atexit
+import contextlib
 import dataclasses
 import os
 import pathlib
 import re
+import shutil
 import subprocess
 import threading
 from collections.abc import Callable, Container, Iterable
@@ -33,18 +35,9 @@ def built_program() -> str:
     return str(built) if built.exists() else "psi"
 
 
-def found_on_path(name: str) -> str | None:
-    """The path of a program, by its name or its path; none where there is none."""
-    folders = [""] if "/" in name else os.environ.get("PATH", os.defpath).split(":")
-    for path in (os.path.join(folder, name) for folder in folders):
-        if os.path.isfile(path) and os.access(path, os.X_OK):
-            return path
-    return None
-
-
 def program_of(path: str | os.PathLike[str] | None = None) -> str:
     """The path of psi, which is there."""
-    found = found_on_path(os.fspath(path or built_program()))
+    found = shutil.which(path or built_program())
     if not found and path is None:
         raise PsiError("psi isn't built, and isn't on the PATH; --psi names it")
     if not found:
@@ -53,8 +46,8 @@ def program_of(path: str | os.PathLike[str] | None = None) -> str:
 
 
 def companion_of(path: str, name: str) -> str | None:
-    """The path of another proved program: the one beside psi, or beside what a link named psi leads
-    to, with _ or - in its name; else the one that is built where these tools stand; else none."""
+    """The path of another proved program: beside psi, or what a link named psi leads to, with _ or - in its name; else
+    the one that is built where these tools stand; else none."""
     places = [pathlib.Path(path).parent, pathlib.Path(path).resolve().parent]
     files = [place / each for place in places for each in (name, name.replace("_", "-"))]
     files.append(TOP / "crates" / name / "out" / name)
@@ -85,22 +78,15 @@ class Guard:
         self.lock = threading.Lock()
 
     def group(self) -> int | None:
-        """The number of the group; none where there is no shell."""
+        """The number of the group; none where there is no shell. A process that was forked needs one of its own."""
         with self.lock:
             if self.owner != os.getpid() or self.shell is None or self.shell.poll() is not None:
-                self.start()
+                pipe, nowhere, self.owner, self.shell = subprocess.PIPE, subprocess.DEVNULL, os.getpid(), None
+                call = ["/bin/sh", "-c", self.SCRIPT]
+                with contextlib.suppress(FileNotFoundError):
+                    self.shell = subprocess.Popen(call, stdin=pipe, stdout=nowhere, stderr=nowhere, process_group=0)
+                    atexit.register(self.end)
             return None if self.shell is None else self.shell.pid
-
-    def start(self) -> None:
-        """Starts the shell, of which a process that was forked needs one of its own."""
-        nowhere, self.owner = subprocess.DEVNULL, os.getpid()
-        call = ["/bin/sh", "-c", self.SCRIPT]
-        try:
-            self.shell = subprocess.Popen(call, stdin=subprocess.PIPE, stdout=nowhere, stderr=nowhere, process_group=0)
-        except FileNotFoundError:
-            self.shell = None
-            return
-        atexit.register(self.end)
 
     def end(self) -> None:
         """Ends the shell, and what is left of the group."""
@@ -146,8 +132,7 @@ class Program:
         return f"<Program {self.path}, {self.jobs} jobs>"
 
     def call(self, command: str, net: bytes, *args: object, seconds: float | None = None) -> Answer:
-        """The answer of a command of a network, whatever its status is. Where it takes more than so
-        many seconds it is ended, and subprocess.TimeoutExpired is raised."""
+        """The answer of a command, whatever its status; subprocess.TimeoutExpired is raised after so many seconds."""
         return self.run([self.path, command, "/dev/stdin", *map(str, args)], net, seconds)
 
     def run(self, words: list[str], net: bytes, seconds: float | None = None) -> Answer:
@@ -167,8 +152,7 @@ class Program:
         finally:
             with self.guard:
                 self.running.discard(run)
-        texts = out.decode("utf-8", "replace"), line.decode("utf-8", "replace").strip()
-        return Answer(run.returncode, *texts)
+        return Answer(run.returncode, out.decode("utf-8", "replace"), line.decode("utf-8", "replace").strip())
 
     def ask(self, command: str, net: bytes, *args: object, statuses: Container[int] = (0,)) -> Answer:
         """The answer of a command, which ends with one of these statuses."""
@@ -196,8 +180,7 @@ class Program:
         return accepted(answer, name, (0, 1)).out
 
     def all(self, calls: Iterable[Callable[[], Value]], done: Callable[[int], None] | None = None) -> list[Value]:
-        """The answers of some calls, in their order, drawn side by side; `done` is called with how
-        many are there."""
+        """The answers of some calls, drawn side by side, in their order; `done` is called with how many are there."""
         # A single call does without this module, which takes a while to be read.
         import concurrent.futures
 

@@ -1,9 +1,10 @@
 """Reports of many streams, drawn side by side on this machine in blocks."""
 
+import functools
 import os
 from collections.abc import Callable, Sequence
 
-from psi_tools.draw.blocks import Folder, digest_in, digest_of
+from psi_tools.draw.blocks import Folder, is_as_written
 from psi_tools.draw.program import Program
 from psi_tools.draw.streams import Streams
 from psi_tools.errors import PsiError
@@ -15,8 +16,7 @@ from psi_tools.stats.batches import REWARD, Batches, batches_of
 
 
 def as_printed(data: bytes) -> bytes:
-    """A report as psi prints it, where a spreadsheet has saved it with CR LF at the end of each of
-    its lines; any other text as it is."""
+    """A report as psi prints it, where a spreadsheet has saved it with CR LF at the end of each line; else as it is."""
     ends = data.count(b"\r\n")
     every = ends == data.count(b"\n") == data.count(b"\r")
     return data.replace(b"\r\n", b"\n") if every else data
@@ -61,13 +61,12 @@ def read_folder(path: str) -> tuple[Batches, int]:
         folder.read_bound()
         if folder.has_samples:
             raise PsiError(f"{path} is a folder of samples, as psi-many --states draws them, and has no reports")
-        files = folder.listed()
-        texts = {number: (max(same), max(same).read_bytes()) for number, same in files.items()}
+        texts = {number: (max(same), max(same).read_bytes()) for number, same in folder.listed().items()}
     except (OSError, UnicodeDecodeError) as fault:
         raise PsiError(f"{path} can't be read: {fault}", 6) from None
     reports = []
     for number, (file, text) in sorted(texts.items()):
-        if digest_in(file) != digest_of(text)[:16]:
+        if not is_as_written(file, text):
             raise PsiError(f"{file} isn't as it was written; psi-many draws it again")
         if not 0 <= number * folder.size < folder.count:
             raise PsiError(f"{file} is no block of this folder")
@@ -81,8 +80,7 @@ def read_folder(path: str) -> tuple[Batches, int]:
 
 
 def read_any(paths: list[str], net: Network | None = None) -> tuple[Batches, int]:
-    """The batches of reports, or of a folder of psi-many, whose network may be given; and how many
-    there are to be."""
+    """The batches of reports, or of a folder of psi-many, whose network may be given; and how many there are to be."""
     folders = [path for path in paths if os.path.isdir(path)]
     if folders and len(paths) > 1:
         raise PsiError("a folder of psi-many is given alone, or some reports are")
@@ -104,6 +102,5 @@ def reports_of(
     psi: Program, data: bytes, seed: int, blocks: Sequence[Streams], done: Callable[[int], None] | None = None
 ) -> list[Report]:
     """The reports of some blocks of one network; `done` is called with how many blocks are there."""
-    calls = [lambda block=block: report_of(psi, data, seed, block) for block in blocks]
-    texts = psi.all(calls, done)
+    texts = psi.all([functools.partial(report_of, psi, data, seed, block) for block in blocks], done)
     return [read_report(text, "what psi printed") for text in texts]

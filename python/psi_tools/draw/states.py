@@ -22,37 +22,28 @@ SAMPLE = re.compile(rb"met (\d+)\nstate (\d+(?:,\d+)*)\n|not coupled within \d+\
 
 
 def samples_of(text: bytes) -> list[Sample] | None:
-    """The samples in what psi closed printed of some streams: for each its horizon and its state,
-    or none where it isn't coupled; none at all where the text is anything else."""
-    found, end = [], 0
-    for sample in SAMPLE.finditer(text):
-        if sample.start() != end:
-            return None
-        end = sample.end()
-        met = sample[1] is not None
-        found.append((int(sample[1]), [*map(int, sample[2].split(b","))]) if met else None)
-    return found if end == len(text) else None
+    """The horizon and state of each sample, none if it isn't coupled, as psi closed prints them; none of other text."""
+    found = [*SAMPLE.finditer(text)]
+    if b"".join(sample[0] for sample in found) != text:
+        return None
+    return [(int(sample[1]), [*map(int, sample[2].split(b","))]) if sample[1] else None for sample in found]
 
 
 def report_of_text(net: Network, text: bytes, count: int) -> bytes | None:
-    """The report of what psi closed printed of this number of streams, in psi report's form; none where it isn't
-    whole."""
+    """The report, in psi report's form, of what psi closed printed of these streams; none where it isn't whole."""
     found = samples_of(text)
-    if found is None or len(found) != count:
-        return None
-    if any(sample and len(sample[1]) != len(net.queues) for sample in found):
+    if found is None or len(found) != count or any(sample and len(sample[1]) != len(net.queues) for sample in found):
         return None
     met, report = [sample for sample in found if sample], Report()
     report.samples, report.met = len(found), len(met)
     report.horizons = sorted(collections.Counter(horizon for horizon, _ in met).items())
-    states = [state for _, state in met]
-    values = [values_of(net, state) for state in states]
-    for kind, names, rows in ((b"", net.queues, states), (b"reward-", net.rewards, values)):
-        for place, name in enumerate(names):
-            numbers = [row[place] for row in rows]
-            ends = {b"least": min(numbers), b"greatest": max(numbers)} if numbers else {}
-            for word, value in {b"sum": sum(numbers), **ends}.items():
-                report.figures.append(Figure(kind, word, name.encode(), value))
+    rows = [(*state, *values_of(net, state)) for _, state in met]
+    names = [(b"", name) for name in net.queues] + [(b"reward-", name) for name in net.rewards]
+    for place, (kind, name) in enumerate(names):
+        numbers = [row[place] for row in rows]
+        ends = {b"least": min(numbers), b"greatest": max(numbers)} if numbers else {}
+        for word, value in {b"sum": sum(numbers), **ends}.items():
+            report.figures.append(Figure(kind, word, name.encode(), value))
     return report.text()
 
 
