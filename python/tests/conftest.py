@@ -2,7 +2,7 @@
 
 import functools
 import os
-import pathlib
+from pathlib import Path
 import re
 import resource
 import shutil
@@ -24,7 +24,7 @@ if TYPE_CHECKING:
     from psi_tools.model.networks import Network
     from psi_tools.stats.intervals import Mean
 
-HERE = pathlib.Path(__file__).resolve().parent
+HERE = Path(__file__).resolve().parent
 TOP = HERE.parent.parent
 sys.path[:0] = [str(TOP), str(TOP / "tools")]
 BUILT = TOP / "crates/psi/out/psi"
@@ -36,6 +36,8 @@ CHECKER = [sys.executable, "-IS", str(TOP / "tools/check_interval.py")]
 Ended = tuple[int, str, str]
 Tool = Callable[..., Ended]
 Started = Callable[..., "subprocess.Popen[str]"]
+# The module psi, whose calls are handed the built program.
+Psi = types.SimpleNamespace
 PIPES: dict[str, Any] = {"stdout": subprocess.PIPE, "stderr": subprocess.PIPE, "text": True}
 # Where this folder stands alone, with psi on the PATH, these tests are made. All others want the repository,
 # for its tools, networks, guides or plain programs.
@@ -55,7 +57,7 @@ def match_in(pattern: str, text: str, flags: int = 0) -> "re.Match[str]":
     return found
 
 
-def example(name: str) -> pathlib.Path:
+def example(name: str) -> Path:
     """The file of a network of the gallery."""
     return TOP / f"examples/{name}.toml"
 
@@ -74,7 +76,7 @@ def ended(words: Sequence[object], **options: Any) -> Ended:
     return done.returncode, done.stdout, done.stderr
 
 
-def checked(certificates: pathlib.Path) -> Ended:
+def checked(certificates: Path) -> Ended:
     """How check_interval.py ends on a file of certificates."""
     return ended([*CHECKER, certificates])
 
@@ -94,9 +96,9 @@ def limited(what: str, most: int) -> dict[str, Callable[[], None]]:
     return {"preexec_fn": lambda: resource.setrlimit(getattr(resource, f"RLIMIT_{what}"), (most, most))}
 
 
-def scripted(path: pathlib.Path, *lines: str) -> pathlib.Path:
+def scripted(path: Path, *lines: str) -> Path:
     """A script of the shell in place of a program, with a folder for what it keeps, $KEPT."""
-    pathlib.Path(f"{path}.kept").mkdir(parents=True)
+    Path(f"{path}.kept").mkdir(parents=True)
     path.write_text("\n".join(["#!/bin/sh", f"KEPT={path}.kept", *lines, ""]))
     path.chmod(0o755)
     return path
@@ -180,7 +182,7 @@ def environment(program: str, tmp_path_factory: pytest.TempPathFactory) -> dict[
 
 
 @pytest.fixture
-def tool(environment: dict[str, str], tmp_path: pathlib.Path) -> Tool:
+def tool(environment: dict[str, str], tmp_path: Path) -> Tool:
     """Runs a tool in a folder of its own."""
     return lambda name, *words, **options: ended(
         [TOP / "tools" / name, *words], cwd=tmp_path, env=environment, **options
@@ -188,7 +190,7 @@ def tool(environment: dict[str, str], tmp_path: pathlib.Path) -> Tool:
 
 
 @pytest.fixture
-def started(environment: dict[str, str], tmp_path: pathlib.Path) -> Started:
+def started(environment: dict[str, str], tmp_path: Path) -> Started:
     """Starts a tool in a folder of its own."""
     return lambda name, *words: subprocess.Popen(
         [TOP / "tools" / name, *map(str, words)], cwd=tmp_path, env=environment, **PIPES
@@ -212,7 +214,7 @@ def answer(program: str) -> "Answer":
 
 
 @pytest.fixture
-def psi(program: str) -> types.SimpleNamespace:
+def psi(program: str) -> Psi:
     """The module psi, whose calls are handed the built program."""
     import psi
 
@@ -221,4 +223,4 @@ def psi(program: str) -> types.SimpleNamespace:
     for name, call in names.items():
         if "program" in (getattr(call, "__kwdefaults__", None) or {}):
             names[name] = functools.partial(call, program=own)
-    return types.SimpleNamespace(**names)
+    return Psi(**names)

@@ -2,17 +2,16 @@
 
 import doctest
 import inspect
-import pathlib
+from pathlib import Path
 import pickle
 import sys
-import types
 import warnings
 from typing import Any
 
 import api_page
 import psi as module
 import pytest
-from conftest import ALONE, HERE, TOP, companion, desk, ended
+from conftest import ALONE, HERE, TOP, Psi, companion, desk, ended
 from psi_tools.errors import PsiError
 from psi_tools.io.terminal import Bar
 
@@ -52,7 +51,7 @@ def test_the_examples_run(
     assert runner.summarize(verbose=False).failed == 0
 
 
-def test_results_are_tuples_with_names(psi: types.SimpleNamespace) -> None:
+def test_results_are_tuples_with_names(psi: Psi) -> None:
     found = psi.couple(desk(), 0, 0)
     assert found == (found.horizon, found.state) and type(found.state) is tuple
     assert psi.replay(desk(), psi.log(desk(), 0, 0)).state == found.state
@@ -64,12 +63,12 @@ def test_results_are_tuples_with_names(psi: types.SimpleNamespace) -> None:
     assert "<th>states left of 11</th>" in exact._repr_html_() and exact._repr_html_().count("<tr>") == 5
 
 
-def test_what_is_shown(psi: types.SimpleNamespace, program: str) -> None:
+def test_what_is_shown(psi: Psi, program: str) -> None:
     assert repr(desk()) == "<Network: 1 queue, 2 events, 0 rewards>"
     assert repr(psi.Program(program, 3)) == f"<Program {program}, 3 jobs>"
 
 
-def test_an_exception_has_its_status_line_and_message(psi: types.SimpleNamespace) -> None:
+def test_an_exception_has_its_status_line_and_message(psi: Psi) -> None:
     net = desk()
     net.table["event"][0]["to"] = ["dsk"]
     with pytest.raises(psi.Refused) as fault:
@@ -95,7 +94,7 @@ def test_a_program_works_on_after_a_refusal(program: str) -> None:
     assert module.samples(desk(), count=20, program=own).shape == (20, 1)
 
 
-def test_paths_are_path_like(psi: types.SimpleNamespace, tmp_path: pathlib.Path) -> None:
+def test_paths_are_path_like(psi: Psi, tmp_path: Path) -> None:
     path = tmp_path / "desk.toml"
     desk().write(path)
     assert (psi.samples(path, count=5) == psi.samples(desk(), count=5)).all()
@@ -118,7 +117,7 @@ def test_names_of_the_release_before(program: str) -> None:
         module.use()
 
 
-def test_without_deprecated_names_nothing_is_warned_of(psi: types.SimpleNamespace) -> None:
+def test_without_deprecated_names_nothing_is_warned_of(psi: Psi) -> None:
     with warnings.catch_warnings():
         warnings.simplefilter("error")
         psi.means(desk(), count=400)
@@ -157,4 +156,4 @@ def test_help_reads_well() -> None:
 
 def test_types_are_shipped() -> None:
     for package in ("psi", "psi_tools"):
-        assert (pathlib.Path(module.__file__).parent.parent / package / "py.typed").exists()
+        assert (Path(module.__file__).parent.parent / package / "py.typed").exists()

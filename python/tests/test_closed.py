@@ -1,11 +1,10 @@
 """psi-many --closed: reports of closed networks, and their means beside those that are solved."""
 
 import json
-import pathlib
-import types
+from pathlib import Path
 
 import pytest
-from conftest import Tool, example, is_refused
+from conftest import Psi, Tool, example, is_refused
 from solving import means_of
 
 from psi_tools.draw.states import samples_of
@@ -22,7 +21,7 @@ RING = (
 
 
 @pytest.fixture
-def ring(tmp_path: pathlib.Path) -> str:
+def ring(tmp_path: Path) -> str:
     RING.write(tmp_path / "ring.toml")
     return "ring.toml"
 
@@ -42,7 +41,7 @@ def test_means_are_those_that_are_solved(tool: Tool, ring: str) -> None:
         assert row["low"] <= wanted[row["name"]] <= row["high"], row
 
 
-def test_it_is_the_report_of_the_states(tool: Tool, psi: types.SimpleNamespace, ring: str) -> None:
+def test_it_is_the_report_of_the_states(tool: Tool, psi: Psi, ring: str) -> None:
     report = tool("psi-many", ring, 2**64 - 1, 2**64 - 30, 30, "--closed", 5)[1]
     states = psi.closed(RING, 5, 2**64 - 1, 2**64 - 30, 30)
     for place, name in enumerate(("cpu", "disk", "drum")):
@@ -64,7 +63,7 @@ def test_a_folder_is_of_one_total(tool: Tool, ring: str) -> None:
     assert is_refused(end, "of another call: closed 2, not 3")
 
 
-def test_streams_that_never_couple_are_counted(tool: Tool, tmp_path: pathlib.Path) -> None:
+def test_streams_that_never_couple_are_counted(tool: Tool, tmp_path: Path) -> None:
     net = Network(limit=4).queue("a", 3).queue("b", 3).queue("c", 3)
     net.event("go", "service", 1, "a", ["b"], full="stay").write(tmp_path / "apart.toml")
     status, out, _ = tool("psi-many", "apart.toml", 0, 0, 20, "--closed", 3)

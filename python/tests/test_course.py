@@ -4,7 +4,7 @@ import collections
 import fractions
 import itertools
 import math
-import pathlib
+from pathlib import Path
 import re
 
 import pytest
@@ -265,7 +265,7 @@ def test_10_a_closed_network(course: Course, answer: Answer) -> None:
     assert tuple(map(int, printed.split()[-1].split(","))) in states
 
 
-def test_11_a_forged_certificate(course: Course, answer: Answer, tmp_path: pathlib.Path) -> None:
+def test_11_a_forged_certificate(course: Course, answer: Answer, tmp_path: Path) -> None:
     net, log = "examples/tandem-blocking.toml", answer("sample", "examples/tandem-blocking.toml", 0, 0, "log")
     *head, last, end = log.splitlines()
     assert (head[2], head[4], last.split()[1], end) == ("seed 0", "horizon 64", "1", "end 3,2,1")

@@ -1,7 +1,7 @@
 """docs/course: each number on each page is compared. A change of it makes some test of the course fail."""
 
 import inspect
-import pathlib
+from pathlib import Path
 import types
 from collections.abc import Callable
 
@@ -30,7 +30,7 @@ def fails(check: Callable[..., None], given: dict[str, object]) -> bool:
 
 @pytest.mark.slow
 @pytest.mark.parametrize("name", PAGES)
-def test_each_number_is_compared(answer: Answer, tmp_path: pathlib.Path, name: str) -> None:
+def test_each_number_is_compared(answer: Answer, tmp_path: Path, name: str) -> None:
     """No number of a page can be another one unnoticed, while the page as it is passes all tests."""
     course = Course.read()
     given = {"course": course, "answer": answer, "tmp_path": tmp_path}

@@ -1,6 +1,6 @@
 """docs/TOOLS.md and docs/MANY.md: what they show is what the tools print."""
 
-import pathlib
+from pathlib import Path
 import re
 from collections.abc import Iterator
 
@@ -34,12 +34,7 @@ def test_there_are_runs() -> None:
 
 @pytest.mark.parametrize("files, commands, text", RUNS, ids=[run[1].split()[0] for run in RUNS])
 def test_a_run_of_the_document(
-    program: str,
-    environment: dict[str, str],
-    tmp_path: pathlib.Path,
-    files: dict[str, str],
-    commands: str,
-    text: str | None,
+    program: str, environment: dict[str, str], tmp_path: Path, files: dict[str, str], commands: str, text: str | None
 ) -> None:
     if "--paths" in commands:
         companion(program, "psi_paths")

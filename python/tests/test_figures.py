@@ -3,7 +3,7 @@ the streams that somebody could choose give what is said."""
 
 import csv
 import math
-import pathlib
+from pathlib import Path
 import re
 from collections.abc import Callable
 
@@ -121,7 +121,7 @@ def test_streams_that_could_be_chosen(program: str) -> None:
         assert out.splitlines()[1] == f"state {state}"
 
 
-def test_the_commitment_is_one(tmp_path: pathlib.Path) -> None:
+def test_the_commitment_is_one(tmp_path: Path) -> None:
     stated = GUIDE.partition("**A commitment**")[2]
     block = match_in(r"^  ```\n((?:  [^\n]*\n)*?)  ```", stated, re.M)
     lines = "".join(line[2:] for line in block[1].splitlines(True))

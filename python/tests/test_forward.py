@@ -1,6 +1,6 @@
 """psi-plot forward: where forward runs end, beside plain events and a solved chain."""
 
-import pathlib
+from pathlib import Path
 from typing import Any
 
 import numpy
@@ -26,7 +26,7 @@ GUARDED = (
 )
 
 
-def plain_of(path: str | pathlib.Path) -> tuple[Network, Shares, float, range]:
+def plain_of(path: str | Path) -> tuple[Network, Shares, float, range]:
     """The network, the plain events with the share of the words of each, that of idle, and
     the states."""
     net = Network.read(path)
@@ -62,7 +62,7 @@ def met(shares: Shares, idle: float, states: range) -> Law:
 
 
 @pytest.mark.parametrize("name", ["single-server", "first", "call-centre", "guarded"])
-def test_forward_runs_end_as_the_plain_events_say(program: str, tmp_path: pathlib.Path, name: str) -> None:
+def test_forward_runs_end_as_the_plain_events_say(program: str, tmp_path: Path, name: str) -> None:
     path = example(name)
     if name == "guarded":
         path = tmp_path / "guarded.toml"
@@ -102,7 +102,7 @@ def test_a_distance_is_the_greatest_error_of_an_event(program: str) -> None:
         ([], "needs a file"),
     ],
 )
-def test_what_cannot_be_drawn_is_refused(tool: Tool, tmp_path: pathlib.Path, words: list[object], printed: str) -> None:
+def test_what_cannot_be_drawn_is_refused(tool: Tool, tmp_path: Path, words: list[object], printed: str) -> None:
     (tmp_path / "refused.toml").write_text("version = 1\n")
     head, part = GUARDED.split('[[event]]\nname = "come"')[0], 'kind = "guarded"\nrate = 1\n'
     event = f'[[event]]\nname = "swap"\n{part}'

@@ -4,14 +4,13 @@ import copy
 import fractions
 import json
 import math
-import pathlib
+from pathlib import Path
 import random
-import types
 from collections.abc import Callable, Iterator, Sequence
 from typing import Any
 
 import pytest
-from conftest import TOP, Tool, checked, example, is_refused
+from conftest import TOP, Psi, Tool, checked, example, is_refused
 
 from psi_tools import check_interval
 from psi_tools.stats.guaranteed import (
@@ -38,7 +37,7 @@ Ends = tuple[fractions.Fraction | int | None, ...]
 # Values with how many samples have each.
 Scores = Sequence[tuple[fractions.Fraction | int, int]]
 # Files of certificates by name, each with what its tool printed.
-Files = dict[str, tuple[pathlib.Path, str]]
+Files = dict[str, tuple[Path, str]]
 CHANGED = 400
 
 
@@ -244,7 +243,7 @@ def test_a_greater_claim_is_not_proved() -> None:
     ],
 )
 def test_files_of_certificates_that_are_worked_by_hand(
-    tmp_path: pathlib.Path, seen: Record, greatest: int, q: int, proof: Record, wrong: int, ends: str
+    tmp_path: Path, seen: Record, greatest: int, q: int, proof: Record, wrong: int, ends: str
 ) -> None:
     """The certificates are those that the proof computes; a greater claim is not proved."""
     claim = {"of": "mean", "q": q, "unit": 1, "low": proof, "high": None}
@@ -317,7 +316,7 @@ def test_what_numbers_of_a_file_prove(row: Record, claim: Record, low: object) -
 
 
 @pytest.mark.parametrize("wrong", [{"d": 0}, {"d": 40.0}, {"d": True}, {"d": "40"}, {}, {"d": 40, "rows": [{}]}, [], 7])
-def test_what_is_no_file_of_certificates(tmp_path: pathlib.Path, wrong: object) -> None:
+def test_what_is_no_file_of_certificates(tmp_path: Path, wrong: object) -> None:
     path = tmp_path / "file.json"
     path.write_text(json.dumps(wrong))
     status, out, error = checked(path)
@@ -401,7 +400,7 @@ def test_twenty_thousand_streams_are_fast() -> None:
 
 
 @pytest.fixture
-def files(tool: Tool, tmp_path: pathlib.Path) -> Files:
+def files(tool: Tool, tmp_path: Path) -> Files:
     """A file of certificates of each tool, with what the tool has printed."""
     net = example("short-past")
     tool("psi-many", net, 0, 0, 300, "--block", 15, "--folder", "short")
@@ -437,7 +436,7 @@ def test_the_means_that_the_guide_has(tool: Tool) -> None:
         assert f"`{next(line for line in out if line.startswith('mean '))}`" in guide
 
 
-def test_forms_and_levels(tool: Tool, tmp_path: pathlib.Path, files: Files) -> None:
+def test_forms_and_levels(tool: Tool, tmp_path: Path, files: Files) -> None:
     words = "psi-means", "short", "--guaranteed", "--format"
     reported, wide = (json.loads(tool(*words, "json", *more)[1]) for more in ((), ("--level", 99)))
     assert [row["item"] for row in reported["rows"]] == ["mean", "reward-mean"]
@@ -451,7 +450,7 @@ def test_forms_and_levels(tool: Tool, tmp_path: pathlib.Path, files: Files) -> N
     assert "stakes from the number of streams and the range" in tool(*call)[1]
 
 
-def test_what_is_refused(tool: Tool, tmp_path: pathlib.Path) -> None:
+def test_what_is_refused(tool: Tool, tmp_path: Path) -> None:
     net = example("first")
     for option, value in (("--certificate", "file"), ("--pilot", 5)):
         assert tool("psi-law", net, "a", option, value) == (2, "", f"psi-law: {option} goes with --guaranteed\n")
@@ -466,7 +465,7 @@ def test_what_is_refused(tool: Tool, tmp_path: pathlib.Path) -> None:
     assert is_refused(tool("psi-means", "kept", "--guaranteed"), "fixed beforehand")
 
 
-def test_in_python(psi: types.SimpleNamespace, tmp_path: pathlib.Path) -> None:
+def test_in_python(psi: Psi, tmp_path: Path) -> None:
     net = example("call-classes")
     means = psi.means(net, seed=3, count=200, guaranteed=True)
     law = psi.law(net, "near", seed=3, count=200, guaranteed=True)
@@ -481,7 +480,7 @@ def test_in_python(psi: types.SimpleNamespace, tmp_path: pathlib.Path) -> None:
         assert end[0] == 0, end
 
 
-def test_a_reward_of_several_queues_goes_by_states(psi: types.SimpleNamespace, tmp_path: pathlib.Path) -> None:
+def test_a_reward_of_several_queues_goes_by_states(psi: Psi, tmp_path: Path) -> None:
     """Its value counts where the states have met, also where psi reward knows it before."""
     net = psi.Network.read(example("tandem-blocking"))
     net.heads["limit"] = 5

@@ -1,7 +1,7 @@
 """Files and processes that others have are left as they are, and what was begun goes on."""
 
 import os
-import pathlib
+from pathlib import Path
 import pwd
 import re
 import shutil
@@ -35,7 +35,7 @@ SWEEP = ["psi-sweep", str(NET), "desk.capacity=2,3", "--anyway"]
 
 
 @pytest.mark.parametrize("name", ["/dev/stdout", "/dev/fd/1", "/proc/self/fd/1", "link"])
-def test_standard_output_as_a_file_is_written_behind(tool: Tool, tmp_path: pathlib.Path, name: str) -> None:
+def test_standard_output_as_a_file_is_written_behind(tool: Tool, tmp_path: Path, name: str) -> None:
     (tmp_path / "link").symlink_to("/dev/stdout")
     (tmp_path / "log").write_text("before\n")
     wanted = tool(*LAW)[1]
@@ -47,7 +47,7 @@ def test_standard_output_as_a_file_is_written_behind(tool: Tool, tmp_path: pathl
     assert sorted(os.listdir(tmp_path)) == ["link", "log"]
 
 
-def test_a_pipe_of_another_name_is_written(tool: Tool, tmp_path: pathlib.Path) -> None:
+def test_a_pipe_of_another_name_is_written(tool: Tool, tmp_path: Path) -> None:
     os.mkfifo(tmp_path / "pipe")
     with subprocess.Popen(["cat", "pipe"], cwd=tmp_path, stdout=subprocess.PIPE, text=True) as cat:
         assert tool(*LAW, "-o", "pipe") == (0, "", "")
@@ -57,7 +57,7 @@ def test_a_pipe_of_another_name_is_written(tool: Tool, tmp_path: pathlib.Path) -
 # Temporary files.
 
 
-def test_a_planted_link_is_not_written_through(tool: Tool, tmp_path: pathlib.Path) -> None:
+def test_a_planted_link_is_not_written_through(tool: Tool, tmp_path: Path) -> None:
     (tmp_path / "precious").write_text("mine\n")
     # What a tool with one of the next numbers would call its temporary file.
     for number in range(os.getpid(), os.getpid() + 400):
@@ -68,7 +68,7 @@ def test_a_planted_link_is_not_written_through(tool: Tool, tmp_path: pathlib.Pat
 
 
 @pytest.mark.parametrize("mode", [0o600, 0o664, 0o640])
-def test_a_file_keeps_its_mode(tool: Tool, tmp_path: pathlib.Path, mode: int) -> None:
+def test_a_file_keeps_its_mode(tool: Tool, tmp_path: Path, mode: int) -> None:
     path = tmp_path / "law.txt"
     path.write_text("old")
     path.chmod(mode)
@@ -82,7 +82,7 @@ def test_a_file_keeps_its_mode(tool: Tool, tmp_path: pathlib.Path, mode: int) ->
     assert (tmp_path / "new.txt").stat().st_mode & 0o777 == 0o640
 
 
-def test_no_temporary_file_can_be_read_by_others(tmp_path: pathlib.Path, monkeypatch: pytest.MonkeyPatch) -> None:
+def test_no_temporary_file_can_be_read_by_others(tmp_path: Path, monkeypatch: pytest.MonkeyPatch) -> None:
     from psi_tools.io import files
 
     seen = []
@@ -97,7 +97,7 @@ def test_no_temporary_file_can_be_read_by_others(tmp_path: pathlib.Path, monkeyp
 # Folders.
 
 
-def kept_files(room: pathlib.Path) -> dict[pathlib.Path, bytes]:
+def kept_files(room: Path) -> dict[Path, bytes]:
     return {path: path.read_bytes() for path in room.rglob("*") if path.is_file()}
 
 
@@ -113,7 +113,7 @@ def kept_files(room: pathlib.Path) -> dict[pathlib.Path, bytes]:
         {"thesis": "mine"},
     ],
 )
-def test_a_folder_of_somebody_else_is_left_as_it_is(tool: Tool, tmp_path: pathlib.Path, files: dict[str, str]) -> None:
+def test_a_folder_of_somebody_else_is_left_as_it_is(tool: Tool, tmp_path: Path, files: dict[str, str]) -> None:
     for name, text in files.items():
         path = tmp_path / "kept" / name
         path.parent.mkdir(parents=True, exist_ok=True)
@@ -126,7 +126,7 @@ def test_a_folder_of_somebody_else_is_left_as_it_is(tool: Tool, tmp_path: pathli
 
 
 @pytest.mark.parametrize("name", ["lock", "net.toml", "blocks", "bound"])
-def test_a_link_in_a_folder_is_refused(tool: Tool, tmp_path: pathlib.Path, name: str) -> None:
+def test_a_link_in_a_folder_is_refused(tool: Tool, tmp_path: Path, name: str) -> None:
     (tmp_path / "kept").mkdir()
     target = tmp_path / "target"
     target.mkdir() if name == "blocks" else target.write_text("mine\n")
@@ -135,7 +135,7 @@ def test_a_link_in_a_folder_is_refused(tool: Tool, tmp_path: pathlib.Path, name:
     assert [*target.iterdir()] == [] if name == "blocks" else target.read_text() == "mine\n"
 
 
-def test_a_link_that_is_planted_later_is_refused(tool: Tool, tmp_path: pathlib.Path) -> None:
+def test_a_link_that_is_planted_later_is_refused(tool: Tool, tmp_path: Path) -> None:
     assert tool(*MANY)[0] == 0
     (tmp_path / "mine").write_text("mine\n")
     (tmp_path / "kept/lock").unlink()
@@ -145,7 +145,7 @@ def test_a_link_that_is_planted_later_is_refused(tool: Tool, tmp_path: pathlib.P
 
 
 @pytest.mark.parametrize("room", [0, 5, 30, 150, 250])
-def test_what_a_full_disk_has_left_does_not_matter(tool: Tool, tmp_path: pathlib.Path, room: int) -> None:
+def test_what_a_full_disk_has_left_does_not_matter(tool: Tool, tmp_path: Path, room: int) -> None:
     assert is_refused(tool(*MANY, **limited("FSIZE", room)), "can't be written: File too large", 7)
     if (tmp_path / "kept/blocks").exists():
         (tmp_path / "kept/part.elsewhere.17.net.toml").write_text("half")
@@ -155,7 +155,7 @@ def test_what_a_full_disk_has_left_does_not_matter(tool: Tool, tmp_path: pathlib
     assert not [*(tmp_path / "kept").rglob("part.*")]
 
 
-def test_a_disk_that_is_full(tool: Tool, program: str, tmp_path: pathlib.Path) -> None:
+def test_a_disk_that_is_full(tool: Tool, program: str, tmp_path: Path) -> None:
     """A disk of its own, which wants root; the call goes on once there is room."""
     if os.geteuid() != 0 or not shutil.which("mount"):
         pytest.skip("a disk of its own wants root and mount")
@@ -178,7 +178,7 @@ def test_a_disk_that_is_full(tool: Tool, program: str, tmp_path: pathlib.Path) -
 
 
 @pytest.fixture(scope="module")
-def drawn(environment: dict[str, str], tmp_path_factory: pytest.TempPathFactory) -> tuple[pathlib.Path, str]:
+def drawn(environment: dict[str, str], tmp_path_factory: pytest.TempPathFactory) -> tuple[Path, str]:
     """The folder that psi-many keeps, and its report; they are made once."""
     room = tmp_path_factory.mktemp("drawn")
     status, out, error = ended([TOP / "tools" / MANY[0], *MANY[1:]], cwd=room, env=environment)
@@ -189,7 +189,7 @@ def drawn(environment: dict[str, str], tmp_path_factory: pytest.TempPathFactory)
 @pytest.mark.parametrize("line", ["network", "seed", "first", "count", "block", "digest"])
 @pytest.mark.parametrize("damage", ["cut", "changed", "removed"])
 def test_a_damaged_line_of_bound_costs_no_more_than_its_own_block(
-    tool: Tool, drawn: tuple[pathlib.Path, str], tmp_path: pathlib.Path, line: str, damage: str
+    tool: Tool, drawn: tuple[Path, str], tmp_path: Path, line: str, damage: str
 ) -> None:
     folder, wanted = drawn
     shutil.copytree(folder, tmp_path / "kept")
@@ -211,7 +211,7 @@ def test_a_damaged_line_of_bound_costs_no_more_than_its_own_block(
     assert bound.read_text() == text and "bound was damaged" in error
 
 
-def test_a_bound_that_is_no_text(tool: Tool, tmp_path: pathlib.Path) -> None:
+def test_a_bound_that_is_no_text(tool: Tool, tmp_path: Path) -> None:
     assert tool(*MANY)[0] == 0
     for name in ("bound", "bound.copy"):
         (tmp_path / "kept" / name).write_bytes(b"\xff\xfe\n")
@@ -220,7 +220,7 @@ def test_a_bound_that_is_no_text(tool: Tool, tmp_path: pathlib.Path) -> None:
         assert status == 2 and out == "" and re.fullmatch(r"psi-\w+: [^\n]*\n", error), error
 
 
-def test_no_loop_of_links_is_a_fault_of_the_tool(tool: Tool, tmp_path: pathlib.Path) -> None:
+def test_no_loop_of_links_is_a_fault_of_the_tool(tool: Tool, tmp_path: Path) -> None:
     (tmp_path / "loop").symlink_to("loop")
     (tmp_path / "kept").symlink_to("loop/kept")
     folder = ["--folder", "loop"]
@@ -231,7 +231,7 @@ def test_no_loop_of_links_is_a_fault_of_the_tool(tool: Tool, tmp_path: pathlib.P
         assert re.fullmatch(r"psi-\w+: [^\n]*\n", error) and "fault of the tool" not in error, error
 
 
-def test_another_user_can_not_be_made_to_lose_a_file(tool: Tool, tmp_path: pathlib.Path) -> None:
+def test_another_user_can_not_be_made_to_lose_a_file(tool: Tool, tmp_path: Path) -> None:
     """As somebody else, in a folder with the sticky bit, as /tmp is."""
     if os.geteuid() != 0:
         pytest.skip("to be somebody else wants root")
@@ -260,7 +260,7 @@ def test_another_user_can_not_be_made_to_lose_a_file(tool: Tool, tmp_path: pathl
 # Programs.
 
 
-def test_psi_merge_is_looked_for_beside_psi_alone(tool: Tool, program: str, tmp_path: pathlib.Path) -> None:
+def test_psi_merge_is_looked_for_beside_psi_alone(tool: Tool, program: str, tmp_path: Path) -> None:
     (tmp_path / "psi/out").mkdir(parents=True)
     merger = scripted(tmp_path / "psi_merge/out/psi_merge", f"touch {tmp_path}/taken", "exit 1")
     shutil.copy(program, tmp_path / "psi/out/psi")
@@ -276,7 +276,7 @@ def test_psi_merge_is_looked_for_beside_psi_alone(tool: Tool, program: str, tmp_
 # Processes.
 
 
-def slow_psi(room: pathlib.Path, program: str) -> pathlib.Path:
+def slow_psi(room: Path, program: str) -> Path:
     """A program in place of psi that takes a long time to report, and one beside it in place of psi_states that
     takes as long; each says which process it is."""
     slow = f"echo $$ >>{room}/pids", "exec sleep 100"
@@ -286,7 +286,7 @@ def slow_psi(room: pathlib.Path, program: str) -> pathlib.Path:
 
 def is_running(number: int | str) -> bool:
     try:
-        stat = pathlib.Path(f"/proc/{number}/stat").read_text()
+        stat = Path(f"/proc/{number}/stat").read_text()
     except OSError:
         return False
     return stat.rpartition(")")[2].split()[0] != "Z"
@@ -295,7 +295,7 @@ def is_running(number: int | str) -> bool:
 @pytest.mark.parametrize("number", [signal.SIGINT, signal.SIGTERM, signal.SIGHUP, signal.SIGKILL])
 @pytest.mark.parametrize("name", ["psi-law", "psi-sweep", "psi-why"])
 def test_what_a_tool_has_started_ends_with_it(
-    started: Started, program: str, tmp_path: pathlib.Path, number: signal.Signals, name: str
+    started: Started, program: str, tmp_path: Path, number: signal.Signals, name: str
 ) -> None:
     call = {"psi-law": LAW[:3], "psi-sweep": SWEEP, "psi-why": [name, str(NET), "--seconds", "90"]}[name]
     tool = started(*call, "--psi", slow_psi(tmp_path, program))
@@ -312,7 +312,7 @@ def test_what_a_tool_has_started_ends_with_it(
 
 
 @pytest.mark.parametrize("name", ["many", "plot", "means", "law", "sweep", "where", "why", "new"])
-def test_no_traceback_while_a_tool_is_read(started: Started, tmp_path: pathlib.Path, name: str) -> None:
+def test_no_traceback_while_a_tool_is_read(started: Started, tmp_path: Path, name: str) -> None:
     """The signal comes while a module of the package is read: one that waits stands for it."""
     package = tmp_path / "python"
     shutil.copytree(TOP / "python/psi_tools", package / "psi_tools", ignore=shutil.ignore_patterns("__pycache__"))
@@ -354,7 +354,7 @@ HOSTS = {
 
 
 @pytest.mark.parametrize("name", HOSTS)
-def test_hosts_that_are_no_hosts(tool: Tool, tmp_path: pathlib.Path, name: str) -> None:
+def test_hosts_that_are_no_hosts(tool: Tool, tmp_path: Path, name: str) -> None:
     hosts = tmp_path / "hosts"
     text = HOSTS[name]
     hosts.mkdir() if text is None else hosts.write_bytes(text)

@@ -2,16 +2,15 @@
 
 import collections
 import json
-import pathlib
+from pathlib import Path
 import shutil
-import types
 from collections.abc import Callable, Iterable
 from typing import Any
 
 import numpy
 import pandas
 import pytest
-from conftest import Tool, desk
+from conftest import Psi, Tool, desk
 from scipy.stats import binom
 from solving import birth_and_death, law_of
 
@@ -33,19 +32,19 @@ NET = (
 
 
 @pytest.fixture
-def net(tmp_path: pathlib.Path) -> str:
+def net(tmp_path: Path) -> str:
     """The file of the network."""
     (tmp_path / "net.toml").write_text(NET)
     return "net.toml"
 
 
 @pytest.fixture
-def network(tmp_path: pathlib.Path, net: str) -> Network:
+def network(tmp_path: Path, net: str) -> Network:
     return Network.read(tmp_path / net)
 
 
 @pytest.fixture
-def short(tmp_path: pathlib.Path, net: str) -> str:
+def short(tmp_path: Path, net: str) -> str:
     """The file of the network with a past that is too short for some streams."""
     (tmp_path / net).write_text("limit = 10\n" + NET)
     return net
@@ -56,7 +55,7 @@ def reported(tool: Tool, *words: object) -> Any:
     return json.loads(tool("psi-law", *words, "--format", "json")[1])
 
 
-def test_the_law_is_that_of_the_states(psi: types.SimpleNamespace, network: Network) -> None:
+def test_the_law_is_that_of_the_states(psi: Psi, network: Network) -> None:
     states = psi.samples(network, seed=3, first=10, count=300)
     near, far = states.T.tolist()
     cost, longest = [[5, 0, 0, 7][number] for number in near], states.max(axis=1).tolist()
@@ -65,7 +64,7 @@ def test_the_law_is_that_of_the_states(psi: types.SimpleNamespace, network: Netw
         assert dict(psi.law(network, name, 3, 10, 300)["count"]) == dict(sorted(counts.items()))
 
 
-def test_the_solved_law_is_in_most_intervals(psi: types.SimpleNamespace, network: Network) -> None:
+def test_the_solved_law_is_in_most_intervals(psi: Psi, network: Network) -> None:
     states, law = law_of(network)
     found = psi.law(network, "near", count=20_000)
     for number in range(4):
@@ -76,7 +75,7 @@ def test_the_solved_law_is_in_most_intervals(psi: types.SimpleNamespace, network
         assert row["low"] - width < wanted < row["high"] + width
 
 
-def test_forms_and_pictures(tool: Tool, tmp_path: pathlib.Path, net: str) -> None:
+def test_forms_and_pictures(tool: Tool, tmp_path: Path, net: str) -> None:
     words = (net, "far", "--count", "500")
     status, out, error = tool("psi-law", *words, "--picture", "law.svg")
     assert (status, error) == (0, "")
@@ -105,7 +104,7 @@ RARE = (
 
 @pytest.mark.parametrize("name, unit", [("full", 1), ("fine", 1_000)])
 def test_the_mean_of_a_rare_reward_has_an_interval_though_none_came(
-    tool: Tool, tmp_path: pathlib.Path, name: str, unit: int
+    tool: Tool, tmp_path: Path, name: str, unit: int
 ) -> None:
     RARE.write(tmp_path / "rare.toml")
     wanted = unit * birth_and_death(2, [11] * 4)[4]
@@ -132,7 +131,7 @@ def joined(rows: Iterable[Iterable[int]]) -> dict[tuple[int, ...], int]:
     return dict(sorted(collections.Counter(tuple(row) for row in rows).items()))
 
 
-def test_a_joint_law_is_that_of_the_states(psi: types.SimpleNamespace, network: Network) -> None:
+def test_a_joint_law_is_that_of_the_states(psi: Psi, network: Network) -> None:
     states = psi.samples(network, seed=3, first=10, count=300).astype(int)
     near, far = states.T
     cost, longest = [[5, 0, 0, 7][number] for number in near], states.max(axis=1).tolist()
@@ -154,9 +153,7 @@ def test_a_joint_law_is_that_of_the_states(psi: types.SimpleNamespace, network: 
         assert (row["low"], row["high"]) == (alone["low"], alone["high"])
 
 
-def test_a_condition_is_counted_over_the_states(
-    psi: types.SimpleNamespace, tool: Tool, net: str, network: Network
-) -> None:
+def test_a_condition_is_counted_over_the_states(psi: Psi, tool: Tool, net: str, network: Network) -> None:
     states = psi.samples(network, seed=3, first=10, count=300).astype(int)
     near, far = states.T
     cost = numpy.array([5, 0, 0, 7])[near]
@@ -184,9 +181,7 @@ def test_a_condition_is_counted_over_the_states(
     assert wide.low < found.low
 
 
-def test_several_names_and_conditions_as_texts(
-    psi: types.SimpleNamespace, tool: Tool, net: str, network: Network
-) -> None:
+def test_several_names_and_conditions_as_texts(psi: Psi, tool: Tool, net: str, network: Network) -> None:
     status, out, error = tool("psi-law", net, "near", "cost", "--count", 200)
     assert (status, error) == (0, "")
     head, columns, *rows = out.splitlines()
@@ -209,9 +204,7 @@ def test_several_names_and_conditions_as_texts(
     assert (columns.split()[0], int(row.split()[0])) == ("samples", near.count(0))
 
 
-def test_streams_that_are_not_coupled_widen_probabilities(
-    psi: types.SimpleNamespace, tool: Tool, tmp_path: pathlib.Path, short: str
-) -> None:
+def test_streams_that_are_not_coupled_widen_probabilities(psi: Psi, tool: Tool, tmp_path: Path, short: str) -> None:
     network = Network.read(tmp_path / short)
     states = psi.samples(network, count=200, keep=True)
     lost, met = int((states[:, 0] < 0).sum()), int(((states[:, 0] == 0) & (states[:, 1] >= 0)).sum())
@@ -254,7 +247,7 @@ def test_words_that_do_not_fit_together(tool: Tool, net: str, words: tuple[str, 
     assert tool("psi-law", net, *words) == (2, "", f"psi-law: {message}\n")
 
 
-def test_arguments_that_do_not_fit_together(psi: types.SimpleNamespace, network: Network) -> None:
+def test_arguments_that_do_not_fit_together(psi: Psi, network: Network) -> None:
     for more in ({"name": []}, {"name": ["near", "far"], "guaranteed": True}):
         with pytest.raises(psi.ArgumentError):
             psi.law(network, **more)
@@ -265,7 +258,7 @@ def test_arguments_that_do_not_fit_together(psi: types.SimpleNamespace, network:
 
 
 def test_laws_without_psi_states(
-    program: str, tmp_path: pathlib.Path, network: Network, monkeypatch: pytest.MonkeyPatch
+    program: str, tmp_path: Path, network: Network, monkeypatch: pytest.MonkeyPatch
 ) -> None:
     """Where psi_states is not built, distributions are the same, by the states that psi prints."""
     alone = tmp_path / "psi"

@@ -1,7 +1,7 @@
 """psi-many: what it tells on standard error, folders that are enlarged, and disks without room."""
 
 import os
-import pathlib
+from pathlib import Path
 import re
 
 import pytest
@@ -13,12 +13,12 @@ NET, SHORT = example("single-server"), example("short-past")
 CALL = [NET, "0", "0", "400", "--block", "50"]
 
 
-def report(program: str, net: pathlib.Path, count: int) -> str:
+def report(program: str, net: Path, count: int) -> str:
     """What one process prints of the first streams of seed 0."""
     return printed_by(program, "report", net, 0, 0, count)
 
 
-def program_in(folder: pathlib.Path, psi: str, way: str) -> pathlib.Path:
+def program_in(folder: Path, psi: str, way: str) -> Path:
     """A program in place of psi, whose first reports of each block go another way."""
     first = '[ "$1" = report ] && mkdir "$KEPT/$4" 2>/dev/null'
     return scripted(folder / "psi", f"{first} && {{ {way}; }}", f'exec {psi} "$@"')
@@ -42,7 +42,7 @@ FAILED = "8 blocks failed, first the streams 0 to 49: half of it; they are drawn
     "way, line", [("exit 8", AGAIN), ("kill -9 $$", AGAIN), ("echo half of it >&2; exit 0", FAILED)]
 )
 def test_a_block_that_fails_is_drawn_again_and_told(
-    tool: Tool, program: str, tmp_path: pathlib.Path, way: str, line: str
+    tool: Tool, program: str, tmp_path: Path, way: str, line: str
 ) -> None:
     other = program_in(tmp_path, program, way)
     status, out, error = tool("psi-many", *CALL, "--psi", other)
@@ -50,7 +50,7 @@ def test_a_block_that_fails_is_drawn_again_and_told(
     assert lines_of(error) == [f"psi-many: {line}"]
 
 
-def test_a_file_that_is_removed_is_told(tool: Tool, tmp_path: pathlib.Path) -> None:
+def test_a_file_that_is_removed_is_told(tool: Tool, tmp_path: Path) -> None:
     tool("psi-many", *CALL, "--folder", "kept")
     files = sorted((tmp_path / "kept/blocks").iterdir())
     files[0].write_bytes(files[0].read_bytes()[:-1])
@@ -64,7 +64,7 @@ def test_a_file_that_is_removed_is_told(tool: Tool, tmp_path: pathlib.Path) -> N
 
 
 @pytest.mark.parametrize("more", [[], ["--states"]], ids=["report", "states"])
-def test_a_folder_is_enlarged(tool: Tool, program: str, tmp_path: pathlib.Path, more: list[str]) -> None:
+def test_a_folder_is_enlarged(tool: Tool, program: str, tmp_path: Path, more: list[str]) -> None:
     one = [companion(program, "psi_states")] if more else [program, "report"]
     for count in (100, 110, 260):
         status, out, error = tool("psi-many", *CALL[:3], count, "--block", 50, "--folder", "kept", *more)
@@ -86,18 +86,18 @@ def test_count_has_its_true_range(tool: Tool) -> None:
     assert is_refused(tool("psi-many", NET, 0, 0, MOST_COUNT, "--block", 65_535), "blocks of 65535 streams")
 
 
-def test_a_hosts_file_that_is_not_there(tool: Tool, tmp_path: pathlib.Path) -> None:
+def test_a_hosts_file_that_is_not_there(tool: Tool, tmp_path: Path) -> None:
     line = "psi-many: absent can't be read: No such file or directory\n"
     assert tool("psi-many", *CALL, "--hosts", "absent") == (2, "", line)
     assert [*tmp_path.iterdir()] == []
 
 
 @pytest.mark.parametrize("bytes_written", [0, 20, 150])
-def test_a_file_that_cannot_be_written_is_named(tool: Tool, tmp_path: pathlib.Path, bytes_written: int) -> None:
+def test_a_file_that_cannot_be_written_is_named(tool: Tool, tmp_path: Path, bytes_written: int) -> None:
     status, out, error = tool("psi-many", *CALL, "--folder", "kept", **limited("FSIZE", bytes_written))
     assert (status, out) == (7, "")
     found = re.fullmatch(r"psi-many: (/\S+) can't be written: File too large\n", error)
-    assert found and pathlib.Path(found[1]).is_relative_to(tmp_path), error
+    assert found and Path(found[1]).is_relative_to(tmp_path), error
 
 
 def test_standard_error_that_cannot_be_written(tool: Tool, program: str) -> None:

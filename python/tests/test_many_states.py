@@ -1,7 +1,7 @@
 """psi-many --states: tables of samples in blocks, which are checked, kept, and drawn on from where they stopped."""
 
 import os
-import pathlib
+from pathlib import Path
 import shutil
 import signal
 from collections.abc import Sequence
@@ -15,13 +15,13 @@ NET, SHORT, RING = map(example, ("overflow", "short-past", "central-server"))
 CALL = ["psi-many", str(NET), "5", "7", "400", "--block", "50", "--states"]
 
 
-def beside(folder: pathlib.Path, program: str, lines: Sequence[str]) -> pathlib.Path:
+def beside(folder: Path, program: str, lines: Sequence[str]) -> Path:
     """A folder with psi, and a script in place of psi_states."""
     scripted(folder / "own/psi_states", *lines)
-    return pathlib.Path(shutil.copy(program, folder / "own/psi"))
+    return Path(shutil.copy(program, folder / "own/psi"))
 
 
-def test_a_table_is_that_of_one_process(tool: Tool, states_program: str, tmp_path: pathlib.Path) -> None:
+def test_a_table_is_that_of_one_process(tool: Tool, states_program: str, tmp_path: Path) -> None:
     wanted = printed_by(states_program, NET, 5, 7, 400)
     assert tool(*CALL)[:2] == (0, wanted)
     assert (tmp_path / "overflow.toml.5.7.400.states.many").is_dir()
@@ -46,7 +46,7 @@ def test_streams_that_are_not_coupled_have_their_rows(tool: Tool, states_program
 
 
 def test_a_call_goes_on_where_it_was_ended(
-    tool: Tool, started: Started, states_program: str, program: str, tmp_path: pathlib.Path
+    tool: Tool, started: Started, states_program: str, program: str, tmp_path: Path
 ) -> None:
     """A call that is ended keeps the blocks that were whole; the same call draws the others alone."""
     slow = beside(tmp_path, program, ['echo "$3" >>"$KEPT/drawn"', "sleep 0.3", f'exec {states_program} "$@"'])
@@ -72,7 +72,7 @@ def test_a_call_goes_on_where_it_was_ended(
     ],
 )
 def test_a_block_that_is_no_table_does_not_count(
-    tool: Tool, states_program: str, program: str, tmp_path: pathlib.Path, change: str
+    tool: Tool, states_program: str, program: str, tmp_path: Path, change: str
 ) -> None:
     """The first text of each block is another one, so each is drawn again."""
     lines = [
@@ -85,7 +85,7 @@ def test_a_block_that_is_no_table_does_not_count(
     assert "8 blocks" in lines_of(error)[0]
 
 
-def test_a_file_that_was_changed_is_drawn_again(tool: Tool, states_program: str, tmp_path: pathlib.Path) -> None:
+def test_a_file_that_was_changed_is_drawn_again(tool: Tool, states_program: str, tmp_path: Path) -> None:
     wanted = printed_by(states_program, NET, 5, 7, 400)
     assert tool(*CALL, "--folder", "kept")[0] == 0
     first, second, *_ = sorted((tmp_path / "kept/blocks").iterdir())
@@ -97,7 +97,7 @@ def test_a_file_that_was_changed_is_drawn_again(tool: Tool, states_program: str,
     assert lines_of(error) == [f"psi-many: {again}"]
 
 
-def test_what_does_not_fit_is_refused(tool: Tool, states_program: str, program: str, tmp_path: pathlib.Path) -> None:
+def test_what_does_not_fit_is_refused(tool: Tool, states_program: str, program: str, tmp_path: Path) -> None:
     assert tool(*CALL, "--folder", "samples")[0] == 0
     assert tool(*CALL[:-1], "--folder", "report")[0] == 0
     for folder, words, reported, asked in (("samples", CALL[:-1], 1, None), ("report", CALL, None, 1)):
@@ -110,7 +110,7 @@ def test_what_does_not_fit_is_refused(tool: Tool, states_program: str, program: 
     assert tool("psi-many", NET, 0, 0, 10, "--closed", 3, "--states") == (11, "", "psi-many: not closed event 0\n")
 
 
-def test_files_and_streams_that_cannot_be_written(tool: Tool, states_program: str, tmp_path: pathlib.Path) -> None:
+def test_files_and_streams_that_cannot_be_written(tool: Tool, states_program: str, tmp_path: Path) -> None:
     with open("/dev/full", "wb") as full:
         status, _, error = tool(*CALL, "--folder", "kept", stdout=full)
     assert status == 7

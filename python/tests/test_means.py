@@ -1,7 +1,7 @@
 """psi-means: means and intervals of reports, and what is refused."""
 
 import json
-import pathlib
+from pathlib import Path
 from typing import Any
 
 import pytest
@@ -13,14 +13,14 @@ NET, SHORT = example("breakdowns"), example("short-past")
 
 
 @pytest.fixture
-def blocks(tool: Tool, tmp_path: pathlib.Path) -> list[pathlib.Path]:
+def blocks(tool: Tool, tmp_path: Path) -> list[Path]:
     """The reports of a folder that psi-many keeps, of the name `kept`."""
     status, _, error = tool("psi-many", NET, 5, 100, 2_000, "--jobs", 2, "--folder", "kept")
     assert status == 0, error
     return sorted((tmp_path / "kept/blocks").iterdir())
 
 
-def test_a_folder_of_psi_many(tool: Tool, blocks: list[pathlib.Path]) -> None:
+def test_a_folder_of_psi_many(tool: Tool, blocks: list[Path]) -> None:
     assert len(blocks) >= 20
     by_folder = tool("psi-means", "kept", "--format", "csv")
     by_files = tool("psi-means", *blocks, "--net", NET, "--format", "csv")
@@ -44,16 +44,14 @@ def rows_of(tool: Tool, *words: object) -> list[dict[str, Any]]:
     return rows
 
 
-def test_text_and_json(tool: Tool, blocks: list[pathlib.Path]) -> None:
+def test_text_and_json(tool: Tool, blocks: list[Path]) -> None:
     status, out, error = tool("psi-means", "kept")
     assert (status, error) == (0, "")
     assert out.startswith("2,000 samples in ")
     assert [row["name"] for row in rows_of(tool, "kept") if row["item"] == "mean"] == ["jobs", "broken"]
 
 
-def test_a_report_that_is_given_twice_is_refused(
-    tool: Tool, tmp_path: pathlib.Path, blocks: list[pathlib.Path]
-) -> None:
+def test_a_report_that_is_given_twice_is_refused(tool: Tool, tmp_path: Path, blocks: list[Path]) -> None:
     assert is_refused(tool("psi-means", *[blocks[0]] * 20), "is the same file as")
     (tmp_path / "link.csv").symlink_to(blocks[2])
     assert is_refused(tool("psi-means", *blocks, "link.csv"), "is the same file as")
@@ -64,7 +62,7 @@ def test_a_report_that_is_given_twice_is_refused(
     assert tool("psi-means", *copies) == (2, "", line)
 
 
-def test_a_network_tells_what_is_not_coupled(tool: Tool, tmp_path: pathlib.Path) -> None:
+def test_a_network_tells_what_is_not_coupled(tool: Tool, tmp_path: Path) -> None:
     tool("psi-many", SHORT, 0, 0, 1_000, "--folder", "short")
     blocks = sorted((tmp_path / "short/blocks").iterdir())
     alone = json.loads(tool("psi-means", *blocks, "--format", "json")[1])
@@ -78,20 +76,18 @@ def test_a_network_tells_what_is_not_coupled(tool: Tool, tmp_path: pathlib.Path)
     assert is_refused(tool("psi-means", *blocks, "--net", NET), "aren't of this network")
 
 
-def test_a_wider_level_is_wider(tool: Tool, blocks: list[pathlib.Path]) -> None:
+def test_a_wider_level_is_wider(tool: Tool, blocks: list[Path]) -> None:
     for narrow, wide in zip(*(rows_of(tool, "kept", "--level", level) for level in (90, 99))):
         assert narrow["half"] <= wide["half"]
 
 
-def test_too_few_batches(tool: Tool, blocks: list[pathlib.Path]) -> None:
+def test_too_few_batches(tool: Tool, blocks: list[Path]) -> None:
     status, out, error = tool("psi-means", *blocks[:19])
     assert (status, out) == (2, "")
     assert error.startswith("psi-means: there are 19 batches, and 20 are wanted")
 
 
-def test_blocks_that_are_changed_or_of_another_network(
-    tool: Tool, tmp_path: pathlib.Path, blocks: list[pathlib.Path]
-) -> None:
+def test_blocks_that_are_changed_or_of_another_network(tool: Tool, tmp_path: Path, blocks: list[Path]) -> None:
     other = tmp_path / "other.csv"
     other.write_text(blocks[0].read_text().replace("jobs", "jabs"))
     assert is_refused(tool("psi-means", *blocks, other), "different networks")
@@ -109,13 +105,13 @@ def test_what_is_not_coupled_comes_first(tool: Tool) -> None:
     assert out.startswith("NOT COUPLED: 585 of 1,000 streams; ")
 
 
-def test_a_picture_with_intervals(tool: Tool, tmp_path: pathlib.Path, blocks: list[pathlib.Path]) -> None:
+def test_a_picture_with_intervals(tool: Tool, tmp_path: Path, blocks: list[Path]) -> None:
     assert tool("psi-plot", "report", "kept", "-o", "means.svg") == (0, "", "")
     assert 'id="interval-0-jobs"' in (tmp_path / "means.svg").read_text()
 
 
 @pytest.mark.slow
-def test_reports_that_a_spreadsheet_has_saved(tool: Tool, tmp_path: pathlib.Path, blocks: list[pathlib.Path]) -> None:
+def test_reports_that_a_spreadsheet_has_saved(tool: Tool, tmp_path: Path, blocks: list[Path]) -> None:
     saved = [tmp_path / f"{place}.csv" for place in range(len(blocks))]
     for block, path in zip(blocks, saved):
         path.write_bytes(block.read_bytes().replace(b"\n", b"\r\n"))

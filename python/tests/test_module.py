@@ -1,25 +1,24 @@
 """The module psi: what it gives is what the program prints."""
 
-import pathlib
+from pathlib import Path
 import tomllib
-import types
 import warnings
 
 import pytest
-from conftest import TOP, desk, example, printed_by
+from conftest import TOP, Psi, desk, example, printed_by
 from solving import birth_and_death
 
 from tests.support import report_of
 
 
-def test_the_version_is_that_of_the_citation(psi: types.SimpleNamespace) -> None:
+def test_the_version_is_that_of_the_citation(psi: Psi) -> None:
     citation = (TOP / "CITATION.cff").read_text()
     assert f'\nversion: "{psi.__version__}"\n' in citation
     project = tomllib.loads((TOP / "python/pyproject.toml").read_text())
     assert project["tool"]["setuptools"]["dynamic"]["version"]["attr"] == "psi_tools.__version__"
 
 
-def test_a_report_is_the_programs(psi: types.SimpleNamespace, program: str) -> None:
+def test_a_report_is_the_programs(psi: Psi, program: str) -> None:
     for name in ("tandem-blocking", "breakdowns"):
         file = example(name)
         table = psi.report(file, 3, 5, 200)
@@ -28,9 +27,7 @@ def test_a_report_is_the_programs(psi: types.SimpleNamespace, program: str) -> N
         assert text == printed_by(program, "report", file, 3, 5, 200)
 
 
-def test_a_network_built_in_python_is_that_of_its_file(
-    psi: types.SimpleNamespace, program: str, tmp_path: pathlib.Path
-) -> None:
+def test_a_network_built_in_python_is_that_of_its_file(psi: Psi, program: str, tmp_path: Path) -> None:
     net = desk()
     net.heads["limit"] = 12
     net.write(tmp_path / "net.toml")
@@ -38,7 +35,7 @@ def test_a_network_built_in_python_is_that_of_its_file(
     assert "limit 12" in psi.check(net)
 
 
-def test_samples_are_the_programs(psi: types.SimpleNamespace, program: str) -> None:
+def test_samples_are_the_programs(psi: Psi, program: str) -> None:
     file = example("tandem-blocking")
     states = psi.samples(file, 1, 7, 20)
     assert states.shape == (20, 3)
@@ -47,7 +44,7 @@ def test_samples_are_the_programs(psi: types.SimpleNamespace, program: str) -> N
         assert printed_by(program, "sample", file, 1, stream).endswith(wanted)
 
 
-def test_streams_that_are_not_coupled(psi: types.SimpleNamespace) -> None:
+def test_streams_that_are_not_coupled(psi: Psi) -> None:
     file = example("short-past")
     with pytest.raises(psi.NotCoupled):
         psi.samples(file, 0, 0, 100)
@@ -60,7 +57,7 @@ def test_streams_that_are_not_coupled(psi: types.SimpleNamespace) -> None:
         psi.report(example("first"), 0, 0, 100)
 
 
-def test_a_log_certifies_its_state(psi: types.SimpleNamespace, program: str) -> None:
+def test_a_log_certifies_its_state(psi: Psi, program: str) -> None:
     file = example("tandem-blocking")
     log = psi.log(file, 0, 0)
     assert log == printed_by(program, "sample", file, 0, 0, "log")
@@ -71,9 +68,7 @@ def test_a_log_certifies_its_state(psi: types.SimpleNamespace, program: str) -> 
     assert len(psi.draw_log(log, file).axes) == 5
 
 
-def test_a_picture_of_a_log_leaves_the_process_as_it_was(
-    psi: types.SimpleNamespace, monkeypatch: pytest.MonkeyPatch
-) -> None:
+def test_a_picture_of_a_log_leaves_the_process_as_it_was(psi: Psi, monkeypatch: pytest.MonkeyPatch) -> None:
     import logging
 
     import matplotlib
@@ -111,7 +106,7 @@ def test_no_picture_changes_what_matplotlib_is_set_to() -> None:
     assert dict(matplotlib.rcParams) == before
 
 
-def test_means_of_streams_that_are_not_coupled_are_wider(psi: types.SimpleNamespace, program: str) -> None:
+def test_means_of_streams_that_are_not_coupled_are_wider(psi: Psi, program: str) -> None:
     file = example("short-past")
     with pytest.warns(psi.Uncoupled, match="intervals are wider"):
         found = psi.means(file, count=1_000)
@@ -127,7 +122,7 @@ def test_means_of_streams_that_are_not_coupled_are_wider(psi: types.SimpleNamesp
             assert row["high"] >= min(capacity[name], (total + lost * capacity[name]) / 1_000)
 
 
-def test_few_samples_that_carry_a_mean_are_warned_of(psi: types.SimpleNamespace) -> None:
+def test_few_samples_that_carry_a_mean_are_warned_of(psi: Psi) -> None:
     net = desk(2).reward("cost", "table", ["desk"], table=[[4**n for n in range(11)]])
     with pytest.warns(psi.FewSamples, match="few samples carry the mean of cost"):
         found = psi.means(net, count=2_000)
@@ -135,7 +130,7 @@ def test_few_samples_that_carry_a_mean_are_warned_of(psi: types.SimpleNamespace)
     assert found.loc["reward", "cost"]["low"] < wanted < found.loc["reward", "cost"]["high"]
 
 
-def test_other_commands(psi: types.SimpleNamespace) -> None:
+def test_other_commands(psi: Psi) -> None:
     assert psi.couple(example("tandem-blocking"), 0, 0) == (39, (3, 2, 1))
     assert psi.reward(example("shortest-queue"), 0, 0, "longest") == (128, 2)
     assert psi.exact(example("longest-queue"), 0, 0, 11).region == 1586
@@ -143,7 +138,7 @@ def test_other_commands(psi: types.SimpleNamespace) -> None:
     assert states.tolist() == [[0, 1, 5], [2, 0, 4]]
 
 
-def test_what_psi_refuses_is_told_by_its_line(psi: types.SimpleNamespace) -> None:
+def test_what_psi_refuses_is_told_by_its_line(psi: Psi) -> None:
     net = psi.Network().queue("a", 0)
     with pytest.raises(psi.Refused) as refused:
         psi.check(net)

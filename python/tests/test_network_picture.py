@@ -3,7 +3,7 @@
 import itertools
 import math
 import os
-import pathlib
+from pathlib import Path
 import re
 import sys
 import tomllib
@@ -80,7 +80,7 @@ def expected_arrows(event: Table) -> int:
 
 
 @EACH
-def test_the_picture_has_what_the_file_has(path: pathlib.Path) -> None:
+def test_the_picture_has_what_the_file_has(path: Path) -> None:
     """As many queues, servers and arrows as the file has, in every network of the gallery."""
     table, ids = tomllib.loads(path.read_text()), ids_of(Network.read(path))
     assert counted(ids, "queue") == len(table["queue"])
@@ -93,7 +93,7 @@ def test_the_picture_has_what_the_file_has(path: pathlib.Path) -> None:
 
 
 @EACH
-def test_blocking_is_marked_at_the_source(path: pathlib.Path) -> None:
+def test_blocking_is_marked_at_the_source(path: Path) -> None:
     """A service that stays where its target is full has a double bar at its first arrow, and no other has."""
     events = tomllib.loads(path.read_text())["event"]
     stays = sum(event.get("full") == "stay" for event in events if event["kind"] in ("service", "index"))
@@ -124,7 +124,7 @@ def test_no_text_covers_another(net: Network) -> None:
 
 
 @EACH
-def test_losses_are_small_arrows(path: pathlib.Path) -> None:
+def test_losses_are_small_arrows(path: Path) -> None:
     """Each arrow of customers who are lost is short: its cross stands beside its source."""
     scene = scene_of(Network.read(path))
     layout = laid_out(scene)
@@ -163,7 +163,7 @@ def test_names_are_only_names() -> None:
 
 
 @EACH
-def test_the_gallery_shows_the_picture(path: pathlib.Path) -> None:
+def test_the_gallery_shows_the_picture(path: Path) -> None:
     """The gallery's page shows the picture of each network, and it is what is drawn of the file."""
     name = f"network-{path.stem}.svg"
     assert f"](../docs/pictures/{name})" in (TOP / "examples/README.md").read_text()
@@ -177,7 +177,7 @@ def test_the_gallery_shows_the_picture(path: pathlib.Path) -> None:
 
 
 @EACH
-def test_the_gallery_has_a_line_and_means(path: pathlib.Path) -> None:
+def test_the_gallery_has_a_line_and_means(path: Path) -> None:
     """The gallery's page has each network below a topic, with a line on what it shows, and the measured mean of each
     of its queues."""
     page = (TOP / "examples/README.md").read_text()
@@ -207,7 +207,7 @@ def test_tables_are_drawn_on_demand() -> None:
 
 
 @pytest.mark.slow
-def test_the_command_draws_each_format(tool: Tool, tmp_path: pathlib.Path) -> None:
+def test_the_command_draws_each_format(tool: Tool, tmp_path: Path) -> None:
     """The command draws SVG, PNG and PDF, the same bytes for the same network."""
     net = example("overflow")
     for form, head in (("svg", b"<?xml"), ("png", b"\x89PNG"), ("pdf", b"%PDF")):
@@ -217,7 +217,7 @@ def test_the_command_draws_each_format(tool: Tool, tmp_path: pathlib.Path) -> No
         assert data.startswith(head) and data == (tmp_path / f"two.{form}").read_bytes()
 
 
-def test_what_psi_refuses_is_not_drawn(tool: Tool, tmp_path: pathlib.Path) -> None:
+def test_what_psi_refuses_is_not_drawn(tool: Tool, tmp_path: Path) -> None:
     """A network that psi refuses is refused by name, and nothing is written."""
     (tmp_path / "bad.toml").write_text("version = 1\n[[queue]]\nname = 'a'\ncapacity = 0\n")
     status, out, err = tool("psi-plot", "network", "bad.toml", "-o", "bad.svg")
@@ -231,7 +231,7 @@ def test_options_of_another_picture_are_refused(tool: Tool) -> None:
     assert status == 2 and "--legend" in err
 
 
-def test_without_graphviz_one_line_says_so(tmp_path: pathlib.Path) -> None:
+def test_without_graphviz_one_line_says_so(tmp_path: Path) -> None:
     """Where `dot` is missing, one line names the package, and the status is 1."""
     call = "from psi_tools.plot.network_layout import laid_out; from psi_tools.plot.network_scene import Scene\n"
     call += "from psi_tools.errors import PsiError\ntry:\n    laid_out(Scene([], []))\n"
@@ -239,4 +239,4 @@ def test_without_graphviz_one_line_says_so(tmp_path: pathlib.Path) -> None:
     place = {**os.environ, "PATH": str(tmp_path), "PYTHONPATH": str(TOP / "python")}
     status, out, _ = ended([sys.executable, "-c", call], env=place)
     assert (status, out) == (0, "1 a picture of a network needs graphviz: tools/setup graphviz\n")
-    assert pathlib.Path(sys.executable).is_absolute()
+    assert Path(sys.executable).is_absolute()

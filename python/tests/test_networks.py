@@ -1,13 +1,12 @@
 """Networks: files go to psi as they are, and no number is changed without a word."""
 
-import pathlib
-import types
+from pathlib import Path
 from decimal import Decimal
 from fractions import Fraction
 
 import numpy
 import pytest
-from conftest import desk
+from conftest import Psi, desk
 
 from psi_tools.model.networks import Network, data_of
 from psi_tools.errors import PsiError
@@ -31,9 +30,7 @@ from = "desk"
 
 
 @pytest.mark.parametrize("rate", ["4.9", "4.0", "true", '"4"'])
-def test_a_file_that_psi_refuses_is_refused_by_the_module(
-    psi: types.SimpleNamespace, tmp_path: pathlib.Path, rate: str
-) -> None:
+def test_a_file_that_psi_refuses_is_refused_by_the_module(psi: Psi, tmp_path: Path, rate: str) -> None:
     path = tmp_path / "float.toml"
     path.write_text(FILE.replace("rate = 4", f"rate = {rate}"))
     for call in (psi.check, psi.report, psi.means, psi.samples, lambda net: psi.law(net, "desk")):
@@ -42,7 +39,7 @@ def test_a_file_that_psi_refuses_is_refused_by_the_module(
         assert str(refused.value) == "network refused 5 WrongType event 1 rate"
 
 
-def test_a_file_is_handed_on_byte_by_byte(psi: types.SimpleNamespace, tmp_path: pathlib.Path) -> None:
+def test_a_file_is_handed_on_byte_by_byte(psi: Psi, tmp_path: Path) -> None:
     path = tmp_path / "net.toml"
     path.write_text(FILE)
     net = Network.read(path)
@@ -100,7 +97,7 @@ def test_rates_are_made_whole() -> None:
         {"count": None},
     ],
 )
-def test_arguments_of_streams(psi: types.SimpleNamespace, named: dict[str, object]) -> None:
+def test_arguments_of_streams(psi: Psi, named: dict[str, object]) -> None:
     name = next(iter(named))
     calls = psi.report, psi.means, psi.samples, lambda net, **more: psi.law(net, "desk", **more)
     for call in calls:
@@ -110,12 +107,12 @@ def test_arguments_of_streams(psi: types.SimpleNamespace, named: dict[str, objec
 
 
 @pytest.mark.parametrize("level", [95, 0, 1, True, "0.95", None, float("nan")])
-def test_a_level_is_a_share(psi: types.SimpleNamespace, level: object) -> None:
+def test_a_level_is_a_share(psi: Psi, level: object) -> None:
     with pytest.raises(psi.ArgumentError, match="^level is .*; a share from 0.5 to 0.9999"):
         psi.means(desk(), count=40, level=level)
 
 
-def test_other_arguments(psi: types.SimpleNamespace) -> None:
+def test_other_arguments(psi: Psi) -> None:
     for call in (psi.couple, psi.log, lambda net, seed, stream: psi.exact(net, seed, stream, 4)):
         with pytest.raises(psi.ArgumentError, match="^seed is -1; "):
             call(desk(), -1, 0)

@@ -1,12 +1,11 @@
 """psi-new: each kind is a file that psi takes, and means what it says."""
 
-import pathlib
+from pathlib import Path
 import shutil
-import types
 from fractions import Fraction
 
 import pytest
-from conftest import TOP, Tool, ended, match_in
+from conftest import TOP, Psi, Tool, ended, match_in
 from solving import birth_and_death, erlang_b, means_of
 
 from psi_tools.model.catalog import made_whole
@@ -33,7 +32,7 @@ KIND_WORDS = {
 }
 
 
-def made(tool: Tool, tmp_path: pathlib.Path, kind: str, words: str) -> Network:
+def made(tool: Tool, tmp_path: Path, kind: str, words: str) -> Network:
     status, out, error = tool("psi-new", kind, *words.split(), "-o", "net.toml")
     assert (status, out, error) == (0, "", "")
     return Network.read(tmp_path / "net.toml")
@@ -44,9 +43,7 @@ def test_each_kind_is_tried() -> None:
 
 
 @pytest.mark.parametrize("kind", KIND_WORDS)
-def test_a_kind_is_a_network_that_couples(
-    tool: Tool, tmp_path: pathlib.Path, psi: types.SimpleNamespace, kind: str
-) -> None:
+def test_a_kind_is_a_network_that_couples(tool: Tool, tmp_path: Path, psi: Psi, kind: str) -> None:
     net = made(tool, tmp_path, kind, KIND_WORDS[kind])
     assert (tmp_path / "net.toml").read_text().startswith("# ")
     if kind == "closed":
@@ -56,25 +53,25 @@ def test_a_kind_is_a_network_that_couples(
     assert int(report["value"][1]) == 50
 
 
-def test_erlangs_formula(tool: Tool, tmp_path: pathlib.Path) -> None:
+def test_erlangs_formula(tool: Tool, tmp_path: Path) -> None:
     net = made(tool, tmp_path, "erlang-loss", KIND_WORDS["erlang-loss"])
     assert means_of(net)[1]["lost"] == pytest.approx(erlang_b(12, 7.5))
 
 
-def test_more_than_64_servers_are_the_same_queue(tool: Tool, tmp_path: pathlib.Path) -> None:
+def test_more_than_64_servers_are_the_same_queue(tool: Tool, tmp_path: Path) -> None:
     net = made(tool, tmp_path, "erlang-loss", "--arrival 95 --service 1 --servers 100")
     assert net.version() == 2
     assert means_of(net)[1]["lost"] == pytest.approx(erlang_b(100, 95))
 
 
-def test_the_mean_of_a_single_server(tool: Tool, tmp_path: pathlib.Path) -> None:
+def test_the_mean_of_a_single_server(tool: Tool, tmp_path: Path) -> None:
     net = made(tool, tmp_path, "mm1k", KIND_WORDS["mm1k"])
     wanted = sum(n * share for n, share in enumerate(birth_and_death(0.8, [1] * 10)))
     assert means_of(net)[0]["desk"] == pytest.approx(wanted)
 
 
 @pytest.mark.parametrize("kind", ["mm1k", "mmck", "abandonment", "erlang-loss", "closed"])
-def test_the_formula_in_the_comment_is_what_is_solved(tool: Tool, tmp_path: pathlib.Path, kind: str) -> None:
+def test_the_formula_in_the_comment_is_what_is_solved(tool: Tool, tmp_path: Path, kind: str) -> None:
     net = made(tool, tmp_path, kind, KIND_WORDS[kind])
     comment = " ".join((tmp_path / "net.toml").read_text().split("version")[0].split("\n# "))
     if kind == "closed":
@@ -87,7 +84,7 @@ def test_the_formula_in_the_comment_is_what_is_solved(tool: Tool, tmp_path: path
     assert float(full) == pytest.approx(rewards.get("full", rewards.get("lost")), rel=1e-5)
 
 
-def test_phases_have_the_mean_of_pollaczek_and_khinchine(tool: Tool, tmp_path: pathlib.Path) -> None:
+def test_phases_have_the_mean_of_pollaczek_and_khinchine(tool: Tool, tmp_path: Path) -> None:
     # With room enough the mean number is rho + rho^2 (1 + c^2) / (2 (1 - rho)).
     first, second = 0.75 / 2 + 0.25 / 0.5, 2 * (0.75 / 4 + 0.25 / 0.25)
     for kind, words, rho, scv in (
@@ -132,7 +129,7 @@ def test_words_that_are_not_right(tool: Tool, words: str) -> None:
 
 
 @pytest.mark.parametrize("kind", KIND_WORDS)
-def test_the_comment_shows_what_psi_prints(tool: Tool, program: str, tmp_path: pathlib.Path, kind: str) -> None:
+def test_the_comment_shows_what_psi_prints(tool: Tool, program: str, tmp_path: Path, kind: str) -> None:
     made(tool, tmp_path, kind, KIND_WORDS[kind])
     runs = SHOWN.findall((tmp_path / "net.toml").read_text())
     commands = ["closed"] if kind == "closed" else ["sample", "report"]
@@ -142,14 +139,14 @@ def test_the_comment_shows_what_psi_prints(tool: Tool, program: str, tmp_path: p
         assert ended([program, *words.split()], cwd=tmp_path)[:2] == (0, wanted)
 
 
-def test_the_comment_of_what_does_not_couple(tool: Tool, program: str, tmp_path: pathlib.Path) -> None:
+def test_the_comment_of_what_does_not_couple(tool: Tool, program: str, tmp_path: Path) -> None:
     words = "--arrival 1000 --service 1 --servers 1023 --places 65535 -o".split()
     assert tool("psi-new", "mmck", *words, "odd name")[0] == 0
     [shown] = SHOWN.findall((tmp_path / "odd name").read_text())
     assert shown == ("sample net.toml 0 0", "#     not coupled within 262144\n")
 
 
-def test_rates_that_would_be_off_are_refused(tool: Tool, tmp_path: pathlib.Path) -> None:
+def test_rates_that_would_be_off_are_refused(tool: Tool, tmp_path: Path) -> None:
     words = "--arrival 999999999 --service 0.000000001 --places 3 -o net.toml".split()
     status, out, error = tool("psi-new", "mm1k", *words)
     assert (status, out) == (2, "") and not (tmp_path / "net.toml").exists()
@@ -159,7 +156,7 @@ def test_rates_that_would_be_off_are_refused(tool: Tool, tmp_path: pathlib.Path)
     assert (tmp_path / "net.toml").exists()
 
 
-def test_without_psi_nothing_is_shown(environment: dict[str, str], tmp_path: pathlib.Path) -> None:
+def test_without_psi_nothing_is_shown(environment: dict[str, str], tmp_path: Path) -> None:
     words = "mm1k --arrival 1 --service 2 --places 3".split()
     # The package is read elsewhere, where no program is built.
     shutil.copytree(TOP / "python", tmp_path / "python")

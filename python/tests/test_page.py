@@ -6,7 +6,7 @@ import hashlib
 import html.parser
 import json
 import os
-import pathlib
+from pathlib import Path
 import re
 import shutil
 import tomllib
@@ -149,7 +149,7 @@ def browser() -> Iterator["WebDriver"]:
 
 
 @pytest.fixture
-def opened(browser: "WebDriver", tmp_path: pathlib.Path) -> Open:
+def opened(browser: "WebDriver", tmp_path: Path) -> Open:
     """Opens a page from disk in the browser."""
 
     def open_page(text: str) -> None:
@@ -340,7 +340,7 @@ def test_a_phone_shows_all(browser: "WebDriver", opened: Open, pages: Pages, emu
 @pytest.mark.quiet
 @pytest.mark.parametrize("name", ["first", "tandem-blocking", "longest-queue-split", "hyperexponential-service"])
 def test_the_page_prints(
-    browser: "WebDriver", opened: Open, pages: Pages, tmp_path: pathlib.Path, emulated: Emulate, name: str
+    browser: "WebDriver", opened: Open, pages: Pages, tmp_path: Path, emulated: Emulate, name: str
 ) -> None:
     """On paper the network, the time line, the step and the states that are left stand on one white page, within its
     margins; the controls and the keys do not."""
@@ -368,7 +368,7 @@ def test_the_page_prints(
     assert not ink[border].any() and 0.005 < ink.mean() < 0.2
 
 
-def drawn_on(pdf: pathlib.Path) -> numpy.ndarray[Any, Any]:
+def drawn_on(pdf: Path) -> numpy.ndarray[Any, Any]:
     """How light each dot of a printed page is, at 50 dots an inch."""
     data: Any = ended(["pdftoppm", "-gray", "-r", "50", "-singlefile", pdf], text=False)[1]
     kind, size, _, dots = data.split(b"\n", 3)
@@ -438,7 +438,7 @@ def test_hostile_names_are_no_elements(pages: Pages, name: str) -> None:
     assert json.loads(found.scripts[0])["queues"][0]["name"] == name
 
 
-def test_the_command_writes_a_page(tool: Tool, tmp_path: pathlib.Path, program: str) -> None:
+def test_the_command_writes_a_page(tool: Tool, tmp_path: Path, program: str) -> None:
     """The page of a sample, and that of its log, are the same bytes."""
     (tmp_path / "own.log").write_bytes(log_of(program, "overflow"))
     assert tool("psi-page", example("overflow"), "0", "0", "-o", "one.html") == (0, "", "")
@@ -447,7 +447,7 @@ def test_the_command_writes_a_page(tool: Tool, tmp_path: pathlib.Path, program: 
     assert text.startswith("<!DOCTYPE html>") and text == (tmp_path / "two.html").read_text()
 
 
-def test_what_replay_does_not_accept_is_refused(tool: Tool, tmp_path: pathlib.Path, program: str) -> None:
+def test_what_replay_does_not_accept_is_refused(tool: Tool, tmp_path: Path, program: str) -> None:
     """A changed log, one that is too long, a sample that is not coupled and wrong arguments are refused by one line,
     and no page is written."""
     log = log_of(program, "overflow")

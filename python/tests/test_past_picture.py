@@ -1,6 +1,6 @@
 """psi-plot past: the runs are those of a plain walk, end as psi says, and the picture shows each of them."""
 
-import pathlib
+from pathlib import Path
 import tomllib
 
 import pytest
@@ -50,7 +50,7 @@ def test_runs_are_those_of_a_plain_walk(name: str) -> None:
     assert len(run.paths) == len({path[0] for path in run.paths})
 
 
-def test_a_large_network_is_followed_by_regions(program: str, tmp_path: pathlib.Path) -> None:
+def test_a_large_network_is_followed_by_regions(program: str, tmp_path: Path) -> None:
     """Where there are too many paths, bounds are drawn, which hold those of a smaller split number."""
     text = example("tandem-blocking").read_text().replace("capacity = 4", "capacity = 40")
     (tmp_path / "large.toml").write_text(text)
@@ -97,7 +97,7 @@ def test_each_run_has_a_row(program: str) -> None:
     assert "64 steps:\ncoalesced in\nstate 3,2,1" in texts and "32 steps:\n2 states left" in texts
 
 
-def test_no_text_is_cut_off(program: str, tmp_path: pathlib.Path) -> None:
+def test_no_text_is_cut_off(program: str, tmp_path: Path) -> None:
     """Each text is within the picture, with many queues and long names too."""
     net = Network()
     for place in range(12):
@@ -110,7 +110,7 @@ def test_no_text_is_cut_off(program: str, tmp_path: pathlib.Path) -> None:
         assert cut_off(figure) == []
 
 
-def test_the_command_draws_and_refuses(tool: Tool, tmp_path: pathlib.Path) -> None:
+def test_the_command_draws_and_refuses(tool: Tool, tmp_path: Path) -> None:
     """The command draws a queue; wrong arguments are refused by one line with status 2."""
     words = "psi-plot", "past", path_of("tandem-blocking"), "0", "0"
     assert tool(*words, "--queue", "drill", "-o", "past.svg") == (0, "", "")
@@ -125,7 +125,7 @@ def test_the_command_draws_and_refuses(tool: Tool, tmp_path: pathlib.Path) -> No
     assert not (tmp_path / "x.svg").exists()
 
 
-def test_a_network_that_does_not_coalesce_is_refused(program: str, tmp_path: pathlib.Path) -> None:
+def test_a_network_that_does_not_coalesce_is_refused(program: str, tmp_path: Path) -> None:
     """Longer runs than can be drawn are refused by name."""
     ring = Network().queue("a", 2).queue("b", 2)
     ring.event("there", "service", 1, "a", ["b"], full="stay").event("back", "service", 1, "b", ["a"], full="stay")

@@ -4,12 +4,11 @@ import csv
 import io
 import json
 import math
-import pathlib
-import types
+from pathlib import Path
 from typing import Any
 
 import pytest
-from conftest import Tool, checked, ends_of, example
+from conftest import Psi, Tool, checked, ends_of, example
 from solving import means_of
 
 import psi as module
@@ -26,9 +25,7 @@ def of_csv(text: str) -> dict[tuple[str, str], dict[str, float]]:
     return {(row["item"], row["name"]): {key: float(row[key]) for key in ("mean", "low", "high")} for row in rows}
 
 
-def test_estimates_are_those_of_the_table(
-    paths_program: str, psi: types.SimpleNamespace, tool: Tool, program: str
-) -> None:
+def test_estimates_are_those_of_the_table(paths_program: str, psi: Psi, tool: Tool, program: str) -> None:
     words = "--paths", 200, "--count", 30, "--seed", 5, "--first", 7, "--psi", program, "--format", "csv"
     status, out, err = tool("psi-means", TANDEM, *words)
     assert (status, err) == (0, "")
@@ -75,7 +72,7 @@ def test_the_text_and_the_json_of_an_answer(paths_program: str, tool: Tool, prog
     assert "rates" not in text and "100 paths of 0 steps" in text
 
 
-def test_streams_that_are_not_coupled(paths_program: str, psi: types.SimpleNamespace, tool: Tool, program: str) -> None:
+def test_streams_that_are_not_coupled(paths_program: str, psi: Psi, tool: Tool, program: str) -> None:
     words = "--paths", 20, "--count", 60, "--psi", program
     status, text, _ = tool("psi-means", SHORT, *words)
     with pytest.warns(psi.Uncoupled):
@@ -94,7 +91,7 @@ def test_streams_that_are_not_coupled(paths_program: str, psi: types.SimpleNames
 
 @pytest.mark.parametrize("file, words", ((TANDEM, ()), (SHORT, ("--pilot", 0)), (CENTRAL, ("--total", 4))))
 def test_guaranteed_intervals_have_certificates(
-    paths_program: str, tool: Tool, program: str, tmp_path: pathlib.Path, file: pathlib.Path, words: tuple[object, ...]
+    paths_program: str, tool: Tool, program: str, tmp_path: Path, file: Path, words: tuple[object, ...]
 ) -> None:
     words = "--paths", 300, "--count", 40, "--psi", program, "--guaranteed", "--certificate", "c.json", *words
     status, out, err = tool("psi-means", file, *words, "--format", "csv")
@@ -116,7 +113,7 @@ def test_guaranteed_intervals_have_certificates(
     assert (drawn["steps"], drawn["count"], drawn["first"]) == (300, 40, 0)
 
 
-def test_a_certificate_of_paths_is_of_a_mean_alone(tmp_path: pathlib.Path) -> None:
+def test_a_certificate_of_paths_is_of_a_mean_alone(tmp_path: Path) -> None:
     """The checker divides the ends of a mean by the number of times, and takes no other claim of such sums."""
     claim = {"of": "mean", "q": 10, "unit": 1, "low": None, "high": None}
     row = {"name": "a", "samples": 2, "uncoupled": 0, "least": 0, "greatest": 50, "counts": [[3, 2]]}
@@ -135,7 +132,7 @@ def test_a_certificate_of_paths_is_of_a_mean_alone(tmp_path: pathlib.Path) -> No
         assert (status, out.splitlines()[:1]) == wanted
 
 
-def test_words_that_are_refused(tool: Tool, program: str, tmp_path: pathlib.Path) -> None:
+def test_words_that_are_refused(tool: Tool, program: str, tmp_path: Path) -> None:
     for words, line in (
         (("a.csv", "--seed", 1), "--seed goes with --paths"),
         (("a.csv", "--total", 1), "--total goes with --paths"),

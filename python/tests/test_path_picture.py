@@ -1,6 +1,6 @@
 """psi-plot path: the states are those of a plain walk, the sums those of psi_paths, and the picture shows them."""
 
-import pathlib
+from pathlib import Path
 import tomllib
 
 import pytest
@@ -23,7 +23,7 @@ def file_of(name: str) -> str:
 
 @pytest.mark.parametrize("name", ("first", "tandem-blocking", "fork-join", "call-centre", "longest-queue"))
 def test_states_and_sums_are_those_of_a_plain_walk(program: str, name: str) -> None:
-    net = Plain(tomllib.loads(pathlib.Path(file_of(name)).read_text()))
+    net = Plain(tomllib.loads(Path(file_of(name)).read_text()))
     for stream in range(2):
         found = path_of(program, file_of(name), 7, stream, 50)
         [drawn] = plain.outcomes_of(net, 7, [stream])

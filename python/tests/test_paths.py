@@ -1,13 +1,12 @@
 """Tables of paths: psi.paths, beside the plain program, and psi.states where a path has no step."""
 
-import pathlib
+from pathlib import Path
 import tomllib
-import types
 import warnings
 
 import pandas
 import pytest
-from conftest import desk, example, rows_in
+from conftest import Psi, desk, example, rows_in
 from solving import birth_and_death
 
 import psi as module
@@ -24,7 +23,7 @@ pytestmark = pytest.mark.usefixtures("paths_program")
 
 
 def rows_wanted(
-    file: pathlib.Path, seed: int, streams: range, steps: int, total: int | None = None
+    file: Path, seed: int, streams: range, steps: int, total: int | None = None
 ) -> tuple[list[str], list[list[int | None]]]:
     """The columns of a table and its rows, with None for what is missing, as the plain program has them."""
     net = PlainNetwork(tomllib.loads(file.read_text()))
@@ -43,16 +42,14 @@ def rows_wanted(
         ("first", 1, 9, 1, 1_000),
     ),
 )
-def test_rows_are_the_plain_programs(
-    psi: types.SimpleNamespace, name: str, seed: int, first: int, count: int, steps: int
-) -> None:
+def test_rows_are_the_plain_programs(psi: Psi, name: str, seed: int, first: int, count: int, steps: int) -> None:
     file = example(name)
     table = psi.paths(file, seed, first, count, steps)
     columns, rows = rows_wanted(file, seed, range(first, first + count), steps)
     assert ([*table.columns], rows_in(table)) == (columns, rows)
 
 
-def test_rows_of_a_closed_network(psi: types.SimpleNamespace) -> None:
+def test_rows_of_a_closed_network(psi: Psi) -> None:
     file = example("central-server")
     table = psi.paths(file, 2, 4, 12, 30, total=6)
     columns, rows = rows_wanted(file, 2, range(4, 16), 30, 6)
@@ -60,7 +57,7 @@ def test_rows_of_a_closed_network(psi: types.SimpleNamespace) -> None:
     assert (table[["queue.cpu", "queue.disk", "queue.drum"]].sum(axis=1) == 6 * 31).all()
 
 
-def test_a_path_of_no_step_is_its_sample(psi: types.SimpleNamespace) -> None:
+def test_a_path_of_no_step_is_its_sample(psi: Psi) -> None:
     file = example("tandem-blocking")
     states, paths = psi.states(file, 1, 2, 30), psi.paths(file, 1, 2, 30, steps=0)
     for name in states.columns:
@@ -69,7 +66,7 @@ def test_a_path_of_no_step_is_its_sample(psi: types.SimpleNamespace) -> None:
     assert (paths[["steps", *counts]] == 0).all(axis=None)
 
 
-def test_a_stream_that_is_not_coupled_keeps_its_row(psi: types.SimpleNamespace) -> None:
+def test_a_stream_that_is_not_coupled_keeps_its_row(psi: Psi) -> None:
     file = example("short-past")
     columns, rows = rows_wanted(file, 0, range(40), 20)
     lost = [row[1] is None for row in rows]
@@ -81,7 +78,7 @@ def test_a_stream_that_is_not_coupled_keeps_its_row(psi: types.SimpleNamespace) 
         assert [*table[name].isna()] == lost
 
 
-def test_sums_of_any_size_are_exact(psi: types.SimpleNamespace) -> None:
+def test_sums_of_any_size_are_exact(psi: Psi) -> None:
     net = psi.Network().queue("a", 2_000)
     net.event("in", "arrival", 400, to=["a"]).event("out", "service", 1, source="a")
     net.reward("cost", "linear", ["a"], weights=[-BILLION]).reward("number", "linear", ["a"], weights=[1])
@@ -101,7 +98,7 @@ def test_sums_of_any_size_are_exact(psi: types.SimpleNamespace) -> None:
     assert table["reward.cost"][0] is pandas.NA and table["reward.number"].isna().all()
 
 
-def test_events_and_their_unit(psi: types.SimpleNamespace) -> None:
+def test_events_and_their_unit(psi: Psi) -> None:
     net = psi.Network.read(example("call-centre"))
     lines = [line.split() for line in psi.check(net).splitlines()]
     assert [(name, str(k)) for name, k in events_of(net)] == [tuple(line[1:3]) for line in lines if line[0] == "event"]
@@ -111,7 +108,7 @@ def test_events_and_their_unit(psi: types.SimpleNamespace) -> None:
 
 
 @pytest.mark.parametrize("steps", [-1, MOST_STEPS + 1, 1.5])
-def test_steps_that_are_refused(psi: types.SimpleNamespace, steps: float) -> None:
+def test_steps_that_are_refused(psi: Psi, steps: float) -> None:
     with pytest.raises(psi.ArgumentError):
         psi.paths(example("tandem-blocking"), steps=steps)
 
@@ -127,14 +124,14 @@ def test_a_text_that_is_no_such_table(program: str, monkeypatch: pytest.MonkeyPa
             paths_of(Program(program), net, 0, [(7, 2)], 1)
 
 
-def test_without_psi_paths(program: str, tmp_path: pathlib.Path, monkeypatch: pytest.MonkeyPatch) -> None:
+def test_without_psi_paths(program: str, tmp_path: Path, monkeypatch: pytest.MonkeyPatch) -> None:
     (tmp_path / "psi").symlink_to("/bin/true")
     monkeypatch.setattr("psi_tools.draw.program.TOP", tmp_path)
     with pytest.raises(PsiError, match="^psi_paths isn't built, .*`rt run` in crates/psi_paths builds it$"):
         module.paths(example("first"), program=module.Program(tmp_path / "psi"))
 
 
-def test_means_of_paths_are_stationary(psi: types.SimpleNamespace) -> None:
+def test_means_of_paths_are_stationary(psi: Psi) -> None:
     """The mean of all sums is steps + 1 times the stationary mean, within five standard errors."""
     exact = sum(number * share for number, share in enumerate(birth_and_death(4, [5] * 10)))
     with warnings.catch_warnings():

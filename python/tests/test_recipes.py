@@ -4,14 +4,13 @@ textbook has it, apart from the file, and solved; samples of the built program h
 import collections
 import math
 import re
-import types
 from collections.abc import Callable, Iterator
 from typing import Any
 
 import numpy
 import pandas
 import pytest
-from conftest import TOP
+from conftest import TOP, Psi
 from solving import law_of
 
 from psi_tools.model.networks import Network
@@ -177,7 +176,7 @@ NAMES = [f"{case[0]}-{case[2].__name__}-{case[5]}" for case in CASES]
 
 @pytest.mark.parametrize("name, text, model, first, meant, total", CASES, ids=NAMES)
 def test_the_law_is_that_of_the_model(
-    psi: types.SimpleNamespace, name: str, text: str, model: Model, first: State, meant: Meant, total: int | None
+    psi: Psi, name: str, text: str, model: Model, first: State, meant: Meant, total: int | None
 ) -> None:
     net = Network.parse(text)
     wanted: dict[tuple[int, ...], float] = collections.defaultdict(float)
@@ -190,7 +189,7 @@ def test_the_law_is_that_of_the_model(
 
 @pytest.mark.parametrize("name, text, model, first, meant, total", CASES, ids=NAMES)
 def test_samples_have_the_means_of_the_model(
-    psi: types.SimpleNamespace, name: str, text: str, model: Model, first: State, meant: Meant, total: int | None
+    psi: Psi, name: str, text: str, model: Model, first: State, meant: Meant, total: int | None
 ) -> None:
     net = Network.parse(text)
     law = solved(model, first)

@@ -1,7 +1,7 @@
 """Each file of the cases that psi refuses is refused by every tool that reads networks, by one
 line; and an answer that fits on no disk is told. The tools are called in this process."""
 
-import pathlib
+from pathlib import Path
 import re
 import signal
 from collections.abc import Iterator
@@ -41,9 +41,7 @@ WRITES = {
 
 
 @pytest.fixture
-def here(
-    environment: dict[str, str], tmp_path: pathlib.Path, monkeypatch: pytest.MonkeyPatch
-) -> Iterator[pathlib.Path]:
+def here(environment: dict[str, str], tmp_path: Path, monkeypatch: pytest.MonkeyPatch) -> Iterator[Path]:
     """A folder of its own, with psi on the PATH; in the end signals are handled as before."""
     monkeypatch.chdir(tmp_path)
     monkeypatch.setenv("PATH", environment["PATH"])
@@ -63,7 +61,7 @@ def refused() -> list[bytes]:
 
 @pytest.mark.slow
 @pytest.mark.parametrize("name", CALLS)
-def test_refused_files(here: pathlib.Path, capsys: pytest.CaptureFixture[str], name: str) -> None:
+def test_refused_files(here: Path, capsys: pytest.CaptureFixture[str], name: str) -> None:
     tool, words = CALLS[name]
     files = refused()
     assert len(files) > 40
@@ -78,7 +76,7 @@ def test_refused_files(here: pathlib.Path, capsys: pytest.CaptureFixture[str], n
 
 
 @pytest.mark.parametrize("name", WRITES)
-def test_an_answer_that_fits_on_no_disk(here: pathlib.Path, capsys: pytest.CaptureFixture[str], name: str) -> None:
+def test_an_answer_that_fits_on_no_disk(here: Path, capsys: pytest.CaptureFixture[str], name: str) -> None:
     tool, words = WRITES[name]
     for ending in ("", ".svg"):
         (here / f"full{ending}").symlink_to("/dev/full")
@@ -90,7 +88,7 @@ def test_an_answer_that_fits_on_no_disk(here: pathlib.Path, capsys: pytest.Captu
 
 
 @pytest.mark.parametrize("name", ["psi-law", "psi-sweep", "psi-why", "psi-many"])
-def test_files_that_take_no_more(tool: Tool, tmp_path: pathlib.Path, name: str) -> None:
+def test_files_that_take_no_more(tool: Tool, tmp_path: Path, name: str) -> None:
     words = [str(word).format("answer") for word in WRITES[name][1]]
     status, out, error = tool(name, *words, **limited("FSIZE", 100))
     assert (status, out) == (7, ""), error

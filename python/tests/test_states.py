@@ -1,10 +1,9 @@
 """Tables of samples: psi.states, and what psi.samples and psi.closed take of them, beside psi itself."""
 
 import functools
-import pathlib
+from pathlib import Path
 import re
 import shutil
-import types
 import warnings
 from collections.abc import Callable
 from typing import Any
@@ -12,7 +11,7 @@ from typing import Any
 import numpy
 import pandas
 import pytest
-from conftest import companion, ended, example, rows_in
+from conftest import Psi, companion, ended, example, rows_in
 
 import psi as module
 from psi_tools.draw.law import Samples
@@ -28,7 +27,7 @@ Draw = Callable[..., pandas.DataFrame]
 
 
 @pytest.fixture(params=["states", "paths"])
-def table_of(request: pytest.FixtureRequest, psi: types.SimpleNamespace, program: str) -> Draw:
+def table_of(request: pytest.FixtureRequest, psi: Psi, program: str) -> Draw:
     """psi.states, and psi.paths of 40 steps."""
     companion(program, f"psi_{request.param}")
     calls: dict[str, Draw] = {"states": psi.states, "paths": functools.partial(psi.paths, steps=40)}
@@ -36,7 +35,7 @@ def table_of(request: pytest.FixtureRequest, psi: types.SimpleNamespace, program
 
 
 def printed_sample(
-    program: str, command: str, file: pathlib.Path, seed: int, stream: int, *total: int
+    program: str, command: str, file: Path, seed: int, stream: int, *total: int
 ) -> tuple[int, list[int]] | None:
     """The horizon and the state that psi prints of one stream; none where it isn't coupled."""
     status, out, _ = ended([program, command, file, seed, stream, *total])
@@ -47,9 +46,7 @@ def printed_sample(
     return int(found[1]), [*map(int, found[2].split(","))]
 
 
-def rows_said(
-    program: str, command: str, file: pathlib.Path, seed: int, streams: range, *total: int
-) -> list[list[int | None]]:
+def rows_said(program: str, command: str, file: Path, seed: int, streams: range, *total: int) -> list[list[int | None]]:
     """The rows of a table, by what psi prints of each stream and the guide's rules of rewards."""
     net = Network.read(file)
     empty: list[int | None] = [None] * (1 + len(net.queues) + len(net.rewards))
@@ -67,9 +64,7 @@ def rows_said(
         ("first", 1, 9, 1),
     ),
 )
-def test_rows_are_what_psi_samples(
-    psi: types.SimpleNamespace, program: str, name: str, seed: int, first: int, count: int
-) -> None:
+def test_rows_are_what_psi_samples(psi: Psi, program: str, name: str, seed: int, first: int, count: int) -> None:
     file, streams = example(name), range(first, first + count)
     table, net = psi.states(file, seed, first, count), Network.read(file)
     wanted = rows_said(program, "sample", file, seed, streams)
@@ -80,7 +75,7 @@ def test_rows_are_what_psi_samples(
     assert psi.samples(file, seed, first, count).tolist() == [row[1 : 1 + len(queues)] for row in wanted]
 
 
-def test_rows_are_what_psi_samples_of_a_closed_network(psi: types.SimpleNamespace, program: str) -> None:
+def test_rows_are_what_psi_samples_of_a_closed_network(psi: Psi, program: str) -> None:
     file = example("central-server")
     wanted = rows_said(program, "closed", file, 2, range(4, 16), 6)
     table = psi.states(file, 2, 4, 12, total=6)
@@ -89,7 +84,7 @@ def test_rows_are_what_psi_samples_of_a_closed_network(psi: types.SimpleNamespac
     assert psi.closed(file, 6, 2, 4, 12).tolist() == [row[1:4] for row in wanted]
 
 
-def test_a_stream_that_is_not_coupled_keeps_its_row(psi: types.SimpleNamespace, program: str) -> None:
+def test_a_stream_that_is_not_coupled_keeps_its_row(psi: Psi, program: str) -> None:
     file = example("short-past")
     wanted = rows_said(program, "sample", file, 0, range(60))
     lost = [row[0] is None for row in wanted]
@@ -120,7 +115,7 @@ def test_processes_make_no_difference(table_of: Draw, program: str) -> None:
     assert len(one) == 333
 
 
-def test_types_are_as_narrow_as_capacities(psi: types.SimpleNamespace) -> None:
+def test_types_are_as_narrow_as_capacities(psi: Psi) -> None:
     net = psi.Network()
     capacities = {"a": 127, "b": 128, "c": 32_767, "d": 32_768}
     for name, capacity in capacities.items():
@@ -136,7 +131,7 @@ def test_types_are_as_narrow_as_capacities(psi: types.SimpleNamespace) -> None:
     assert psi.samples(example("tandem-blocking"), count=2).dtype == "int8"
 
 
-def test_what_is_refused(table_of: Draw, psi: types.SimpleNamespace, tmp_path: pathlib.Path) -> None:
+def test_what_is_refused(table_of: Draw, psi: Psi, tmp_path: Path) -> None:
     opened = example("tandem-blocking")
     for net, total, status, message in (
         (psi.Network().queue("a", 0), None, 3, "network refused 6 OutOfRange queue 1 capacity"),
@@ -160,14 +155,14 @@ def test_what_is_refused(table_of: Draw, psi: types.SimpleNamespace, tmp_path: p
             table_of(opened, **words)
 
 
-def test_a_network_that_is_not_closed(psi: types.SimpleNamespace) -> None:
+def test_a_network_that_is_not_closed(psi: Psi) -> None:
     with pytest.raises(psi.Refused) as fault:
         psi.closed(example("tandem-blocking"), total=3, count=5)
     assert (fault.value.status, fault.value.line) == (11, "psi: not closed event 0")
 
 
 def test_the_program_is_looked_for_beside_psi_first(
-    program: str, tmp_path: pathlib.Path, monkeypatch: pytest.MonkeyPatch
+    program: str, tmp_path: Path, monkeypatch: pytest.MonkeyPatch
 ) -> None:
     own, link = tmp_path / "own", tmp_path / "link"
     own.mkdir()
@@ -244,7 +239,7 @@ def test_a_bar_is_told_of_each_block(program: str) -> None:
     assert reported == [1, 2, 3, 4] and law.known == 8
 
 
-def test_states_without_psi_states(program: str, tmp_path: pathlib.Path, monkeypatch: pytest.MonkeyPatch) -> None:
+def test_states_without_psi_states(program: str, tmp_path: Path, monkeypatch: pytest.MonkeyPatch) -> None:
     """Where psi_states is not built, arrays are the same, and a table is refused."""
     alone = tmp_path / "psi"
     shutil.copy(program, alone)

@@ -1,7 +1,7 @@
 """psi-sweep: the same words choose the same events, and differences are told by few samples."""
 
 import json
-import pathlib
+from pathlib import Path
 from typing import Any
 
 import pytest
@@ -23,12 +23,12 @@ CALLS = (
 
 
 @pytest.fixture
-def net(tmp_path: pathlib.Path) -> str:
+def net(tmp_path: Path) -> str:
     (tmp_path / "calls.toml").write_text(CALLS)
     return "calls.toml"
 
 
-def times_of(folder: pathlib.Path) -> dict[pathlib.Path, int]:
+def times_of(folder: Path) -> dict[Path, int]:
     """When each block of a folder was written."""
     return {file: file.stat().st_mtime_ns for file in folder.rglob("*.csv")}
 
@@ -105,7 +105,7 @@ def test_words_that_are_not_right(word: str) -> None:
         designs_of([word], Network.parse(CALLS))
 
 
-def test_means_are_those_of_each_design(tool: Tool, tmp_path: pathlib.Path, net: str) -> None:
+def test_means_are_those_of_each_design(tool: Tool, tmp_path: Path, net: str) -> None:
     rows = rows_of(tool, net, "calls.servers=2,3", "--count", "20000", "--anyway")
     for row in rows:
         solved = Network.parse(CALLS)
@@ -126,7 +126,7 @@ def test_a_tenth_of_the_samples_that_two_seeds_need(tool: Tool, net: str) -> Non
     assert (apart / together) ** 2 > 10
 
 
-def test_it_goes_on_where_it_was_stopped(tool: Tool, tmp_path: pathlib.Path, net: str) -> None:
+def test_it_goes_on_where_it_was_stopped(tool: Tool, tmp_path: Path, net: str) -> None:
     kept = ("--count", "400", "--folder", "kept", "--anyway")
     rows_of(tool, net, "calls.capacity=10,12", *kept)
     before = times_of(tmp_path / "kept")
@@ -139,13 +139,13 @@ def test_it_goes_on_where_it_was_stopped(tool: Tool, tmp_path: pathlib.Path, net
     assert len(after) == len(before) * 3 // 2
 
 
-def test_a_picture(tool: Tool, tmp_path: pathlib.Path, net: str) -> None:
+def test_a_picture(tool: Tool, tmp_path: Path, net: str) -> None:
     words = ("calls.servers=2,3,4", "--count", "400", "--picture", "sweep.png", "--anyway")
     assert tool("psi-sweep", net, *words)[0] == 0
     assert (tmp_path / "sweep.png").read_bytes().startswith(b"\x89PNG")
 
 
-def test_more_streams_are_added(tool: Tool, tmp_path: pathlib.Path, net: str) -> None:
+def test_more_streams_are_added(tool: Tool, tmp_path: Path, net: str) -> None:
     words = "calls.capacity=10,12", "--anyway", "--folder", "kept", "--count"
     rows_of(tool, net, *words, "400")
     before = times_of(tmp_path / "kept")
@@ -167,7 +167,7 @@ def solved_abandonment(servers: int) -> dict[str, float]:
     return {"calls": calls, "waiting": sum(max(0, n - servers) * share for n, share in enumerate(law))}
 
 
-def test_a_sweep_of_servers_is_refused_where_guards_go_by_them(tool: Tool, tmp_path: pathlib.Path) -> None:
+def test_a_sweep_of_servers_is_refused_where_guards_go_by_them(tool: Tool, tmp_path: Path) -> None:
     for servers in (3, 4):
         words = ("abandonment", *ABANDONMENT, "--servers", servers, "-o", f"{servers}.toml")
         assert tool("psi-new", *words)[0] == 0
@@ -212,7 +212,7 @@ PARTS = {
 
 @pytest.mark.parametrize("key", ["servers", "capacity"])
 @pytest.mark.parametrize("part", PARTS)
-def test_what_goes_by_a_queue_is_named(tool: Tool, tmp_path: pathlib.Path, part: str, key: str) -> None:
+def test_what_goes_by_a_queue_is_named(tool: Tool, tmp_path: Path, part: str, key: str) -> None:
     (tmp_path / "net.toml").write_text(GUARDED + PARTS[part])
     values = {"servers": "2,3", "capacity": "5,6"}[key]
     status, out, error = tool("psi-sweep", "net.toml", f"a.{key}={values}")
@@ -249,7 +249,7 @@ def test_files_with_other_events_have_them_in_one_order() -> None:
         assert places == sorted(places)
 
 
-def test_files_that_are_not_to_be_compared(tool: Tool, tmp_path: pathlib.Path, net: str) -> None:
+def test_files_that_are_not_to_be_compared(tool: Tool, tmp_path: Path, net: str) -> None:
     (tmp_path / "same.toml").write_text("# the same\n" + CALLS)
     assert is_refused(tool("psi-sweep", net, "calls.capacity=10,12", "same.toml"), "files are compared as they are")
     (tmp_path / "copy.toml").write_text(CALLS)
@@ -262,7 +262,7 @@ def test_files_that_are_not_to_be_compared(tool: Tool, tmp_path: pathlib.Path, n
     assert is_refused(tool("psi-sweep", net, "absent.toml"), "absent.toml isn't NAME.KEY=VALUES")
 
 
-def test_a_folder_has_one_size_of_blocks(tool: Tool, tmp_path: pathlib.Path, net: str) -> None:
+def test_a_folder_has_one_size_of_blocks(tool: Tool, tmp_path: Path, net: str) -> None:
     words = "--anyway", "--format", "csv", "--folder", "kept", "--count"
     assert tool("psi-sweep", net, "calls.capacity=10,12", *words, 40_000)[0] == 0
     before = times_of(tmp_path / "kept")

@@ -1,6 +1,6 @@
 """psi-where: the line of each faulty file, and the guide's sentences."""
 
-import pathlib
+from pathlib import Path
 import re
 from collections.abc import Iterator
 
@@ -89,7 +89,7 @@ FAULTS = {
 
 
 @pytest.mark.parametrize("name", FAULTS)
-def test_the_line_of_a_fault_its_value_and_what_was_meant(tool: Tool, tmp_path: pathlib.Path, name: str) -> None:
+def test_the_line_of_a_fault_its_value_and_what_was_meant(tool: Tool, tmp_path: Path, name: str) -> None:
     text, line, printed = FAULTS[name]
     (tmp_path / "net.toml").write_text(text)
     status, out, error = tool("psi-where", "net.toml")

@@ -1,12 +1,11 @@
 """psi-why: what keeps states apart is found, and what doesn't isn't."""
 
 import json
-import pathlib
+from pathlib import Path
 import tomllib
-import types
 
 import pytest
-from conftest import TOP, Tool, example
+from conftest import TOP, Psi, Tool, example
 from oracle import plain_network
 
 from psi_tools.model.moves import Load, Moves, closed_classes, loads_of
@@ -60,7 +59,7 @@ def test_loads() -> None:
 
 @pytest.mark.parametrize("arrival, servers, places", [(5, 3, 30), (150, 100, 140)])
 def test_the_load_counts_each_server_once_and_abandonment_apart(
-    tool: Tool, tmp_path: pathlib.Path, arrival: int, servers: int, places: int
+    tool: Tool, tmp_path: Path, arrival: int, servers: int, places: int
 ) -> None:
     load = arrival / (2 * servers)
     words = f"--arrival {arrival} --service 2 --servers {servers} --places {places} --patience 0.5"
@@ -96,7 +95,7 @@ SWAP = (
 
 
 @pytest.mark.parametrize("text, line", [(PAIRS, ""), (PARITY, ""), (SWAP, "the states have 2 classes that no event")])
-def test_what_is_told_never_to_couple_does_not(tool: Tool, tmp_path: pathlib.Path, text: str, line: str) -> None:
+def test_what_is_told_never_to_couple_does_not(tool: Tool, tmp_path: Path, text: str, line: str) -> None:
     (tmp_path / "net.toml").write_text(text)
     status, out, _ = tool("psi-why", "net.toml")
     assert status == 1
@@ -121,7 +120,7 @@ def test_what_couples_has_one_closed_class() -> None:
         assert found is None or (len(found) == 1) == (file.stem != "central-server"), file
 
 
-def test_horizons_are_those_of_the_report(tool: Tool, psi: types.SimpleNamespace) -> None:
+def test_horizons_are_those_of_the_report(tool: Tool, psi: Psi) -> None:
     reported = json.loads(tool("psi-why", example("single-server"), "--format", "json")[1])
     report = psi.report(example("single-server"), 0, 0, 20)
     rows = report[report["item"] == "horizon"]
@@ -130,7 +129,7 @@ def test_horizons_are_those_of_the_report(tool: Tool, psi: types.SimpleNamespace
     assert reported["never"] == [] and reported["stopped"] is False
 
 
-def test_single_states_are_told_where_streams_are_not_met(tool: Tool, tmp_path: pathlib.Path) -> None:
+def test_single_states_are_told_where_streams_are_not_met(tool: Tool, tmp_path: Path) -> None:
     text = example("longest-queue").read_text()
     (tmp_path / "net.toml").write_text(text.replace("\nsplit = 1\n", "\nsplit = 1\nlimit = 8\n"))
     status, out, _ = tool("psi-why", "net.toml", "--seconds", "60")

@@ -2,7 +2,7 @@
 
 import concurrent.futures
 import os
-import pathlib
+from pathlib import Path
 import re
 import shutil
 from collections.abc import Sequence
@@ -40,7 +40,7 @@ def is_one_line(name: str, error: str) -> bool:
     return re.fullmatch(rf"psi-{name}: [^\n]+\n", error) is not None
 
 
-def files(room: pathlib.Path) -> list[str]:
+def files(room: Path) -> list[str]:
     """Files that are no network and no report, each with what it has."""
     found = {
         "empty": b"",
@@ -62,7 +62,7 @@ def files(room: pathlib.Path) -> list[str]:
 
 
 @pytest.mark.parametrize("name", RIGHT)
-def test_files_that_are_not_what_they_should_be(tool: Tool, tmp_path: pathlib.Path, name: str) -> None:
+def test_files_that_are_not_what_they_should_be(tool: Tool, tmp_path: Path, name: str) -> None:
     names = files(tmp_path)
     calls = [[word.format(file) for word in RIGHT[name]] for file in names]
     for file, (status, out, error) in zip(names, side_by_side(tool, f"psi-{name}", calls)):
@@ -95,8 +95,8 @@ OTHERS = {"mean_values.py": ["{0}", "{1}", "{2}"], "psi-many": ["{0}", "0", "0",
 
 
 @pytest.mark.parametrize("name", OTHERS)
-def test_the_other_tools_end_with_one_line(tool: Tool, tmp_path: pathlib.Path, name: str) -> None:
-    command = pathlib.Path(name).stem
+def test_the_other_tools_end_with_one_line(tool: Tool, tmp_path: Path, name: str) -> None:
+    command = Path(name).stem
     status, out, error = tool(name, "-h")
     assert (status, error) == (0, "") and out.startswith(f"usage: {command} ")
     closed = str(example("central-server"))
@@ -134,21 +134,21 @@ def test_a_full_disk(tool: Tool, name: str) -> None:
 
 
 @pytest.mark.parametrize("name", ["many", "law", "sweep", "where", "why", "new", "means"])
-def test_where_it_is_written_is_looked_at_first(tool: Tool, tmp_path: pathlib.Path, name: str) -> None:
+def test_where_it_is_written_is_looked_at_first(tool: Tool, tmp_path: Path, name: str) -> None:
     words = [word.format(NET) for word in RIGHT.get(name, NEW)]
     status, out, error = tool(f"psi-{name}", *words, "-o", "absent/file")
     assert (status, out) == (7, "") and is_one_line(name, error)
-    assert [*pathlib.Path(tmp_path).iterdir()] == []
+    assert [*Path(tmp_path).iterdir()] == []
 
 
-def test_where_a_picture_is_written_is_looked_at_first(tool: Tool, tmp_path: pathlib.Path) -> None:
+def test_where_a_picture_is_written_is_looked_at_first(tool: Tool, tmp_path: Path) -> None:
     for words in (("forward", NET), ("report", "absent"), ("coupling", "absent")):
         line = "psi-plot: -o none/picture.svg can't be written: No such file or directory\n"
         assert tool("psi-plot", *words, "-o", "none/picture.svg") == (7, "", line)
     assert [*tmp_path.iterdir()] == []
 
 
-def test_many_may_look_at_one_place(tmp_path: pathlib.Path) -> None:
+def test_many_may_look_at_one_place(tmp_path: Path) -> None:
     def look(_: int) -> None:
         check_writable(str(tmp_path / "answer"))
         assert not (tmp_path / "answer").exists()
@@ -173,7 +173,7 @@ def test_many_may_look_at_one_place(tmp_path: pathlib.Path) -> None:
     ],
 )
 def test_places_that_can_not_be_written(
-    tmp_path: pathlib.Path, monkeypatch: pytest.MonkeyPatch, name: str, printed: str
+    tmp_path: Path, monkeypatch: pytest.MonkeyPatch, name: str, printed: str
 ) -> None:
     monkeypatch.chdir(tmp_path)
     (tmp_path / "file").write_text("kept")
@@ -185,7 +185,7 @@ def test_places_that_can_not_be_written(
     assert {file.name for file in tmp_path.iterdir()} == {"file", "round", "far"}
 
 
-def test_a_link_to_a_new_file_may_be_written(tmp_path: pathlib.Path) -> None:
+def test_a_link_to_a_new_file_may_be_written(tmp_path: Path) -> None:
     os.symlink("new", tmp_path / "link")
     check_writable(str(tmp_path / "link"))
     assert [*tmp_path.iterdir()] == [tmp_path / "link"]
@@ -193,7 +193,7 @@ def test_a_link_to_a_new_file_may_be_written(tmp_path: pathlib.Path) -> None:
 
 @pytest.mark.parametrize("shell", SHELLS)
 @pytest.mark.parametrize("name", NAMES)
-def test_completion_is_of_its_shell(tmp_path: pathlib.Path, shell: str, name: str) -> None:
+def test_completion_is_of_its_shell(tmp_path: Path, shell: str, name: str) -> None:
     text = completion(shell, name)
     assert "--help" in text or "-l help" in text
     (tmp_path / "completion").write_text(text)
@@ -203,7 +203,7 @@ def test_completion_is_of_its_shell(tmp_path: pathlib.Path, shell: str, name: st
     assert (status, error) == (0, "")
 
 
-def test_completion_in_bash(tmp_path: pathlib.Path) -> None:
+def test_completion_in_bash(tmp_path: Path) -> None:
     (tmp_path / "completion").write_text(completion("bash", "law"))
     for words, wanted in (
         (["psi-law", str(example("breakdowns")), ""], ["jobs", "broken", "cost", "full"]),
