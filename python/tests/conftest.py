@@ -42,7 +42,7 @@ PIPES: dict[str, Any] = {"stdout": subprocess.PIPE, "stderr": subprocess.PIPE, "
 # Where this folder stands alone, with psi on the PATH, these tests are made. All others want the repository,
 # for its tools, networks, guides or plain programs.
 ALONE = not (TOP / "tools").is_dir()
-OWN = "test_api.py", "test_networks.py", "test_properties.py", "test_toml.py", "test_toml_documents.py"
+OWN = "test_api.py", "test_networks.py", "test_properties.py", "test_toml.py"
 collect_ignore = [path.name for path in HERE.glob("test_*.py") if ALONE and path.name not in OWN]
 # A job that a shell starts in the background ignores SIGINT, and one of nohup SIGHUP, and so would the tools that
 # the tests stop by them.
