@@ -2,7 +2,6 @@
 
 import functools
 import os
-from pathlib import Path
 import re
 import resource
 import shutil
@@ -13,6 +12,7 @@ import time
 import types
 import xml.etree.ElementTree
 from collections.abc import Callable, Sequence
+from pathlib import Path
 from typing import TYPE_CHECKING, Any
 
 import pytest
@@ -79,6 +79,12 @@ def ended(words: Sequence[object], **options: Any) -> Ended:
 def checked(certificates: Path) -> Ended:
     """How check_interval.py ends on a file of certificates."""
     return ended([*CHECKER, certificates])
+
+
+def out_of(end: Ended) -> str:
+    """What a call printed that ended with 0, and with nothing on standard error."""
+    assert end[::2] == (0, ""), end
+    return end[1]
 
 
 def is_refused(end: Ended, printed: str, status: int = 2) -> bool:

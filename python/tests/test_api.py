@@ -2,10 +2,10 @@
 
 import doctest
 import inspect
-from pathlib import Path
 import pickle
 import sys
 import warnings
+from pathlib import Path
 from typing import Any
 
 import api_page

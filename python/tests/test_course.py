@@ -4,8 +4,8 @@ import collections
 import fractions
 import itertools
 import math
-from pathlib import Path
 import re
+from pathlib import Path
 
 import pytest
 from conftest import match_in

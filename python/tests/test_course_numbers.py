@@ -1,9 +1,9 @@
 """docs/course: each number on each page is compared. A change of it makes some test of the course fail."""
 
 import inspect
-from pathlib import Path
 import types
 from collections.abc import Callable
+from pathlib import Path
 
 import pytest
 import test_course

@@ -1,8 +1,8 @@
 """docs/TOOLS.md and docs/MANY.md: what they show is what the tools print."""
 
-from pathlib import Path
 import re
 from collections.abc import Iterator
+from pathlib import Path
 
 import pytest
 from conftest import TOP, companion, ended

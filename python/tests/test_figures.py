@@ -3,9 +3,9 @@ the streams that somebody could choose give what is said."""
 
 import csv
 import math
-from pathlib import Path
 import re
 from collections.abc import Callable
+from pathlib import Path
 
 import numpy
 import pytest

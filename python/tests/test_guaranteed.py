@@ -4,30 +4,17 @@ import copy
 import fractions
 import json
 import math
-from pathlib import Path
 import random
 from collections.abc import Callable, Iterator, Sequence
+from pathlib import Path
 from typing import Any
 
 import pytest
 from conftest import TOP, Psi, Tool, checked, example, is_refused
 
 from psi_tools import check_interval
-from psi_tools.stats.guaranteed import (
-    Guarantee,
-    Pilot,
-    by_count,
-    file_of,
-    is_binomial,
-    is_chernoff,
-    is_won,
-    one_in,
-    parts_of,
-    pilots_of,
-    rounded_out,
-    stakes_of_range,
-    written_out,
-)
+from psi_tools.stats import guaranteed
+from psi_tools.stats.guaranteed import Guarantee, Pilot
 from psi_tools.stats.intervals import Span, probability
 
 # A row, a claim or a file of certificates; the path of a number in one; and both ends of a claim.
@@ -65,7 +52,7 @@ def holds_bets(scores: Scores, r: int, q: int, d: int, t: int, stakes: list[int]
 
 BOTH = pytest.mark.parametrize("way", ["tool", "checker"])
 DECIDE = {
-    "tool": (is_binomial, is_chernoff, is_won),
+    "tool": (guaranteed.is_binomial, guaranteed.is_chernoff, guaranteed.is_won),
     "checker": (check_interval.is_binomial, check_interval.is_chernoff, check_interval.is_won),
 }
 
@@ -156,7 +143,7 @@ def small_file() -> Record:
         row.mean()
     by_bets.share(-1, 0)
     by_bets.quantile(0.5)
-    file: Record = json.loads(json.dumps(file_of(rows, {})))
+    file: Record = json.loads(json.dumps(guaranteed.file_of(rows, {})))
     return file
 
 
@@ -327,8 +314,8 @@ def test_what_is_no_file_of_certificates(tmp_path: Path, wrong: object) -> None:
 def test_a_share_holds_for_each_probability() -> None:
     """Computed, and not drawn: the chance that the interval misses, over all counts."""
     k, d = 30, 20
-    q = parts_of(k)
-    claims = [(by_count(k, i, q, d) or {"r": 0})["r"] for i in range(k + 1)]
+    q = guaranteed.parts_of(k)
+    claims = [(guaranteed.by_count(k, i, q, d) or {"r": 0})["r"] for i in range(k + 1)]
     for parts in range(1, 40):
         r = parts * q // 40 + parts
         missed = sum(
@@ -369,16 +356,16 @@ def test_what_is_not_coupled_widens_each_end() -> None:
 
 
 def test_levels_and_parts() -> None:
-    assert [one_in(level) for level in (0.9, 0.95, 0.99, 0.97, 0.5)] == [20, 40, 200, 67, 4]
-    assert [pilots_of(count) for count in (1, 100, 10_000, 10**6)] == [1, 5, 500, 1_000]
-    t, stakes = stakes_of_range(20_000, 10, 40)
+    assert [guaranteed.one_in(level) for level in (0.9, 0.95, 0.99, 0.97, 0.5)] == [20, 40, 200, 67, 4]
+    assert [guaranteed.pilots_of(count) for count in (1, 100, 10_000, 10**6)] == [1, 5, 500, 1_000]
+    t, stakes = guaranteed.stakes_of_range(20_000, 10, 40)
     assert t == 10**7 and all(0 < stake <= 10**6 for stake in stakes) and len(stakes) == 5
     third = fractions.Fraction(1, 3)
-    low, high = rounded_out(third, third)
+    low, high = guaranteed.rounded_out(third, third)
     assert fractions.Fraction(low) < third < fractions.Fraction(high)
     assert math.nextafter(low, 1) == high
-    assert [written_out(0.12345, 3, is_high) for is_high in (False, True)] == ["0.123", "0.124"]
-    assert [written_out(-0.12345, 3, is_high) for is_high in (False, True)] == ["-0.124", "-0.123"]
+    assert [guaranteed.written_out(0.12345, 3, is_high) for is_high in (False, True)] == ["0.123", "0.124"]
+    assert [guaranteed.written_out(-0.12345, 3, is_high) for is_high in (False, True)] == ["-0.124", "-0.123"]
 
 
 def test_a_mean_alike_in_all_states_is_known() -> None:

@@ -1,29 +1,15 @@
 """Files and processes that others have are left as they are, and what was begun goes on."""
 
 import os
-from pathlib import Path
 import pwd
 import re
 import shutil
 import signal
 import subprocess
-import sys
+from pathlib import Path
 
 import pytest
-from conftest import (
-    SECONDS,
-    TOP,
-    Started,
-    Tool,
-    ended,
-    example,
-    is_refused,
-    limited,
-    match_in,
-    printed_by,
-    scripted,
-    wait_for,
-)
+from conftest import SECONDS, TOP, Started, Tool, ended, example, is_refused, limited, printed_by, scripted, wait_for
 
 NET = example("single-server")
 LAW = ["psi-law", str(NET), "desk", "--count", "40"]
@@ -102,22 +88,14 @@ def kept_files(room: Path) -> dict[Path, bytes]:
 
 
 @pytest.mark.parametrize(
-    "files",
-    [
-        {"net.toml": "mine"},
-        {"net.toml": "mine", "lock": ""},
-        {"blocks/mine.csv": "mine"},
-        {"lock": "mine"},
-        {"bound": "mine"},
-        {"bound": "mine", "net.toml": "mine"},
-        {"thesis": "mine"},
-    ],
+    "files", ["net.toml", "net.toml lock=", "blocks/mine.csv", "lock", "bound", "bound net.toml", "thesis"]
 )
-def test_a_folder_of_somebody_else_is_left_as_it_is(tool: Tool, tmp_path: Path, files: dict[str, str]) -> None:
-    for name, text in files.items():
+def test_a_folder_of_somebody_else_is_left_as_it_is(tool: Tool, tmp_path: Path, files: str) -> None:
+    for file in files.split():
+        name, is_empty, _ = file.partition("=")
         path = tmp_path / "kept" / name
         path.parent.mkdir(parents=True, exist_ok=True)
-        path.write_text(text)
+        path.write_text("" if is_empty else "mine")
     before = kept_files(tmp_path)
     for words in (MANY, [*SWEEP, "--folder", "kept"]):
         status, out, error = tool(*words)
@@ -187,22 +165,19 @@ def drawn(environment: dict[str, str], tmp_path_factory: pytest.TempPathFactory)
 
 
 @pytest.mark.parametrize("line", ["network", "seed", "first", "count", "block", "digest"])
-@pytest.mark.parametrize("damage", ["cut", "changed", "removed"])
+@pytest.mark.parametrize("own, left", [(r"(?s)^(%s .).*", r"\1"), (r"^(%s) .*", r"\1 7"), (r"^%s .*\n", "")])
 def test_a_damaged_line_of_bound_costs_no_more_than_its_own_block(
-    tool: Tool, drawn: tuple[Path, str], tmp_path: Path, line: str, damage: str
+    tool: Tool, drawn: tuple[Path, str], tmp_path: Path, line: str, own: str, left: str
 ) -> None:
+    """The file is cut in the line, or the line is changed or removed."""
     folder, wanted = drawn
     shutil.copytree(folder, tmp_path / "kept")
     blocks = {path: path.stat().st_mtime_ns for path in (tmp_path / "kept/blocks").iterdir()}
     assert len(blocks) == 40
     bound = tmp_path / "kept/bound"
     text = bound.read_text()
-    own = match_in(rf"^{line} (.*)\n", text, re.M)
-    new = {
-        "cut": text[: own.start(1) + 1],
-        "removed": text.replace(own[0], ""),
-        "changed": text.replace(own[0], f"{line} 7\n"),
-    }[damage]
+    new, many = re.subn(own % line, left, text, flags=re.M)
+    assert many == 1
     bound.write_text(new)
     status, out, error = tool(*MANY)
     assert (status, out) == (0, wanted), error
@@ -361,4 +336,3 @@ def test_hosts_that_are_no_hosts(tool: Tool, tmp_path: Path, name: str) -> None:
     status, out, error = tool(*MANY, "--hosts", "hosts")
     assert (status, out) == (2, ""), error
     assert re.fullmatch(r"psi-many: [^\n]*hosts[^\n]*\n", error), error
-    assert sys.version_info >= (3, 11)

@@ -8,24 +8,8 @@ from solving import means_of
 from psi_tools.stats.batches import Batches, batches_of
 from psi_tools.draw.reports import reports_of
 from psi_tools.draw.streams import blocks_of
-from psi_tools.stats.intervals import (
-    ZERO_ONE,
-    Mean,
-    Span,
-    Sums,
-    carriers,
-    difference_of_batches,
-    difference_of_pairs,
-    mean_of_batches,
-    mean_of_values,
-    probability,
-    quantile,
-    ranks,
-    share_of,
-    spread_of,
-    student,
-    student_and_unseen,
-)
+from psi_tools.stats import intervals
+from psi_tools.stats.intervals import ZERO_ONE, Mean, Span, Sums, mean_of_batches, mean_of_values, probability, student
 from psi_tools.stats.spans import Row
 from psi_tools.stats.text import figures, with_interval
 from psi_tools.model.networks import Network
@@ -66,7 +50,7 @@ def test_a_rare_share_has_an_interval_though_none_came() -> None:
 
 
 def test_great_sums_lose_nothing() -> None:
-    spread = spread_of([10**36 + k for k in range(20)], [1] * 20)
+    spread = intervals.spread_of([10**36 + k for k in range(20)], [1] * 20)
     assert spread is not None and spread.error == pytest.approx((35 / 20) ** 0.5)
 
 
@@ -78,7 +62,7 @@ def test_no_sample_and_one_batch() -> None:
 def test_a_difference_has_no_part_of_what_is_common() -> None:
     common = [round(each) for each in numpy.random.default_rng(1).normal(0, 10**9, 20)]
     one, other = (Sums(sums, [1] * 20, FREE) for sums in ([each + 1 for each in common], common))
-    found = difference_of_batches(one, other)
+    found = intervals.difference_of_batches(one, other)
     assert found.mean == pytest.approx(1)
     assert found.half is not None and found.half < 1e-9
 
@@ -98,16 +82,16 @@ def test_what_is_unknown_widens() -> None:
 
 def test_ranks_hold_so_often() -> None:
     for many, share in ((10, 0.5), (50, 0.9), (1000, 0.25)):
-        low, high = ranks(share, many)
+        low, high = intervals.ranks(share, many)
         draws = numpy.random.default_rng(many).binomial(many, share, 20_000)
         assert ((low <= draws) & (draws < high)).mean() > 0.945
 
 
 def test_quantiles_of_a_small_law() -> None:
     values = [(0, 5), (1, 3), (2, 2)]
-    assert quantile(values, 0.5)[0] == 0
-    assert quantile(values, 0.51)[0] == 1
-    assert quantile(values, 0.9)[0] == 2
+    assert intervals.quantile(values, 0.5)[0] == 0
+    assert intervals.quantile(values, 0.51)[0] == 1
+    assert intervals.quantile(values, 0.9)[0] == 2
 
 
 def test_the_interval_by_values_of_a_share_is_that_of_clopper_and_pearson() -> None:
@@ -134,8 +118,8 @@ def test_students_t_and_what_did_not_come() -> None:
     for ratio in (0.0, 0.05, 0.4, 1, 4, 30):
         sums = generator.standard_t(39, 400_000) + ratio * generator.exponential(size=400_000)
         wanted = numpy.quantile(sums, 0.975)
-        assert student_and_unseen(39, ratio) == pytest.approx(wanted, rel=0.03)
-    assert student_and_unseen(19, 0.0, 0.9) == pytest.approx(student(19, 0.9))
+        assert intervals.student_and_unseen(39, ratio) == pytest.approx(wanted, rel=0.03)
+    assert intervals.student_and_unseen(19, 0.0, 0.9) == pytest.approx(student(19, 0.9))
 
 
 def test_none_of_many_is_told_as_a_share_is() -> None:
@@ -156,19 +140,19 @@ def test_what_is_not_coupled_counts_as_the_least_and_as_the_greatest() -> None:
     by_values = mean_of_values([(3, 100), (4, 100)], span, 40)
     low_end, high_end = ends_of(by_values)
     assert low_end < 3.5 * 200 / 240 and high_end > (3.5 * 200 + 400) / 240
-    share = share_of(50, 100, 20)
+    share = intervals.share_of(50, 100, 20)
     assert (share.mean, share.low) == (50 / 80, probability(50, 100)[0])
     assert share.high == probability(70, 100)[1]
 
 
 def test_a_difference_of_pairs_by_hand() -> None:
     # Without a pair that differs, that of none of many on either side.
-    none = difference_of_pairs(0, 0, 1_000)
+    none = intervals.difference_of_pairs(0, 0, 1_000)
     assert none.high == pytest.approx(probability(0, 1_000)[1], rel=0.01)
     low, high = ends_of(none)
     assert low == -high
     # Else by the quantiles under random weights, as of any values.
-    found = difference_of_pairs(12, 2, 50)
+    found = intervals.difference_of_pairs(12, 2, 50)
     draws = numpy.random.default_rng(2).dirichlet([2, 36, 12, 1], 400_000)
     assert found.mean == pytest.approx(10 / 50)
     assert found.high == pytest.approx(numpy.quantile(draws @ [-1, 0, 1, 1], 0.975), rel=0.01)
@@ -177,14 +161,14 @@ def test_a_difference_of_pairs_by_hand() -> None:
 
 def test_a_difference_of_shares_in_batches() -> None:
     one, other = (Sums(sums, [50] * 40, ZERO_ONE) for sums in ([3, 2] * 20, [2, 2] * 20))
-    found = difference_of_batches(one, other)
-    pairs = difference_of_pairs(20, 0, 2_000)
+    found = intervals.difference_of_batches(one, other)
+    pairs = intervals.difference_of_pairs(20, 0, 2_000)
     assert found.mean == pytest.approx(20 / 2_000)
     (low, high), (least, most) = ends_of(found), ends_of(pairs)
     assert low <= least < most <= high
-    same = difference_of_batches(one, one)
+    same = intervals.difference_of_batches(one, one)
     assert same.mean == 0 and same.high == pytest.approx(probability(0, 2_000)[1], rel=0.01)
-    wide = difference_of_batches(one, Sums(other.sums, [45] * 40, ZERO_ONE, [5] * 40))
+    wide = intervals.difference_of_batches(one, Sums(other.sums, [45] * 40, ZERO_ONE, [5] * 40))
     # The five of each batch that aren't coupled count as 1 below and as 0 above.
     assert wide.low == pytest.approx((100 - 80 - 200) / 2_000, abs=0.01)
     assert wide.high == pytest.approx((100 - 80) / 2_000, abs=0.01)
@@ -192,8 +176,8 @@ def test_a_difference_of_shares_in_batches() -> None:
 
 def test_samples_that_carry_a_mean() -> None:
     # Ten of ten thousand have the whole sum: an error of 1 / 10 ** 0.5 of the mean.
-    assert carriers(1.0, 10**-0.5, 10_000, 0) == pytest.approx(10, rel=0.01)
-    assert carriers(5.0, 0.0, 100, 0) == 100
+    assert intervals.carriers(1.0, 10**-0.5, 10_000, 0) == pytest.approx(10, rel=0.01)
+    assert intervals.carriers(5.0, 0.0, 100, 0) == 100
 
 
 def test_an_interval_is_shown_by_both_ends_where_it_is_not_even() -> None:

@@ -2,15 +2,15 @@
 
 import collections
 import json
-from pathlib import Path
 import shutil
 from collections.abc import Callable, Iterable
+from pathlib import Path
 from typing import Any
 
 import numpy
 import pandas
 import pytest
-from conftest import Psi, Tool, desk
+from conftest import Psi, Tool, desk, out_of
 from scipy.stats import binom
 from solving import birth_and_death, law_of
 
@@ -77,12 +77,10 @@ def test_the_solved_law_is_in_most_intervals(psi: Psi, network: Network) -> None
 
 def test_forms_and_pictures(tool: Tool, tmp_path: Path, net: str) -> None:
     words = (net, "far", "--count", "500")
-    status, out, error = tool("psi-law", *words, "--picture", "law.svg")
-    assert (status, error) == (0, "")
+    out = out_of(tool("psi-law", *words, "--picture", "law.svg"))
     assert out.startswith("far: 500 samples, streams 0 to 499 of seed 0; intervals of 95 %\n")
     assert (tmp_path / "law.svg").read_text().startswith("<?xml")
-    status, out, _ = tool("psi-law", *words, "--format", "csv", "-o", "law.csv")
-    assert (status, out) == (0, "")
+    assert out_of(tool("psi-law", *words, "--format", "csv", "-o", "law.csv")) == ""
     lines = (tmp_path / "law.csv").read_text().splitlines()
     assert sum(int(line.split(",")[1]) for line in lines[1:]) == 500
     found = reported(tool, *words)
@@ -90,9 +88,7 @@ def test_forms_and_pictures(tool: Tool, tmp_path: Path, net: str) -> None:
 
 
 def test_streams_that_are_not_coupled_are_told_first(tool: Tool, short: str) -> None:
-    status, out, _ = tool("psi-law", short, "near", "--count", "200")
-    assert status == 0
-    assert out.startswith("NOT COUPLED: ")
+    assert out_of(tool("psi-law", short, "near", "--count", "200")).startswith("NOT COUPLED: ")
 
 
 RARE = (
@@ -182,15 +178,13 @@ def test_a_condition_is_counted_over_the_states(psi: Psi, tool: Tool, net: str, 
 
 
 def test_several_names_and_conditions_as_texts(psi: Psi, tool: Tool, net: str, network: Network) -> None:
-    status, out, error = tool("psi-law", net, "near", "cost", "--count", 200)
-    assert (status, error) == (0, "")
-    head, columns, *rows = out.splitlines()
+    head, columns, *rows = out_of(tool("psi-law", net, "near", "cost", "--count", 200)).splitlines()
     assert head == "queue.near, reward.cost: 200 samples, streams 0 to 199 of seed 0; intervals of 95 %"
     assert columns.split() == ["queue.near", "reward.cost", "samples", "probability", "from", "to"]
     near = psi.samples(network, count=200)[:, 0].tolist()
     wanted = joined((number, [5, 0, 0, 7][number]) for number in near)
     assert {(int(row.split()[0]), int(row.split()[1])): int(row.split()[2]) for row in rows} == wanted
-    status, out, _ = tool("psi-law", net, "near", "cost", "--count", 200, "--format", "csv")
+    out = out_of(tool("psi-law", net, "near", "cost", "--count", 200, "--format", "csv"))
     lines = [line.split(",") for line in out.splitlines()]
     assert lines[0] == ["queue.near", "reward.cost", "count", "probability", "low", "high"]
     assert {(int(line[0]), int(line[1])): int(line[2]) for line in lines[1:]} == wanted
@@ -198,8 +192,7 @@ def test_several_names_and_conditions_as_texts(psi: Psi, tool: Tool, net: str, n
     assert (found["names"], found["samples"], found["unknown"]) == (["queue.near", "reward.cost"], 200, 0)
     assert {(each["queue.near"], each["reward.cost"]): each["count"] for each in found["values"]} == wanted
     where = "near == 0"
-    status, out, _ = tool("psi-law", net, "--where", where, "--count", 200)
-    head, columns, row = out.splitlines()
+    head, columns, row = out_of(tool("psi-law", net, "--where", where, "--count", 200)).splitlines()
     assert head == "near == 0: 200 samples, streams 0 to 199 of seed 0; intervals of 95 %"
     assert (columns.split()[0], int(row.split()[0])) == ("samples", near.count(0))
 
@@ -218,9 +211,9 @@ def test_streams_that_are_not_coupled_widen_probabilities(psi: Psi, tool: Tool, 
         both = psi.law(network, ["near", "far"], count=200)
     assert int(both["count"].sum()) == 200 - lost
     for words in (("near", "far"), ("--where", "near == 0")):
-        status, out, error = tool("psi-law", short, *words, "--count", "200")
-        assert (status, error) == (0, "")
-        assert out.startswith(f"NOT COUPLED: {lost} of 200 streams; ")
+        assert out_of(tool("psi-law", short, *words, "--count", "200")).startswith(
+            f"NOT COUPLED: {lost} of 200 streams; "
+        )
         status, out, error = tool("psi-law", short, *words, "--count", "200", "--format", "csv")
         assert (status, error.startswith(f"psi-law: NOT COUPLED: {lost} of 200 streams; ")) == (0, True)
 

@@ -1,8 +1,8 @@
 """psi-many: what it tells on standard error, folders that are enlarged, and disks without room."""
 
 import os
-from pathlib import Path
 import re
+from pathlib import Path
 
 import pytest
 from conftest import Tool, companion, example, is_refused, limited, lines_of, printed_by, scripted

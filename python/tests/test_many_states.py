@@ -1,10 +1,10 @@
 """psi-many --states: tables of samples in blocks, which are checked, kept, and drawn on from where they stopped."""
 
 import os
-from pathlib import Path
 import shutil
 import signal
 from collections.abc import Sequence
+from pathlib import Path
 
 import pytest
 from conftest import Started, Tool, example, is_refused, limited, lines_of, printed_by, scripted, wait_for

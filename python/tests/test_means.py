@@ -5,7 +5,7 @@ from pathlib import Path
 from typing import Any
 
 import pytest
-from conftest import Tool, example, is_refused
+from conftest import Tool, example, is_refused, out_of
 
 from tests.support import report_of
 
@@ -45,9 +45,7 @@ def rows_of(tool: Tool, *words: object) -> list[dict[str, Any]]:
 
 
 def test_text_and_json(tool: Tool, blocks: list[Path]) -> None:
-    status, out, error = tool("psi-means", "kept")
-    assert (status, error) == (0, "")
-    assert out.startswith("2,000 samples in ")
+    assert out_of(tool("psi-means", "kept")).startswith("2,000 samples in ")
     assert [row["name"] for row in rows_of(tool, "kept") if row["item"] == "mean"] == ["jobs", "broken"]
 
 
@@ -70,6 +68,7 @@ def test_a_network_tells_what_is_not_coupled(tool: Tool, tmp_path: Path) -> None
     assert {row["low"] for row in alone["rows"] if row["item"].endswith("mean")} == {None}
     known = tool("psi-means", *blocks, "--net", SHORT, "--format", "json")
     assert known == tool("psi-means", "short", "--format", "json")
+    assert out_of(tool("psi-means", "short")).startswith("NOT COUPLED: 585 of 1,000 streams; ")
     for row in json.loads(known[1])["rows"]:
         if row["item"].endswith("mean"):
             assert row["low"] < row["mean"] < row["high"]
@@ -82,9 +81,7 @@ def test_a_wider_level_is_wider(tool: Tool, blocks: list[Path]) -> None:
 
 
 def test_too_few_batches(tool: Tool, blocks: list[Path]) -> None:
-    status, out, error = tool("psi-means", *blocks[:19])
-    assert (status, out) == (2, "")
-    assert error.startswith("psi-means: there are 19 batches, and 20 are wanted")
+    assert is_refused(tool("psi-means", *blocks[:19]), "psi-means: there are 19 batches, and 20 are wanted")
 
 
 def test_blocks_that_are_changed_or_of_another_network(tool: Tool, tmp_path: Path, blocks: list[Path]) -> None:
@@ -96,13 +93,6 @@ def test_blocks_that_are_changed_or_of_another_network(tool: Tool, tmp_path: Pat
     blocks[3].unlink()
     status, out, _ = tool("psi-means", "kept")
     assert (status, out.split(":")[0]) == (0, "NOT WHOLE") or status == 2
-
-
-def test_what_is_not_coupled_comes_first(tool: Tool) -> None:
-    tool("psi-many", SHORT, 0, 0, 1_000, "--folder", "short")
-    status, out, _ = tool("psi-means", "short")
-    assert status == 0
-    assert out.startswith("NOT COUPLED: 585 of 1,000 streams; ")
 
 
 def test_a_picture_with_intervals(tool: Tool, tmp_path: Path, blocks: list[Path]) -> None:

@@ -1,8 +1,8 @@
 """The module psi: what it gives is what the program prints."""
 
-from pathlib import Path
 import tomllib
 import warnings
+from pathlib import Path
 
 import pytest
 from conftest import TOP, Psi, desk, example, printed_by
@@ -35,23 +35,9 @@ def test_a_network_built_in_python_is_that_of_its_file(psi: Psi, program: str, t
     assert "limit 12" in psi.check(net)
 
 
-def test_samples_are_the_programs(psi: Psi, program: str) -> None:
-    file = example("tandem-blocking")
-    states = psi.samples(file, 1, 7, 20)
-    assert states.shape == (20, 3)
-    for stream, state in enumerate(states.tolist(), 7):
-        wanted = f"state {','.join(map(str, state))}\n"
-        assert printed_by(program, "sample", file, 1, stream).endswith(wanted)
-
-
 def test_streams_that_are_not_coupled(psi: Psi) -> None:
-    file = example("short-past")
-    with pytest.raises(psi.NotCoupled):
-        psi.samples(file, 0, 0, 100)
-    states = psi.samples(file, 0, 0, 100, keep=True)
-    assert 0 < (states == -1).sum() < 100
     with pytest.warns(psi.Uncoupled):
-        psi.report(file, 0, 0, 100)
+        psi.report(example("short-past"), 0, 0, 100)
     with warnings.catch_warnings():
         warnings.simplefilter("error")
         psi.report(example("first"), 0, 0, 100)
@@ -68,7 +54,7 @@ def test_a_log_certifies_its_state(psi: Psi, program: str) -> None:
     assert len(psi.draw_log(log, file).axes) == 5
 
 
-def test_a_picture_of_a_log_leaves_the_process_as_it_was(psi: Psi, monkeypatch: pytest.MonkeyPatch) -> None:
+def test_a_picture_of_a_log_leaves_the_process_as_it_was(psi: Psi) -> None:
     import logging
 
     import matplotlib

@@ -3,11 +3,11 @@
 import itertools
 import math
 import os
-from pathlib import Path
 import re
 import sys
 import tomllib
 import xml.etree.ElementTree
+from pathlib import Path
 from typing import Any
 
 import pytest

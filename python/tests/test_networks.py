@@ -1,8 +1,8 @@
 """Networks: files go to psi as they are, and no number is changed without a word."""
 
-from pathlib import Path
 from decimal import Decimal
 from fractions import Fraction
+from pathlib import Path
 
 import numpy
 import pytest
@@ -84,25 +84,15 @@ def test_rates_are_made_whole() -> None:
 
 
 @pytest.mark.parametrize(
-    "named",
-    [
-        {"count": 0},
-        {"count": 1e3},
-        {"count": True},
-        {"seed": -1},
-        {"seed": 2**64},
-        {"first": -1},
-        {"first": 2**64 - 1, "count": 2},
-        {"count": "10"},
-        {"count": None},
-    ],
+    "name, value",
+    [*(("count", value) for value in (0, 1e3, True, "10", None)), *(("seed", value) for value in (-1, 2**64))]
+    + [("first", -1), ("first", 2**64 - 1)],
 )
-def test_arguments_of_streams(psi: Psi, named: dict[str, object]) -> None:
-    name = next(iter(named))
+def test_arguments_of_streams(psi: Psi, name: str, value: object) -> None:
     calls = psi.report, psi.means, psi.samples, lambda net, **more: psi.law(net, "desk", **more)
     for call in calls:
         with pytest.raises(ValueError, match=f"^{name} is .*; a whole number from ") as fault:
-            call(desk(), **named)
+            call(desk(), **{"count": 2, name: value})
         assert isinstance(fault.value, psi.PsiError)
 
 

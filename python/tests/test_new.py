@@ -1,8 +1,8 @@
 """psi-new: each kind is a file that psi takes, and means what it says."""
 
-from pathlib import Path
 import shutil
 from fractions import Fraction
+from pathlib import Path
 
 import pytest
 from conftest import TOP, Psi, Tool, ended, match_in
@@ -54,14 +54,11 @@ def test_a_kind_is_a_network_that_couples(tool: Tool, tmp_path: Path, psi: Psi, 
 
 
 def test_erlangs_formula(tool: Tool, tmp_path: Path) -> None:
-    net = made(tool, tmp_path, "erlang-loss", KIND_WORDS["erlang-loss"])
-    assert means_of(net)[1]["lost"] == pytest.approx(erlang_b(12, 7.5))
-
-
-def test_more_than_64_servers_are_the_same_queue(tool: Tool, tmp_path: Path) -> None:
-    net = made(tool, tmp_path, "erlang-loss", "--arrival 95 --service 1 --servers 100")
-    assert net.version() == 2
-    assert means_of(net)[1]["lost"] == pytest.approx(erlang_b(100, 95))
+    """More than 64 servers, which want version 2, are the same queue."""
+    for load, servers, version in ((7.5, 12, 1), (95, 100, 2)):
+        net = made(tool, tmp_path, "erlang-loss", f"--arrival {load} --service 1 --servers {servers}")
+        assert net.version() == version
+        assert means_of(net)[1]["lost"] == pytest.approx(erlang_b(servers, load))
 
 
 def test_the_mean_of_a_single_server(tool: Tool, tmp_path: Path) -> None:

@@ -6,11 +6,11 @@ import hashlib
 import html.parser
 import json
 import os
-from pathlib import Path
 import re
 import shutil
 import tomllib
 from collections.abc import Callable, Iterator
+from pathlib import Path
 from typing import TYPE_CHECKING, Any
 
 import numpy

@@ -1,7 +1,7 @@
 """psi-plot past: the runs are those of a plain walk, end as psi says, and the picture shows each of them."""
 
-from pathlib import Path
 import tomllib
+from pathlib import Path
 
 import pytest
 from conftest import Tool, example, svg_ids

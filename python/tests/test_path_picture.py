@@ -1,7 +1,7 @@
 """psi-plot path: the states are those of a plain walk, the sums those of psi_paths, and the picture shows them."""
 
-from pathlib import Path
 import tomllib
+from pathlib import Path
 
 import pytest
 from conftest import Tool, example

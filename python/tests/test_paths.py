@@ -1,8 +1,8 @@
 """Tables of paths: psi.paths, beside the plain program, and psi.states where a path has no step."""
 
-from pathlib import Path
 import tomllib
 import warnings
+from pathlib import Path
 
 import pandas
 import pytest

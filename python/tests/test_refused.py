@@ -1,10 +1,10 @@
 """Each file of the cases that psi refuses is refused by every tool that reads networks, by one
 line; and an answer that fits on no disk is told. The tools are called in this process."""
 
-from pathlib import Path
 import re
 import signal
 from collections.abc import Iterator
+from pathlib import Path
 
 import pytest
 from conftest import Tool, example, limited

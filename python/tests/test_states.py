@@ -1,11 +1,11 @@
 """Tables of samples: psi.states, and what psi.samples and psi.closed take of them, beside psi itself."""
 
 import functools
-from pathlib import Path
 import re
 import shutil
 import warnings
 from collections.abc import Callable
+from pathlib import Path
 from typing import Any
 
 import numpy

@@ -1,11 +1,12 @@
 """psi-sweep: the same words choose the same events, and differences are told by few samples."""
 
+import csv
 import json
 from pathlib import Path
 from typing import Any
 
 import pytest
-from conftest import Tool, is_refused
+from conftest import Tool, is_refused, out_of
 from solving import birth_and_death, means_of
 
 from psi_tools.model.designs import aligned, common_events, designs_of, check_bounds
@@ -34,9 +35,8 @@ def times_of(folder: Path) -> dict[Path, int]:
 
 
 def rows_of(tool: Tool, net: str, *words: object) -> list[dict[str, Any]]:
-    status, out, error = tool("psi-sweep", net, *words, "--format", "json")
-    assert (status, error) == (0, "")
-    rows: list[dict[str, Any]] = json.loads(out)["rows"]
+    """The rows of an answer in JSON."""
+    rows: list[dict[str, Any]] = json.loads(out_of(tool("psi-sweep", net, *words, "--format", "json")))["rows"]
     return rows
 
 
@@ -171,11 +171,8 @@ def test_a_sweep_of_servers_is_refused_where_guards_go_by_them(tool: Tool, tmp_p
     for servers in (3, 4):
         words = ("abandonment", *ABANDONMENT, "--servers", servers, "-o", f"{servers}.toml")
         assert tool("psi-new", *words)[0] == 0
-    status, out, error = tool("psi-sweep", "3.toml", "calls.servers=3,4")
-    assert (status, out) == (2, "")
-    assert error.startswith(
-        "psi-sweep: least = 4 of event give-up-1 goes by calls and would stay as it is while calls.servers differs: "
-    ), error
+    refusal = "least = 4 of event give-up-1 goes by calls and would stay as it is while calls.servers differs: "
+    assert is_refused(tool("psi-sweep", "3.toml", "calls.servers=3,4"), f"psi-sweep: {refusal}")
     assert tool("psi-sweep", "3.toml", "calls.servers=3,4", "--anyway", "--count", "100")[0] == 0
     # The files as they are have what the formula says.
     found = rows_of(tool, "3.toml", "4.toml", "--count", "20000")
@@ -214,11 +211,10 @@ PARTS = {
 @pytest.mark.parametrize("part", PARTS)
 def test_what_goes_by_a_queue_is_named(tool: Tool, tmp_path: Path, part: str, key: str) -> None:
     (tmp_path / "net.toml").write_text(GUARDED + PARTS[part])
-    values = {"servers": "2,3", "capacity": "5,6"}[key]
-    status, out, error = tool("psi-sweep", "net.toml", f"a.{key}={values}")
-    assert (status, out) == (2, "") and error.startswith(f"psi-sweep: {part} "), error
-    assert f"while a.{key} differs" in error
-    status, _, error = tool("psi-sweep", "net.toml", f"a.{key}={values}", "--anyway", "--count", 40)
+    call = "psi-sweep", "net.toml", f"a.{key}={'2,3' if key == 'servers' else '5,6'}"
+    end = tool(*call)
+    assert is_refused(end, f"psi-sweep: {part} ") and f"while a.{key} differs" in end[2], end
+    status, _, error = tool(*call, "--anyway", "--count", 40)
     assert status == 0, error
     # A rate may differ all the same.
     assert tool("psi-sweep", "net.toml", "in.rate=2,3", "--count", "40")[0] == 0
@@ -281,12 +277,7 @@ def test_a_folder_has_one_size_of_blocks(tool: Tool, tmp_path: Path, net: str) -
 
 def test_both_ends_are_in_csv_and_text(tool: Tool, net: str) -> None:
     words = ("calls.capacity=11,12", "full.level=10,11", "--together", "--count", "400")
-    status, out, error = tool("psi-sweep", net, *words, "--format", "csv")
-    assert (status, error) == (0, "")
-    head = out.splitlines()[0].split(",")
-    assert {"low", "high", "difference_low", "difference_high"} <= {*head}
-    for line in out.splitlines()[1:]:
-        row = dict(zip(head, line.split(",")))
+    for row in csv.DictReader(out_of(tool("psi-sweep", net, *words, "--format", "csv")).splitlines()):
         assert float(row["low"]) <= float(row["mean"]) <= float(row["high"])
         ends = float(row["difference_low"]), float(row["difference_high"])
         assert ends[0] <= float(row["difference"]) <= ends[1]
@@ -295,6 +286,5 @@ def test_both_ends_are_in_csv_and_text(tool: Tool, net: str) -> None:
 
 
 def test_rewards_that_are_not_told_may_go_by_the_queue(tool: Tool, net: str) -> None:
-    words = (net, "calls.capacity=11,12", "--count", "400")
-    assert tool("psi-sweep", *words)[0] == 2
-    assert tool("psi-sweep", *words, "--of", "calls")[0] == 0
+    for more, status in ((), 2), (("--of", "calls"), 0):
+        assert tool("psi-sweep", net, "calls.capacity=11,12", "--count", "400", *more)[0] == status

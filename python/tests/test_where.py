@@ -1,8 +1,8 @@
 """psi-where: the line of each faulty file, and the guide's sentences."""
 
-from pathlib import Path
 import re
 from collections.abc import Iterator
+from pathlib import Path
 
 import pytest
 from conftest import TOP, Tool, example

@@ -1,8 +1,8 @@
 """psi-why: what keeps states apart is found, and what doesn't isn't."""
 
 import json
-from pathlib import Path
 import tomllib
+from pathlib import Path
 
 import pytest
 from conftest import TOP, Psi, Tool, example

@@ -2,10 +2,10 @@
 
 import concurrent.futures
 import os
-from pathlib import Path
 import re
 import shutil
 from collections.abc import Sequence
+from pathlib import Path
 
 import pytest
 from conftest import TOP, Tool, ended, example, match_in
