@@ -8,6 +8,8 @@
     net.event("serve", "service", rate=5, source="desk")
     psi.means(net, seed=0, first=0, count=10_000)
 
+The examples of each call assume `import psi`.
+
 Everything comes from the built program: crates/psi/out/psi, or psi on the PATH, or the `Program` that
 a call is handed. A network is a `Network`, or the path of its file. Seeds and streams are 0 to
 2^64 - 1; the sample of a network, a seed and a stream is always the same. What goes wrong is a
@@ -29,37 +31,11 @@ from psi_tools.errors import ArgumentError, InputError, PsiError, Refused
 from psi_tools.io.exact import Shrinking
 from psi_tools.model.networks import Network
 
-__all__ = [
-    "ArgumentError",
-    "Coalescence",
-    "FewSamples",
-    "InputError",
-    "Network",
-    "NotCoupled",
-    "Probability",
-    "Program",
-    "PsiError",
-    "Refused",
-    "RewardValue",
-    "Shrinking",
-    "Uncoupled",
-    "__version__",
-    "check",
-    "closed",
-    "couple",
-    "draw_log",
-    "exact",
-    "law",
-    "log",
-    "means",
-    "paths",
-    "probability",
-    "replay",
-    "report",
-    "reward",
-    "samples",
-    "states",
-]
+# Networks and the program, results, what can go wrong, and calls.
+__all__ = ["Network", "Program", "__version__", "Coalescence", "Probability", "RewardValue", "Shrinking"]
+__all__ += ["ArgumentError", "FewSamples", "InputError", "NotCoupled", "PsiError", "Refused", "Uncoupled"]
+__all__ += ["check", "closed", "couple", "draw_log", "exact", "law", "log", "means", "paths", "probability"]
+__all__ += ["replay", "report", "reward", "samples", "states"]
 
 # Names of the release before, which stay for one more.
 _RENAMED: dict[str, type] = {"Psi": Program, "Told": PsiError, "WrongArgument": ArgumentError}

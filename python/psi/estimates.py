@@ -1,5 +1,6 @@
 """Reports, means and distributions over many samples, as DataFrames."""
 
+import functools
 import warnings
 from collections.abc import Sequence
 from typing import Any
@@ -42,7 +43,6 @@ def check(net: Source, *, program: Program | None = None) -> str:
 
     Examples
     --------
-    >>> import psi
     >>> net = psi.Network().queue("desk", capacity=10)
     >>> net = net.event("come", "arrival", rate=4, to=["desk"])
     >>> net = net.event("serve", "service", rate=5, source="desk")
@@ -61,10 +61,8 @@ def report(
     ----------
     net : Network or path
         A network, or the path of its file.
-    seed : int
-        The seed, 0 to 2^64 - 1. The sample of a network, a seed and a stream is always the same.
-    first : int
-        The first stream, 0 to 2^64 - 1.
+    seed, first : int
+        The seed and the first stream, 0 to 2^64 - 1. The sample of a network, a seed and a stream is always the same.
     count : int
         The number of streams, at least 1; there may be more than 65,536.
     program : Program, optional
@@ -91,7 +89,6 @@ def report(
 
     Examples
     --------
-    >>> import psi
     >>> net = psi.Network().queue("desk", capacity=10)
     >>> net = net.event("come", "arrival", rate=4, to=["desk"])
     >>> net = net.event("serve", "service", rate=5, source="desk")
@@ -100,10 +97,7 @@ def report(
     200
     """
     seed, first, count = streams_of(seed, first, count)
-    reports = drawn(resolved(program), data_of(net), seed, first, count)
-    whole = reports[0]
-    for other in reports[1:]:
-        whole = together(whole, other)
+    whole = functools.reduce(together, drawn(resolved(program), data_of(net), seed, first, count))
     warn_uncoupled(whole.samples - whole.met, whole.samples)
     rows = [line.split(",") for line in whole.text().decode().splitlines()[1:]]
     table = pandas.DataFrame(rows, columns=["item", "name", "value"])
@@ -170,7 +164,6 @@ def means(
 
     Examples
     --------
-    >>> import psi
     >>> net = psi.Network().queue("desk", capacity=10)
     >>> net = net.event("come", "arrival", rate=4, to=["desk"])
     >>> net = net.event("serve", "service", rate=5, source="desk")
@@ -264,7 +257,6 @@ def law(
 
     Examples
     --------
-    >>> import psi
     >>> net = psi.Network().queue("desk", capacity=10).queue("till", capacity=2)
     >>> net = net.event("come", "arrival", rate=4, to=["desk"])
     >>> net = net.event("serve", "service", rate=5, source="desk", to=["till"], full="stay")
@@ -350,7 +342,6 @@ def probability(
 
     Examples
     --------
-    >>> import psi
     >>> net = psi.Network().queue("desk", capacity=10).queue("till", capacity=2)
     >>> net = net.event("come", "arrival", rate=4, to=["desk"])
     >>> net = net.event("serve", "service", rate=5, source="desk", to=["till"], full="stay")

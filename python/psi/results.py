@@ -1,7 +1,5 @@
 """Results, exceptions and warnings of the module."""
 
-from __future__ import annotations
-
 import html
 from typing import NamedTuple
 

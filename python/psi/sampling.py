@@ -56,7 +56,6 @@ def couple(net: Source, seed: int, stream: int, *, program: Program | None = Non
 
     Examples
     --------
-    >>> import psi
     >>> net = psi.Network().queue("desk", capacity=10)
     >>> net = net.event("come", "arrival", rate=4, to=["desk"])
     >>> net = net.event("serve", "service", rate=5, source="desk")
@@ -99,7 +98,6 @@ def reward(net: Source, seed: int, stream: int, name: str, *, program: Program |
 
     Examples
     --------
-    >>> import psi
     >>> net = psi.Network().queue("desk", capacity=10)
     >>> net = net.event("come", "arrival", rate=4, to=["desk"])
     >>> net = net.event("serve", "service", rate=5, source="desk")
@@ -141,7 +139,6 @@ def exact(net: Source, seed: int, stream: int, exponent: int, *, program: Progra
 
     Examples
     --------
-    >>> import psi
     >>> net = psi.Network().queue("desk", capacity=10)
     >>> net = net.event("come", "arrival", rate=4, to=["desk"])
     >>> net = net.event("serve", "service", rate=5, source="desk")
@@ -182,7 +179,6 @@ def log(net: Source, seed: int, stream: int, *, program: Program | None = None) 
 
     Examples
     --------
-    >>> import psi
     >>> net = psi.Network().queue("desk", capacity=10)
     >>> net = net.event("come", "arrival", rate=4, to=["desk"])
     >>> net = net.event("serve", "service", rate=5, source="desk")
@@ -218,7 +214,6 @@ def replay(net: Source, log: str, *, program: Program | None = None) -> Coalesce
 
     Examples
     --------
-    >>> import psi
     >>> net = psi.Network().queue("desk", capacity=10)
     >>> net = net.event("come", "arrival", rate=4, to=["desk"])
     >>> net = net.event("serve", "service", rate=5, source="desk")
@@ -256,7 +251,6 @@ def draw_log(log: str, net: Source | None = None, title: str = "") -> "Figure":
 
     Examples
     --------
-    >>> import psi
     >>> net = psi.Network().queue("desk", capacity=10)
     >>> net = net.event("come", "arrival", rate=4, to=["desk"])
     >>> net = net.event("serve", "service", rate=5, source="desk")

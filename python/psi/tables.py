@@ -36,10 +36,8 @@ def samples(
     ----------
     net : Network or path
         A network, or the path of its file.
-    seed : int
-        The seed, 0 to 2^64 - 1. The sample of a network, a seed and a stream is always the same.
-    first : int
-        The first stream, 0 to 2^64 - 1.
+    seed, first : int
+        The seed and the first stream, 0 to 2^64 - 1. The sample of a network, a seed and a stream is always the same.
     count : int
         The number of streams, at least 1.
     keep : bool
@@ -66,7 +64,6 @@ def samples(
 
     Examples
     --------
-    >>> import psi
     >>> net = psi.Network().queue("desk", capacity=10)
     >>> net = net.event("come", "arrival", rate=4, to=["desk"])
     >>> net = net.event("serve", "service", rate=5, source="desk")
@@ -123,7 +120,6 @@ def closed(
 
     Examples
     --------
-    >>> import psi
     >>> ring = psi.Network().queue("a", capacity=3).queue("b", capacity=3)
     >>> ring = ring.event("go", "service", rate=1, source="a", to=["b"], full="stay")
     >>> ring = ring.event("back", "service", rate=2, source="b", to=["a"], full="stay")
@@ -149,10 +145,8 @@ def states(
     ----------
     net : Network or path
         A network, or the path of its file.
-    seed : int
-        The seed, 0 to 2^64 - 1. The sample of a network, a seed and a stream is always the same.
-    first : int
-        The first stream, 0 to 2^64 - 1.
+    seed, first : int
+        The seed and the first stream, 0 to 2^64 - 1. The sample of a network, a seed and a stream is always the same.
     count : int
         The number of streams, at least 1.
     total : int, optional
@@ -184,7 +178,6 @@ def states(
 
     Examples
     --------
-    >>> import psi
     >>> net = psi.Network().queue("desk", capacity=10).queue("till", capacity=5)
     >>> net = net.event("come", "arrival", rate=4, to=["desk"])
     >>> net = net.event("serve", "service", rate=5, source="desk", to=["till"], full="stay")
@@ -224,10 +217,8 @@ def paths(
     ----------
     net : Network or path
         A network, or the path of its file.
-    seed : int
-        The seed, 0 to 2^64 - 1. The path of a network, a seed and a stream is always the same.
-    first : int
-        The first stream, 0 to 2^64 - 1.
+    seed, first : int
+        The seed and the first stream, 0 to 2^64 - 1. The path of a network, a seed and a stream is always the same.
     count : int
         The number of streams, at least 1: one path each.
     steps : int
@@ -267,7 +258,6 @@ def paths(
 
     Examples
     --------
-    >>> import psi
     >>> net = psi.Network().queue("desk", capacity=10)
     >>> net = net.event("come", "arrival", rate=4, to=["desk"])
     >>> net = net.event("serve", "service", rate=5, source="desk")

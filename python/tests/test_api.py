@@ -44,7 +44,7 @@ def test_the_examples_run(
         companion(program, f"psi_{name}")
     monkeypatch.setenv("PATH", environment["PATH"])
     runner = doctest.DocTestRunner(optionflags=doctest.REPORT_NDIFF)
-    tests = doctest.DocTestFinder().find(getattr(module, name), name)
+    tests = doctest.DocTestFinder().find(getattr(module, name), name, globs={"psi": module})
     assert sum(len(test.examples) for test in tests) > 0
     for test in tests:
         runner.run(test)

@@ -138,10 +138,8 @@ def zsh_arguments(name: str, parser: argparse.ArgumentParser) -> str:
     for place, args in WORDS.get(name, {}).items():
         specs.append(f"'{place}:what:({' '.join(args)})'")
     for place, sections in SECTIONS.get(name, {}).items():
-        found = NAMES_OF % (sections, "$line[1]")
-        found = found.replace("'", "'\\''")
-        specs.append("'1:file:_files'")
-        specs.append(f"'*:name:{{compadd - $({found.replace('$line[1]', '$words[2]')})}}'")
+        found = (NAMES_OF % (sections, "$words[2]")).replace("'", "'\\''")
+        specs += ["'1:file:_files'", f"'*:name:{{compadd - $({found})}}'"]
     if name not in SECTIONS:
         specs.append("'*:file:_files'")
     return "_arguments -s \\\n    " + " \\\n    ".join(specs) + "\n"

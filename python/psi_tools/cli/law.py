@@ -120,17 +120,6 @@ def answer_of(found: Found, args: argparse.Namespace) -> str:
     return tables.as_json({"name": found.name, **drawn, "mean": ends, "values": records, "quantiles": quantiles})
 
 
-def certificates_of(net: Network, args: argparse.Namespace, law: Law) -> str:
-    """The certificates of a guaranteed distribution, as JSON."""
-    from psi_tools.draw.blocks import digest_of
-    from psi_tools.stats.guaranteed import GuaranteedLaw, file_of
-
-    assert isinstance(law, GuaranteedLaw)
-    pilot = law.pilot and {"first": law.pilot.first, "count": law.pilot.count}
-    streams = {"seed": args.seed, "first": args.first, "count": args.count}
-    return tables.as_json(file_of([law.row], {"network": digest_of(net.data), **streams, "pilot": pilot}))
-
-
 def check_args(args: argparse.Namespace) -> None:
     """Refuses options that don't fit together, and files that can't be written."""
     check_last_stream(args)
@@ -152,7 +141,14 @@ def write_files(law: Law, net: Network, args: argparse.Namespace) -> None:
 
         write([saved(draw_law(law, ""), args.picture.rpartition(".")[2].lower())], args.picture)
     if args.certificate:
-        write(certificates_of(net, args, law), args.certificate)
+        from psi_tools.draw.blocks import digest_of
+        from psi_tools.stats.guaranteed import GuaranteedLaw, file_of
+
+        assert isinstance(law, GuaranteedLaw)
+        pilot = law.pilot and {"first": law.pilot.first, "count": law.pilot.count}
+        streams = {"seed": args.seed, "first": args.first, "count": args.count}
+        of = {"network": digest_of(net.data), **streams, "pilot": pilot}
+        write(tables.as_json(file_of([law.row], of)), args.certificate)
 
 
 def work(arguments: list[str]) -> int:

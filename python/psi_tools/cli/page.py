@@ -1,7 +1,5 @@
 """psi-page: one HTML file in which the runs of a sample are stepped through in a browser."""
 
-from __future__ import annotations
-
 import pathlib
 import tempfile
 from typing import Any

@@ -71,17 +71,10 @@ def interval_shown(mean: Mean) -> str:
     return f"± {figures(mean.half, mean.half)}" if mean.is_even else " to ".join(ends_shown(mean))
 
 
-def text_of(
-    args: argparse.Namespace,
-    compared: Comparison,
-    records: list[RecordOfDesign],
-    notes: list[str],
-    lines_below: list[str],
-) -> str:
-    """The answer for people."""
+def lines_of(args: argparse.Namespace, compared: Comparison, records: list[RecordOfDesign]) -> list[str]:
+    """The lines of the answer for people."""
     last, many = args.first + args.count - 1, len(compared.labels)
-    lines = [*notes]
-    lines.append(f"streams {args.first} to {last} of seed {args.seed} for each of {many} designs; intervals of 95 %")
+    lines = [f"streams {args.first} to {last} of seed {args.seed} for each of {many} designs; intervals of 95 %"]
     if compared.scale > 1:
         lines.append(f"all rates are multiplied by {compared.scale:,}, so that they are whole")
     rows = [("", "", "mean", "", "difference", "")]
@@ -93,8 +86,7 @@ def text_of(
         name = "" if design else record["name"]
         shown = figures(mean.mean, mean.half), interval_shown(mean)
         rows.append((name, compared.labels[design], *shown, *change))
-    lines += tables.aligned(rows, right=(2, 4))
-    return tables.ended([*lines, *lines_below])
+    return [*lines, *tables.aligned(rows, right=(2, 4))]
 
 
 def answer_of(
@@ -102,7 +94,7 @@ def answer_of(
 ) -> str:
     """The answer in the form that is asked."""
     if args.format == "text":
-        return text_of(args, compared, records, notes, below)
+        return tables.ended([*notes, *lines_of(args, compared, records), *below])
     plain = [record for record, _, _ in records]
     if args.format == "csv":
         return tables.as_csv(plain)

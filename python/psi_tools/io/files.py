@@ -71,18 +71,12 @@ def mode_of(target: str) -> int:
         return 0o666 & ~mask
 
 
-def open_new(folder: str, front: str, ending: str = "") -> tuple[int, str]:
-    """A new temporary file in a folder, which no link leads elsewhere, and its path."""
-    flags = os.O_WRONLY | os.O_CREAT | os.O_EXCL | os.O_NOFOLLOW | os.O_CLOEXEC
-    path = os.path.join(folder, f"{front}{os.urandom(12).hex()}{ending}")
-    return os.open(path, flags, 0o600), path
-
-
 def replace(target: str, pieces: Iterable[bytes], front: str, ending: str = "", is_synced: bool = True) -> None:
     """Writes a plain file piece by piece under a temporary name, flushes it, to the disk where it is synced, and
     gives it its own name. Where that fails the temporary file is removed, and the old one is as it was."""
-    mode = mode_of(target)
-    number, part = open_new(os.path.dirname(target) or ".", front, ending)
+    mode, flags = mode_of(target), os.O_WRONLY | os.O_CREAT | os.O_EXCL | os.O_NOFOLLOW | os.O_CLOEXEC
+    part = os.path.join(os.path.dirname(target) or ".", f"{front}{os.urandom(12).hex()}{ending}")
+    number = os.open(part, flags, 0o600)
     try:
         with open(number, "wb") as file:
             os.fchmod(file.fileno(), mode)

@@ -17,14 +17,7 @@ Key = tuple[str, str]
 Keys = dict[Key, list[Decimal]]
 
 # What may differ: in which table it stands, and the least and the greatest value.
-TABLES = {
-    "rate": "event",
-    "capacity": "queue",
-    "servers": "queue",
-    "size": "event",
-    "amount": "event",
-    "level": "reward",
-}
+TABLES = dict(rate="event", capacity="queue", servers="queue", size="event", amount="event", level="reward")
 KEYS = {key: (table, *RANGES[key]) for key, table in TABLES.items()}
 # What may differ in a part of a guarded event, with the least and the greatest value: the name is
 # the event's and the queue's, with a point between.

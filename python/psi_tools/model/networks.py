@@ -105,7 +105,6 @@ class Network:
 
     Examples
     --------
-    >>> import psi
     >>> net = psi.Network()
     >>> net.queue("desk", capacity=10)
     <Network: 1 queue, 0 events, 0 rewards>
@@ -245,7 +244,6 @@ class Network:
 
         Examples
         --------
-        >>> import psi
         >>> net = psi.Network().queue("desk", capacity=10).event("come", "arrival", rate=0.8, to=["desk"])
         >>> net.event("serve", "service", rate=1, source="desk").scaled().table["event"][0]["rate"]
         4
