@@ -31,8 +31,8 @@ def add_servers(made: Made, queue: str, rate: Rate, servers: int, name: str = "s
     """The service of a queue by some servers. Above 64 each is an event of its own, which takes a
     customer where at least as many are there: such a service ends outside."""
     if servers <= MOST_SERVERS:
-        table = next(table for table in made.net.table["queue"] if table["name"] == queue)
-        table |= {"servers": servers} if servers > 1 else {}
+        if servers > 1:
+            made.net.table["queue"][made.net.queues.index(queue)]["servers"] = servers
         made.net.event(name, "service", rate, source=queue, **keys)
         return
     for least in range(1, servers + 1):
@@ -48,8 +48,7 @@ def add_full(made: Made, name: str, queue: str, capacity: int) -> None:
 def add_waiting(made: Made, queue: str, servers: int, places: int) -> None:
     """The rewards that are 1 where a queue is full, and how many wait in it."""
     add_full(made, "full", queue, places)
-    waiting = [max(0, number - servers) for number in range(places + 1)]
-    made.net.reward("waiting", "table", [queue], table=[waiting])
+    made.net.reward("waiting", "table", [queue], table=[[max(0, number - servers) for number in range(places + 1)]])
 
 
 def add_queues(made: Made, names: Iterable[str], places: Iterable[int]) -> None:
@@ -77,9 +76,8 @@ def by_formula(arrival: Rate, deaths: Sequence[Rate]) -> str:
     weights = [math.exp(log - most) for log in logs]
     total = math.fsum(weights)
     mean = math.fsum(number * weight for number, weight in enumerate(weights)) / total
-    full = weights[-1] / total
     message = f" By the formula for birth and death {mean:.6g} are there on average"
-    return f"{message}, and it is full for {full:.6g} of the time."
+    return f"{message}, and it is full for {weights[-1] / total:.6g} of the time."
 
 
 def single_server(args: argparse.Namespace) -> Made:
@@ -90,8 +88,7 @@ def single_server(args: argparse.Namespace) -> Made:
         "The rewards: whether it is full, and how many wait."
     )
     made.comment += by_formula(args.arrival, [args.service] * args.places)
-    made.net.queue("desk", args.places)
-    made.net.event("come", "arrival", args.arrival, to=["desk"])
+    made.net.queue("desk", args.places).event("come", "arrival", args.arrival, to=["desk"])
     add_servers(made, "desk", args.service, 1)
     add_waiting(made, "desk", 1, args.places)
     return made
@@ -117,8 +114,7 @@ def several_servers(args: argparse.Namespace) -> Made:
         "whether all servers are busy, whether it is full, and how many wait."
     )
     made.comment += by_formula(args.arrival, deaths_of(args))
-    made.net.queue("calls", places)
-    made.net.event("ring", "arrival", args.arrival, to=["calls"])
+    made.net.queue("calls", places).event("ring", "arrival", args.arrival, to=["calls"])
     add_servers(made, "calls", args.service, c, "answer")
     made.net.reward("all-busy", "above", ["calls"], level=c - 1)
     add_waiting(made, "calls", c, places)
@@ -133,8 +129,7 @@ def erlang_loss(args: argparse.Namespace) -> Made:
         f"{args.arrival} and last for a time of rate {args.service}. The reward: whether a call that comes is lost."
     )
     made.comment += by_formula(args.arrival, [args.service * line for line in range(1, c + 1)])
-    made.net.queue("lines", c)
-    made.net.event("call", "arrival", args.arrival, to=["lines"])
+    made.net.queue("lines", c).event("call", "arrival", args.arrival, to=["lines"])
     add_servers(made, "lines", args.service, c, "end")
     add_full(made, "lost", "lines", c)
     return made
@@ -167,8 +162,7 @@ def batches(args: argparse.Namespace) -> Made:
     )
     if args.size > args.places or args.servers > min(args.places, MOST_SERVERS):
         raise PsiError("--size and --servers are at most --places, and --servers at most 64")
-    made.net.queue("room", args.places)
-    made.net.event("group", "batch", args.arrival, to=["room"], size=args.size)
+    made.net.queue("room", args.places).event("group", "batch", args.arrival, to=["room"], size=args.size)
     add_servers(made, "room", args.service, args.servers, "leave")
     made.net.reward("lost", "above", ["room"], level=args.places - args.size)
     return made
@@ -179,8 +173,7 @@ def line(args: argparse.Namespace) -> Made:
     rates = args.service
     places = as_many(args.places, len(rates), "--places")
     servers = as_many(args.servers or [1], len(rates), "--servers")
-    is_small = all(c <= min(p, MOST_SERVERS) for c, p in zip(servers, places))
-    if not is_small:
+    if any(count > min(capacity, MOST_SERVERS) for count, capacity in zip(servers, places)):
         raise PsiError("--servers are at most as many as --places, and at most 64")
     kind = "is lost" if args.lost else "stays, and blocks its server"
     made = Made(
@@ -222,8 +215,7 @@ def overflow(args: argparse.Namespace) -> Made:
     if len({*lines}) == 1:
         made.net.reward("groups-full", "above", names, level=lines[0] - 1)
     else:
-        table = [[0] * count + [1] for count in lines]
-        made.net.reward("groups-full", "table", names, table=table)
+        made.net.reward("groups-full", "table", names, table=[[0] * count + [1] for count in lines])
     return made
 
 
@@ -237,8 +229,7 @@ def shortest_queue(args: argparse.Namespace) -> Made:
     )
     names = numbered("queue", len(rates))
     add_queues(made, names, [args.places] * len(rates))
-    table = [list(range(args.places))] * len(names)
-    made.net.event("come", "index", args.arrival, to=names, table=table)
+    made.net.event("come", "index", args.arrival, to=names, table=[[*range(args.places)]] * len(names))
     add_services(made, names, rates)
     made.net.reward("customers", "linear", names, weights=[1] * len(names))
     made.net.reward("longest", "greatest", names)
@@ -262,9 +253,8 @@ def closed(args: argparse.Namespace) -> Made:
     rows = [[rate * (place == after) for place in range(len(rates))] for rate, after in zip(rates, following)]
     means = means_of(rows, total)
     made.comment += f" They are {listed(f'{mean:.6g}' for mean in means)}."
-    for place, (name, rate) in enumerate(zip(names, rates)):
-        to = [names[following[place]]]
-        made.net.event(f"{name}-done", "service", rate, source=name, to=to, full="stay")
+    for name, rate, after in zip(names, rates, following):
+        made.net.event(f"{name}-done", "service", rate, source=name, to=[names[after]], full="stay")
     return made
 
 
@@ -275,9 +265,7 @@ def breakdowns(args: argparse.Namespace) -> Made:
         f"places for its jobs, which come at rate {args.arrival} and are done at rate {args.service} while it works. "
         "A queue of one place holds whether it is broken. The reward: whether a job that comes is lost."
     )
-    made.net.queue("jobs", args.places)
-    made.net.queue("broken", 1)
-    made.net.event("come", "arrival", args.arrival, to=["jobs"])
+    made.net.queue("jobs", args.places).queue("broken", 1).event("come", "arrival", args.arrival, to=["jobs"])
     part = [{"queue": "broken", "most": 0}, {"queue": "jobs", "least": 1, "shift": -1}]
     made.net.event("serve", "guarded", args.service, part=part)
     made.net.event("break", "arrival", args.breaks, to=["broken"])
@@ -334,8 +322,7 @@ def erlang_service(args: argparse.Namespace) -> Made:
         f"so each phase has {phases} times that rate. The queue phase holds which one is under way. The rewards: "
         "whether it is full, and how many wait."
     )
-    made.net.queue("jobs", args.places)
-    made.net.queue("phase", phases - 1)
+    made.net.queue("jobs", args.places).queue("phase", phases - 1)
     made.net.event("come", "arrival", args.arrival, to=["jobs"])
     rate = args.service * phases
     part: list[Table] = [{"queue": "jobs", "least": 1}, {"queue": "phase", "most": phases - 2, "shift": 1}]
@@ -357,9 +344,7 @@ def hyperexponential(args: argparse.Namespace) -> Made:
         f"{args.arrival}. The queue slow holds the kind of the service under way, which is drawn "
         "where the one before ends. The rewards: whether it is full, and how many wait."
     )
-    made.net.queue("jobs", args.places)
-    made.net.queue("slow", 1)
-    made.net.event("come", "arrival", args.arrival, to=["jobs"])
+    made.net.queue("jobs", args.places).queue("slow", 1).event("come", "arrival", args.arrival, to=["jobs"])
     ends = {"quick": ({"most": 0}, quick), "slow": ({"least": 1}, slow)}
     for kind, (guard, rate) in ends.items():
         for after, part_of, number in (("quick", share, 0), ("slow", 1 - share, 1)):
@@ -383,8 +368,7 @@ def rework(args: argparse.Namespace) -> Made:
     made.net.event("come", "arrival", args.arrival, to=["work"])
     made.net.event("worked", "service", rates[0], source="work", to=["test"], full="stay")
     made.net.event("good", "service", rates[1] * (1 - args.again), source="test")
-    again = rates[1] * args.again
-    made.net.event("bad", "service", again, source="test", to=["work"], full="stay")
+    made.net.event("bad", "service", rates[1] * args.again, source="test", to=["work"], full="stay")
     made.net.reward("parts", "linear", ["work", "test"], weights=[1, 1])
     add_full(made, "full", "work", places[0])
     return made

@@ -95,7 +95,9 @@ def place_of(document: Table, found: Finding) -> Place:
     if type(table) is not Table:
         return document[section].places[place], None
     if name == "DuplicateName":
-        return place_of_name(document[section], place)
+        own = table.get("name")
+        first = next(each for each in document[section] if type(each) is Table and each.get("name") == own)
+        return table.places.get("name", table.line), f"the first one is on line {first.places['name']}"
     if section == "event" and in_parts(table, name, key):
         return place_in_parts(document, table, name, key)
     if name == "UnknownKey" and key == "-":
@@ -124,14 +126,6 @@ def odd_keys(table: Table) -> list[str]:
 def place_of_odd_key(table: Table) -> int:
     """The line of the first key that isn't of the form of a name."""
     return next((table.places[key] for key in odd_keys(table)), table.line)
-
-
-def place_of_name(tables: Array, place: int) -> Place:
-    """The line of a name that an earlier table has, too."""
-    name = tables[place].get("name")
-    first = next(table for table in tables if type(table) is Table and table.get("name") == name)
-    line = tables[place].places.get("name", tables[place].line)
-    return line, f"the first one is on line {first.places['name']}"
 
 
 def in_parts(event: Table, name: str, key: str) -> bool:
@@ -301,46 +295,17 @@ def keys_known(table: Table, found: Finding) -> tuple[str, ...]:
     return OF_PARTS if is_part else KEYS[found["section"]]
 
 
-def on_unknown_key(document: Table, table: Table, key: str, found: Finding) -> str | None:
-    """The key that was meant."""
-    return meant(key, [known for known in keys_known(table, found) if known not in table])
-
-
 def misspelt(table: Table, key: str, found: Finding) -> str | None:
     """The key of a table that stands for one that is missing; none where there is none."""
     return close_to(key, (each for each in table if each not in keys_known(table, found)))
 
 
-def on_missing_key(document: Table, table: Table, key: str, found: Finding) -> str | None:
-    """The key that was written in place of the one that is missing."""
-    near = misspelt(table, key, found)
-    return f"{near} stands there; did you mean {key}?" if near else None
+def on_name(name: object, what: str, known: Iterable[str]) -> str | None:
+    """A name that isn't known, and the one that was meant."""
+    return "; ".join(filter(None, [what.format(name), meant(name, known)])) if isinstance(name, str) else None
 
 
-def on_unknown_kind(document: Table, table: Table, key: str, found: Finding) -> str | None:
-    """The kind that was meant."""
-    kind = table.get("kind")
-    if kind == "guarded":
-        return "guarded is a kind of version 2"
-    near = meant(kind, KINDS if found["section"] == "event" else REWARDS)
-    return f"kind is {kind}" + (f"; {near}" if near else "") if isinstance(kind, str) else None
-
-
-def on_unknown_queue(document: Table, table: Table, key: str, found: Finding) -> str | None:
-    """The queue that was meant."""
-    value, known = table.get(key), capacities_of(document)
-    names = [item for item, _ in items_of(value)] if type(value) is Array else [value]
-    name = next((each for each in names if each not in known), None)
-    near = meant(name, known)
-    return f"{name} is no queue" + (f"; {near}" if near else "") if isinstance(name, str) else None
-
-
-def on_version(document: Table, table: Table, key: str, found: Finding) -> str | None:
-    """The version in the file."""
-    return f"version is {table['version']}" if type(table.get("version")) is int else None
-
-
-def on_range(document: Table, table: Table, key: str, found: Finding) -> str | None:
+def on_range(document: Table, table: Table, key: str) -> str | None:
     """The value that is out of its range, and the bound that it passes."""
     value, ends = table.get(key), range_of(document, table, key)
     if type(value) is int and ends:
@@ -353,20 +318,13 @@ def on_range(document: Table, table: Table, key: str, found: Finding) -> str | N
         message = (out_of(f"a value of {key}", item, least_of(table), 10**9) for item, _ in items_of(value))
         return next(filter(None, message), None)
     if key == "full" and isinstance(value, str):
-        return "; ".join(filter(None, [f"full is {value}", meant(value, ("lost", "stay"))]))
+        return on_name(value, "full is {}", ("lost", "stay"))
     if isinstance(value, str) and not NAME.fullmatch(value):
         return f"{key} has {len(value)} characters; 1 to 32 letters, digits, _ and - make a name"
     return None
 
 
-def on_batch(document: Table, table: Table, key: str, found: Finding) -> str | None:
-    """The size, and the least capacity that it passes."""
-    known, size = capacities_of(document), table.get("size", 0)
-    names = [name for name in table.get("to", []) if known.get(name, 0) < size]
-    return f"size is {size}; {names[0]} has room for {known[names[0]]}" if names else None
-
-
-def on_length(document: Table, table: Table, key: str, found: Finding) -> str | None:
+def on_length(document: Table, table: Table, key: str) -> str | None:
     """How long the table, row or list is that has another length, and how long it is to be."""
     value, names = table.get(key), table.get("queues", table.get("to", []))
     if type(value) is not Array or type(names) is not Array:
@@ -379,36 +337,51 @@ def on_length(document: Table, table: Table, key: str, found: Finding) -> str | 
     )
 
 
-def on_guard(document: Table, table: Table, key: str, found: Finding) -> str | None:
-    """The two numbers that are in the wrong order."""
-    other = "most" if key == "least" else "ceiling"
-    high = table.get(other, capacities_of(document).get(table.get("queue", "")))
-    return f"{key} is {table.get(key, 0)}; at most {high}, as {other} is"
-
-
-def on_total(document: Table, table: Table, key: str, found: Finding) -> str | None:
+def on_total(document: Table, number: int) -> str:
     """What the rates add up to, up to the event at which that is too much."""
     servers = {queue.get("name"): queue.get("servers", 1) for queue in document["queue"]}
     of_servers = "service", "index", "negative", "fork"
     total = sum(
         event["rate"] * (servers.get(event.get("from"), 1) if event["kind"] in of_servers else 1)
-        for event in document["event"][: found["number"]]
+        for event in document["event"][:number]
     )
     return f"the rates up to this event are {total}; at most 16777216"
 
 
-REMARKS = {
-    "UnknownKey": on_unknown_key,
-    "MissingKey": on_missing_key,
-    "UnknownKind": on_unknown_kind,
-    "UnknownQueue": on_unknown_queue,
-    "Version": on_version,
-    "OutOfRange": on_range,
-    "BatchTooLarge": on_batch,
-    "TableLength": on_length,
-    "EmptyGuard": on_guard,
-    "TotalTooLarge": on_total,
-}
+def remark_on(document: Table, table: Table, found: Finding) -> str | None:
+    """What was meant by a name that is refused, or the bound that a number passes."""
+    key = found["key"]
+    match found["name"]:
+        case "UnknownKey":
+            return meant(key, [other for other in keys_known(table, found) if other not in table])
+        case "MissingKey":
+            near = misspelt(table, key, found)
+            return f"{near} stands there; did you mean {key}?" if near else None
+        case "UnknownKind" if table.get("kind") == "guarded":
+            return "guarded is a kind of version 2"
+        case "UnknownKind":
+            return on_name(table.get("kind"), "kind is {}", KINDS if found["section"] == "event" else REWARDS)
+        case "UnknownQueue":
+            value, known = table.get(key), capacities_of(document)
+            names = [item for item, _ in items_of(value)] if type(value) is Array else [value]
+            return on_name(next((name for name in names if name not in known), None), "{} is no queue", known)
+        case "Version":
+            return f"version is {table['version']}" if type(table.get("version")) is int else None
+        case "OutOfRange":
+            return on_range(document, table, key)
+        case "BatchTooLarge":
+            size, known = table.get("size", 0), capacities_of(document)
+            small = [name for name in table.get("to", []) if known.get(name, 0) < size]
+            return f"size is {size}; {small[0]} has room for {known[small[0]]}" if small else None
+        case "TableLength":
+            return on_length(document, table, key)
+        case "EmptyGuard":
+            other = "most" if key == "least" else "ceiling"
+            high = table.get(other, capacities_of(document).get(table.get("queue", "")))
+            return f"{key} is {table.get(key, 0)}; at most {high}, as {other} is"
+        case "TotalTooLarge":
+            return on_total(document, found["number"])
+    return None
 
 
 def found_in(data: bytes, line: str) -> Finding:
@@ -434,8 +407,8 @@ def line_of(data: bytes, found: Finding) -> Place:
     if found["name"] == "NotToml":
         return None, "the line is not known"
     line, remark = place_of(document, found)
-    table, on_value = table_at(document, found), REMARKS.get(found["name"])
-    own = on_value(document, table, found["key"], found) if table is not None and on_value else None
+    table = table_at(document, found)
+    own = None if table is None else remark_on(document, table, found)
     if found["name"] == "MissingKey" and table is not None:
         # A key that is misspelt is the line to look at, not the header of its table.
         near = misspelt(table, found["key"], found)
@@ -451,17 +424,13 @@ def text_of_line(data: bytes, line: int) -> str:
     return text if len(text) <= LONGEST else text[:LONGEST] + ".."
 
 
-def subject(found: Finding) -> str:
-    """What is refused, in words."""
-    where = "the top" if found["section"] == "top" else f"{found['section']} {found['number']}"
-    return where if found["key"] == "-" else f"the key {found['key']} of {where}"
-
-
 def text_of(path: object, data: bytes, found: Finding) -> str:
     """The answer for people."""
     place = printable(path)
     if found["line"] is not None:
         place += f":{found['line']}: {text_of_line(data, found['line'])}"
     remark = f" ({printable(found['remark'])})" if found["remark"] else ""
-    head = f"{found['code']} {found['name']}, {subject(found)}{remark}"
+    where = "the top" if found["section"] == "top" else f"{found['section']} {found['number']}"
+    subject = where if found["key"] == "-" else f"the key {found['key']} of {where}"
+    head = f"{found['code']} {found['name']}, {subject}{remark}"
     return f"{place}\n{head}\n{SENTENCES[found['name']]}\n"
