@@ -20,9 +20,15 @@ REPEATED, LEAST, MOST = 200, 180, 199
 FREE = Span(None, None, 10**60, -(10**60))
 
 
-def test_students_t_is_that_of_the_tables() -> None:
+def test_quantiles_and_probabilities_are_those_of_the_tables() -> None:
     assert round(student(19), 3) == 2.093
     assert round(student(9, 0.99), 3) == 3.250
+    # Clopper and Pearson's own intervals.
+    assert probability(5, 10) == pytest.approx((0.1871, 0.8129), abs=1e-4)
+    assert probability(0, 100) == pytest.approx((0, 0.0362), abs=1e-4)
+    assert probability(100, 100)[1] == 1
+    # What is unknown widens.
+    assert probability(5, 10, unknown=3) == (probability(5, 10)[0], probability(8, 10)[1])
 
 
 def test_a_mean_of_batches_by_hand() -> None:
@@ -67,19 +73,6 @@ def test_a_difference_has_no_part_of_what_is_common() -> None:
     assert found.half is not None and found.half < 1e-9
 
 
-def test_probabilities_are_those_of_the_tables() -> None:
-    # Clopper and Pearson's own intervals.
-    assert probability(5, 10) == pytest.approx((0.1871, 0.8129), abs=1e-4)
-    assert probability(0, 100) == pytest.approx((0, 0.0362), abs=1e-4)
-    assert probability(100, 100)[1] == 1
-
-
-def test_what_is_unknown_widens() -> None:
-    low, high = probability(5, 10, unknown=3)
-    assert low == probability(5, 10)[0]
-    assert high == probability(8, 10)[1]
-
-
 def test_ranks_hold_so_often() -> None:
     for many, share in ((10, 0.5), (50, 0.9), (1000, 0.25)):
         low, high = intervals.ranks(share, many)
@@ -88,10 +81,8 @@ def test_ranks_hold_so_often() -> None:
 
 
 def test_quantiles_of_a_small_law() -> None:
-    values = [(0, 5), (1, 3), (2, 2)]
-    assert intervals.quantile(values, 0.5)[0] == 0
-    assert intervals.quantile(values, 0.51)[0] == 1
-    assert intervals.quantile(values, 0.9)[0] == 2
+    found = [intervals.quantile([(0, 5), (1, 3), (2, 2)], share)[0] for share in (0.5, 0.51, 0.9)]
+    assert found == [0, 1, 2]
 
 
 def test_the_interval_by_values_of_a_share_is_that_of_clopper_and_pearson() -> None:
@@ -181,12 +172,10 @@ def test_samples_that_carry_a_mean() -> None:
 
 
 def test_an_interval_is_shown_by_both_ends_where_it_is_not_even() -> None:
+    """Figures have the places of their interval."""
     assert with_interval(Mean(1.0, 0.1)) == "1.00 ± 0.10"
     assert with_interval(Mean(1.0, 0.2, (0.9, 1.3))) == "1.00 (0.90 to 1.30)"
     assert with_interval(Mean(1.0, None)) == "1"
-
-
-def test_figures_have_the_places_of_their_interval() -> None:
     assert figures(2.96543, 0.0123) == "2.965"
     assert figures(1234.5, 60.0) == "1234"
     assert figures(3, None) == "3"

@@ -1,5 +1,7 @@
 """Properties that hold for all inputs, tried on many that hypothesis draws."""
 
+import functools
+import operator
 import tomllib
 from decimal import Decimal
 from fractions import Fraction
@@ -23,14 +25,11 @@ from psi_tools.stats.intervals import Span, Sums, mean_of_batches, mean_of_value
 Samples = list[tuple[int, tuple[int, ...]] | None]
 Drawn = tuple[list[str], list[str], list[Samples]]
 NAMES = st.from_regex(r"[A-Za-z0-9_-]{1,32}", fullmatch=True)
+# The value of a pair of a value and how many samples have it.
+VALUE = operator.itemgetter(0)
 # The same inputs in each run, so that a gate does not fail by chance.
 settings.register_profile("few", max_examples=60, deadline=None, derandomize=True, database=None)
 settings.load_profile("few")
-
-
-def first_of(pair: tuple[int, int]) -> int:
-    """The value of a pair of a value and how many samples have it."""
-    return pair[0]
 
 
 @st.composite
@@ -73,15 +72,10 @@ def test_reports_merge_as_lists_join(drawn: Drawn) -> None:
         [each and (each[0], known.setdefault(each[1][: len(queues)], each[1])) for each in samples] for samples in lists
     ]
     texts = [reports.read(text_of(queues, rewards, samples)) for samples in lists]
-    whole = texts[0]
-    for other in texts[1:]:
-        whole = reports.together(whole, other)
     joined = text_of(queues, rewards, [each for samples in lists for each in samples])
-    assert whole.text() == joined and reports.read(joined).text() == joined
-    backwards = texts[-1]
-    for other in texts[-2::-1]:
-        backwards = reports.together(backwards, other)
-    assert backwards.text() == joined
+    assert reports.read(joined).text() == joined
+    for order in (texts, texts[::-1]):
+        assert functools.reduce(reports.together, order).text() == joined
 
 
 @st.composite
@@ -173,7 +167,7 @@ def test_an_interval_of_a_share_holds_its_estimate(many: int, data: st.DataObjec
     assert more[1] - more[0] < high - low
 
 
-@given(st.lists(st.tuples(st.integers(0, 20), st.integers(1, 200)), min_size=1, max_size=8, unique_by=first_of))
+@given(st.lists(st.tuples(st.integers(0, 20), st.integers(1, 200)), min_size=1, max_size=8, unique_by=VALUE))
 def test_an_interval_of_a_mean_holds_it_and_shrinks(counts: list[tuple[int, int]]) -> None:
     span = Span(0, 20, 0, 20)
     found, more = mean_of_values(counts, span), mean_of_values([(value, 10 * n) for value, n in counts], span)
@@ -197,7 +191,7 @@ def test_an_interval_of_batches_holds_the_mean(batches: list[tuple[int, int]]) -
     assert 0 <= low <= high <= 20
 
 
-@given(st.lists(st.tuples(st.integers(-50, 50), st.integers(1, 40)), min_size=1, max_size=9, unique_by=first_of))
+@given(st.lists(st.tuples(st.integers(-50, 50), st.integers(1, 40)), min_size=1, max_size=9, unique_by=VALUE))
 def test_a_quantile_is_that_of_the_list(counts: list[tuple[int, int]]) -> None:
     counts.sort()
     values = [value for value, many in counts for _ in range(many)]

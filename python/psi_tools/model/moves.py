@@ -71,8 +71,8 @@ class Moves:
         for part in parts:
             place = self.place[part["queue"]]
             least, most, after = rule_of(part, self.capacities[place])
-            ends = {after(number) - number for number in bends(part, least, most)}
-            options.append((place, sorted(ends)))
+            # A number changes by less the greater it is, so the ends of the guard have the extremes.
+            options.append((place, sorted({int(after(number)) - number for number in (least, most)})))
         first = {place: ends[0] for place, ends in options}
         others = [{**first, place: end} for place, ends in options for end in ends[1:]]
         return [first, *others]
@@ -101,7 +101,7 @@ class Moves:
                 return []
             least, most, after = rule_of(part, capacity)
             numbers = numbers[least : most + 1]
-            return [(numbers, numpy.clip(numbers + part.get("shift", 0), *ends_of(part, capacity)))]
+            return [(numbers, after(numbers))]
         found = []
         if place in self.places(event, "from"):
             found.append((numbers[1:], numbers[1:] - 1))
@@ -136,31 +136,10 @@ def closed_parts(begins: Any, ends: Any, count: int) -> list[Any]:
     return [numpy.flatnonzero(labels == label) for label in numpy.flatnonzero(~is_left)]
 
 
-def ends_of(part: Table, capacity: int) -> tuple[int, int]:
-    """Where a part cuts the number."""
-    return part.get("floor", 0), part.get("ceiling", capacity)
-
-
-def rule_of(part: Table, capacity: int) -> tuple[int, int, Callable[[int], int]]:
-    """From which number to which a part asks, and what it makes of one."""
-    floor, ceiling = ends_of(part, capacity)
-
-    def after(number: int) -> int:
-        return min(ceiling, max(floor, number + int(part.get("shift", 0))))
-
-    return part.get("least", 0), part.get("most", capacity), after
-
-
-def bends(part: Table, least: int, most: int) -> list[int]:
-    """Numbers at which a part's change takes all values that span it: the ends of the guard, and
-    those where the cut begins or ends."""
-    shift = part.get("shift", 0)
-    found = {least, most}
-    for end in ("floor", "ceiling"):
-        if end in part:
-            found |= {part[end] - shift + by for by in (-1, 0, 1)}
-    found |= {-shift + by for by in (-1, 0, 1)} | {least + 1, most - 1}
-    return [number for number in found if least <= number <= most]
+def rule_of(part: Table, capacity: int) -> tuple[int, int, Callable[[Any], Any]]:
+    """From which number to which a part asks, and what it makes of numbers."""
+    shift, cut = part.get("shift", 0), (part.get("floor", 0), part.get("ceiling", capacity))
+    return part.get("least", 0), part.get("most", capacity), lambda numbers: numpy.clip(numbers + shift, *cut)
 
 
 def whole(weights: list[Fraction]) -> list[int]:
