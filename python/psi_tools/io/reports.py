@@ -14,8 +14,9 @@ import operator
 import os
 import re
 import sys
-from collections.abc import Iterable
-from typing import Any
+from collections import Counter
+from collections.abc import Callable, Iterable
+from typing import NamedTuple
 
 MOST_BYTES = 1_048_576
 MOST_COUNT, MOST_VALUE = 2**64 - 1, 10**37 - 1
@@ -31,8 +32,9 @@ IN_ORDER = re.compile(
     rb"((?:horizon,\d{1,20},\d{1,20}\n)*+)"
     rb"((?:(?:reward-)?(?:sum|least|greatest),[\w-]{1,32},-?\d{1,37}\n)*+)"
 )
-# The items of figures: their kinds, and which of them they are.
-ITEMS = {kind + word: (kind, word) for kind in MOST for word in (b"sum", b"least", b"greatest")}
+# How two figures come together; and the items of figures: their kinds, and which of them they are.
+JOINS: dict[bytes, Callable[[int, int], int]] = {b"sum": operator.add, b"least": min, b"greatest": max}
+ITEMS = {kind + word: (kind, word) for kind in MOST for word in JOINS}
 
 
 class ReportError(Exception):
@@ -47,11 +49,13 @@ def refusal(cause: str, line: int) -> ReportError:
     return ReportError(3, f"refused {cause} line {line}")
 
 
-class Figure:
+class Figure(NamedTuple):
     """A sum or an extreme of a queue or a reward: its kind, which of them it is, name and value."""
 
-    def __init__(self, kind: bytes, word: bytes, name: bytes, value: int) -> None:
-        self.kind, self.word, self.name, self.value = kind, word, name, value
+    kind: bytes
+    word: bytes
+    name: bytes
+    value: int
 
 
 class Report:
@@ -69,7 +73,7 @@ class Report:
         counts = self.samples, self.met, max(self.samples - self.met, 0)
         rows = [b"item,name,value\n", b"samples,-,%d\nmet,-,%d\nuncoupled,-,%d\n" % counts]
         rows += [b"horizon,%d,%d\n" % horizon for horizon in self.horizons]
-        rows += [b"%s%s,%s,%d\n" % (each.kind, each.word, each.name, each.value) for each in self.figures]
+        rows += [b"%s%s,%s,%d\n" % figure for figure in self.figures]
         return b"".join(rows)
 
     def sums(self) -> list[tuple[bytes, bytes]]:
@@ -99,14 +103,6 @@ def is_row(item: bytes, name: bytes, value: bytes) -> bool:
     return is_named and number(value, -MOST_VALUE, MOST_VALUE) is not None
 
 
-def is_extreme(figure: Figure, word: bytes, of: Figure) -> bool:
-    """Whether a figure is the least or the greatest value of what a sum is of, in its range."""
-    low = -MOST_WORTH if of.kind else 0
-    high = MOST_WORTH if of.kind else MOST_CUSTOMERS
-    is_of = figure.word == word and figure.name == of.name and figure.kind == of.kind
-    return is_of and low <= figure.value <= high
-
-
 def wrong_in(figures: list[Figure], met: int, steady: bool) -> int | None:
     """The first of the figures of a queue or a reward that is wrong, of which the sum is the first,
     or none: the extremes are those of the sum where samples are met, and allow it; and a reward's
@@ -115,8 +111,11 @@ def wrong_in(figures: list[Figure], met: int, steady: bool) -> int | None:
     total = figures[0]
     if not met:
         return 0 if total.value else None
+    least, most = (-MOST_WORTH, MOST_WORTH) if total.kind else (0, MOST_CUSTOMERS)
     for place, word in (1, b"least"), (2, b"greatest"):
-        if place == len(figures) or not is_extreme(figures[place], word, total):
+        if place == len(figures) or figures[place][:3] != (total.kind, word, total.name):
+            return place
+        if not least <= figures[place].value <= most:
             return place
     low, high = figures[1].value, figures[2].value
     if low > high:
@@ -205,11 +204,9 @@ def read(text: bytes) -> Report:
 def place_of_difference(first: Report, report: Report) -> int:
     """The line of a report at which its queues and rewards differ from another's; 0 for nowhere."""
     sums, others = report.sums(), first.sums()
-    same = 0
-    while same < min(len(sums), len(others)) and sums[same] == others[same]:
-        same += 1
-    if len(sums) == len(others) == same:
+    if sums == others:
         return 0
+    same = len(os.path.commonprefix([sums, others]))
     return 5 + len(report.horizons) + same * (3 if report.met else 1)
 
 
@@ -217,11 +214,8 @@ def both_figures(first: Report, other: Report) -> list[Figure]:
     """What the figures of two reports come to together."""
     if not first.met or not other.met:
         return other.figures if not first.met else first.figures
-    both = []
-    for one, two in zip(first.figures, other.figures):
-        join: Any = {b"least": min, b"greatest": max}.get(one.word, operator.add)
-        both.append(Figure(one.kind, one.word, one.name, join(one.value, two.value)))
-    return both
+    pairs = zip(first.figures, other.figures)
+    return [one._replace(value=JOINS[one.word](one.value, two.value)) for one, two in pairs]
 
 
 def together(first: Report, other: Report) -> Report:
@@ -229,10 +223,8 @@ def together(first: Report, other: Report) -> Report:
     line = place_of_difference(first, other)
     if line:
         raise ReportError(4, f"other network line {line}")
-    both, horizons = Report(), dict(first.horizons)
+    both, horizons = Report(), Counter(dict(first.horizons)) + Counter(dict(other.horizons))
     both.samples, both.met = first.samples + other.samples, first.met + other.met
-    for horizon, count in other.horizons:
-        horizons[horizon] = horizons.get(horizon, 0) + count
     both.horizons, both.figures = sorted(horizons.items()), both_figures(first, other)
     large = [place for place, figure in enumerate(both.figures) if abs(figure.value) > MOST_VALUE]
     if both.samples > MOST_COUNT:
