@@ -20,7 +20,13 @@ the docstrings, which `help(psi.samples)` shows too.
 A network is a `Network`, or the path of its file. Every call that draws takes `program`, a
 `Program`; without one it runs the program that is built, or the one on the PATH. Work above two
 seconds shows a progress bar where `tqdm` is installed; the environment variable `TQDM_DISABLE`
-turns it off. The examples assume `import psi`.
+turns it off. The examples assume `import psi`, and this network:
+
+```pycon
+>>> net = psi.Network().queue("desk", capacity=10)
+>>> net = net.event("come", "arrival", rate=4, to=["desk"])
+>>> net = net.event("serve", "service", rate=5, source="desk")
+```
 """
 GROUPS = {
     "Networks and the program": ("Network", "Program", "check"),

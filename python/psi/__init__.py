@@ -8,7 +8,7 @@
     net.event("serve", "service", rate=5, source="desk")
     psi.means(net, seed=0, first=0, count=10_000)
 
-The examples of each call assume `import psi`.
+The examples of the calls assume all of these lines but the last.
 
 Everything comes from the built program: crates/psi/out/psi, or psi on the PATH, or the `Program` that
 a call is handed. A network is a `Network`, or the path of its file. Seeds and streams are 0 to

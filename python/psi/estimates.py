@@ -43,9 +43,6 @@ def check(net: Source, *, program: Program | None = None) -> str:
 
     Examples
     --------
-    >>> net = psi.Network().queue("desk", capacity=10)
-    >>> net = net.event("come", "arrival", rate=4, to=["desk"])
-    >>> net = net.event("serve", "service", rate=5, source="desk")
     >>> psi.check(net).splitlines()[1]
     'queue desk 10 1'
     """
@@ -89,9 +86,6 @@ def report(
 
     Examples
     --------
-    >>> net = psi.Network().queue("desk", capacity=10)
-    >>> net = net.event("come", "arrival", rate=4, to=["desk"])
-    >>> net = net.event("serve", "service", rate=5, source="desk")
     >>> table = psi.report(net, seed=0, first=0, count=200)
     >>> int(table.set_index("item").loc["samples", "value"])
     200
@@ -164,9 +158,6 @@ def means(
 
     Examples
     --------
-    >>> net = psi.Network().queue("desk", capacity=10)
-    >>> net = net.event("come", "arrival", rate=4, to=["desk"])
-    >>> net = net.event("serve", "service", rate=5, source="desk")
     >>> found = psi.means(net, seed=0, first=0, count=2_000)
     >>> list(found.columns)
     ['mean', 'half', 'low', 'high', 'least', 'greatest']

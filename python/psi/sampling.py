@@ -56,9 +56,6 @@ def couple(net: Source, seed: int, stream: int, *, program: Program | None = Non
 
     Examples
     --------
-    >>> net = psi.Network().queue("desk", capacity=10)
-    >>> net = net.event("come", "arrival", rate=4, to=["desk"])
-    >>> net = net.event("serve", "service", rate=5, source="desk")
     >>> horizon, state = psi.couple(net, seed=0, stream=0)
     >>> horizon >= 10 and state == tuple(psi.samples(net, count=1)[0])
     True
@@ -98,11 +95,8 @@ def reward(net: Source, seed: int, stream: int, name: str, *, program: Program |
 
     Examples
     --------
-    >>> net = psi.Network().queue("desk", capacity=10)
-    >>> net = net.event("come", "arrival", rate=4, to=["desk"])
-    >>> net = net.event("serve", "service", rate=5, source="desk")
-    >>> net = net.reward("busy", "above", ["desk"], level=0)
-    >>> psi.reward(net, seed=0, stream=0, name="busy").value == int(psi.samples(net, count=1)[0, 0] > 0)
+    >>> busy = net.copy().reward("busy", "above", ["desk"], level=0)
+    >>> psi.reward(busy, seed=0, stream=0, name="busy").value == int(psi.samples(net, count=1)[0, 0] > 0)
     True
     """
     seed, stream = stream_of(seed, stream)
@@ -139,9 +133,6 @@ def exact(net: Source, seed: int, stream: int, exponent: int, *, program: Progra
 
     Examples
     --------
-    >>> net = psi.Network().queue("desk", capacity=10)
-    >>> net = net.event("come", "arrival", rate=4, to=["desk"])
-    >>> net = net.event("serve", "service", rate=5, source="desk")
     >>> found = psi.exact(net, seed=0, stream=0, exponent=4)
     >>> found.states, len(found.images)
     (11, 5)
@@ -179,9 +170,6 @@ def log(net: Source, seed: int, stream: int, *, program: Program | None = None) 
 
     Examples
     --------
-    >>> net = psi.Network().queue("desk", capacity=10)
-    >>> net = net.event("come", "arrival", rate=4, to=["desk"])
-    >>> net = net.event("serve", "service", rate=5, source="desk")
     >>> psi.log(net, seed=0, stream=0).splitlines()[0]
     'psi-log 2'
     """
@@ -214,9 +202,6 @@ def replay(net: Source, log: str, *, program: Program | None = None) -> Coalesce
 
     Examples
     --------
-    >>> net = psi.Network().queue("desk", capacity=10)
-    >>> net = net.event("come", "arrival", rate=4, to=["desk"])
-    >>> net = net.event("serve", "service", rate=5, source="desk")
     >>> psi.replay(net, psi.log(net, seed=0, stream=0)).state == tuple(psi.samples(net, count=1)[0])
     True
     """
@@ -251,9 +236,6 @@ def draw_log(log: str, net: Source | None = None, title: str = "") -> "Figure":
 
     Examples
     --------
-    >>> net = psi.Network().queue("desk", capacity=10)
-    >>> net = net.event("come", "arrival", rate=4, to=["desk"])
-    >>> net = net.event("serve", "service", rate=5, source="desk")
     >>> len(psi.draw_log(psi.log(net, seed=0, stream=0), net).axes) > 0
     True
     """

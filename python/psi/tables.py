@@ -22,13 +22,7 @@ Value = TypeVar("Value")
 
 
 def samples(
-    net: Source,
-    seed: int = 0,
-    first: int = 0,
-    count: int = 1_000,
-    keep: bool = False,
-    *,
-    program: Program | None = None,
+    net: Source, seed: int = 0, first: int = 0, count: int = 1000, keep: bool = False, *, program: Program | None = None
 ) -> numpy.ndarray[Any, Any]:
     """Draw independent samples from the stationary distribution of a network.
 
@@ -64,9 +58,6 @@ def samples(
 
     Examples
     --------
-    >>> net = psi.Network().queue("desk", capacity=10)
-    >>> net = net.event("come", "arrival", rate=4, to=["desk"])
-    >>> net = net.event("serve", "service", rate=5, source="desk")
     >>> states = psi.samples(net, seed=0, first=0, count=100)
     >>> states.shape
     (100, 1)
@@ -81,7 +72,7 @@ def closed(
     total: int,
     seed: int = 0,
     first: int = 0,
-    count: int = 1_000,
+    count: int = 1000,
     keep: bool = False,
     *,
     program: Program | None = None,
@@ -258,9 +249,6 @@ def paths(
 
     Examples
     --------
-    >>> net = psi.Network().queue("desk", capacity=10)
-    >>> net = net.event("come", "arrival", rate=4, to=["desk"])
-    >>> net = net.event("serve", "service", rate=5, source="desk")
     >>> table = psi.paths(net, seed=0, first=0, count=20, steps=1_000)
     >>> list(table.columns[:5])
     ['stream', 'horizon', 'steps', 'queue.desk', 'event.come.1']

@@ -5,7 +5,7 @@ import importlib
 import os
 import signal
 import sys
-from collections.abc import Callable
+from functools import partial
 from types import FrameType
 
 NAMES = "many", "plot", "means", "law", "sweep", "where", "why", "new", "page"
@@ -13,23 +13,19 @@ NAMES = "many", "plot", "means", "law", "sweep", "where", "why", "new", "page"
 SELDOM = 100_000
 
 
-def _stopped(name: str) -> Callable[[int, FrameType | None], None]:
-    """What ends a command by Ctrl-C before it has read its own parts: one line."""
-
-    def end(number: int, frame: FrameType | None) -> None:
-        try:
-            os.write(2, f"{name}: stopped\n".encode())
-        finally:
-            os._exit(130)
-
-    return end
+def _stop(name: str, number: int, frame: FrameType | None) -> None:
+    """Ends a command by Ctrl-C before it has read its own parts, with one line."""
+    try:
+        os.write(2, f"{name}: stopped\n".encode())
+    finally:
+        os._exit(130)
 
 
 def start(module: str, name: str) -> int:
     """The status of a command of the package. Ctrl-C is one line from the first to the last."""
     is_default = signal.getsignal(signal.SIGINT) is signal.default_int_handler
     if is_default:
-        signal.signal(signal.SIGINT, _stopped(name))
+        signal.signal(signal.SIGINT, partial(_stop, name))
     # A command is over soon: it looks for cycles of what it no longer needs but seldom.
     gc.set_threshold(SELDOM)
     try:
@@ -43,12 +39,8 @@ def start(module: str, name: str) -> int:
         signal.signal(signal.SIGINT, signal.default_int_handler)
     status = run(name, work, sys.argv[1:])
     if is_default:
-        signal.signal(signal.SIGINT, _stopped(name))
+        signal.signal(signal.SIGINT, partial(_stop, name))
     return status
 
 
-def _command(name: str) -> Callable[[], int]:
-    return lambda: start(name, f"psi-{name}")
-
-
-many, plot, means, law, sweep, where, why, new, page = map(_command, NAMES)
+many, plot, means, law, sweep, where, why, new, page = (partial(start, name, f"psi-{name}") for name in NAMES)

@@ -45,22 +45,17 @@ def parse(arguments: list[str]) -> argparse.Namespace:
     args = parser().parse_args(arguments)
     if not LEAST_LEVEL <= args.level / 100 <= MOST_LEVEL:
         raise PsiError(f"--level is from {100 * LEAST_LEVEL:g} to {100 * MOST_LEVEL:g}")
-    check_paths(args)
-    check_files(args)
-    return args
-
-
-def check_paths(args: argparse.Namespace) -> None:
-    """Refuses options that don't go with --paths, or without it, and fills in defaults."""
     if args.paths is None:
         for option in ("seed", "first", "count", "total", "pilot", "psi", "jobs"):
             if getattr(args, option) is not None:
                 raise PsiError(f"--{option} goes with --paths")
-        return
-    if len(args.reports) > 1 or args.net is not None:
+    elif len(args.reports) > 1 or args.net is not None:
         raise PsiError("--paths is of one network, which is given instead of reports")
-    args.seed, args.first, args.count = args.seed or 0, args.first or 0, args.count or PATHS
-    check_last_stream(args)
+    else:
+        args.seed, args.first, args.count = args.seed or 0, args.first or 0, args.count or PATHS
+        check_last_stream(args)
+    check_files(args)
+    return args
 
 
 def parser() -> Parser:
