@@ -168,8 +168,7 @@ def test_streams_that_never_couple_are_counted(tool: Tool, tmp_path: Path) -> No
     net = Network(limit=4).queue("a", 3).queue("b", 3).queue("c", 3)
     net.event("go", "service", 1, "a", ["b"], full="stay").write(tmp_path / "apart.toml")
     status, out, _ = tool("psi-many", "apart.toml", 0, 0, 20, "--closed", 3)
-    assert status == 0
-    assert "\nmet,-,0\nuncoupled,-,20\nsum,a,0\nsum,b,0\nsum,c,0\n" in out
+    assert status == 0 and "\nmet,-,0\nuncoupled,-,20\nsum,a,0\nsum,b,0\nsum,c,0\n" in out
 
 
 def test_texts_that_are_not_whole() -> None:

@@ -11,22 +11,7 @@ from conftest import Psi, desk
 from psi_tools.model.networks import Network, data_of
 from psi_tools.errors import PsiError
 
-FILE = """version = 1
-# What psi refuses is refused here, too.
-[[queue]]
-name = "desk"
-capacity = 10
-[[event]]
-name = "come"
-kind = "arrival"
-rate = 4
-to = ["desk"]
-[[event]]
-name = "serve"
-kind = "service"
-rate = 5
-from = "desk"
-"""
+FILE = "# What psi refuses is refused here, too.\n" + desk().toml()
 
 
 @pytest.mark.parametrize("rate", ["4.9", "4.0", "true", '"4"'])

@@ -5,7 +5,7 @@ from collections.abc import Iterator
 from pathlib import Path
 
 import pytest
-from conftest import TOP, Tool, example
+from conftest import TOP, Tool, example, out_of
 from generate import case_files
 
 from psi_tools.model.refusals import REFUSED, SENTENCES, found_in
@@ -102,9 +102,7 @@ def test_the_line_of_a_fault_its_value_and_what_was_meant(tool: Tool, tmp_path: 
 
 
 def test_a_network_that_is_taken(tool: Tool) -> None:
-    status, out, _ = tool("psi-where", example("first"))
-    assert status == 0
-    assert out.endswith("first.toml: psi accepts it\n")
+    assert out_of(tool("psi-where", example("first"))).endswith("first.toml: psi accepts it\n")
 
 
 def test_the_sentences_are_the_guides() -> None:

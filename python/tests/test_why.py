@@ -5,7 +5,7 @@ import tomllib
 from pathlib import Path
 
 import pytest
-from conftest import TOP, Psi, Tool, example
+from conftest import TOP, Psi, Tool, example, out_of
 from oracle import plain_network
 
 from psi_tools.model.moves import Load, Moves, closed_classes, loads_of
@@ -34,27 +34,29 @@ def never_of(text: str) -> list[str]:
     return never_met(net, Moves(net))
 
 
-def test_a_sum_that_is_kept() -> None:
+def test_a_sum_that_is_kept_and_numbers_that_are_not_left() -> None:
     assert never_of(PAIRS) == ["no event changes the sum nuts - bolts: states with other sums never meet"]
-
-
-def test_numbers_that_are_not_left() -> None:
     (printed,) = never_of(PARITY)
-    wanted = "pairs has 2 sets of numbers that no event leaves, 0 to 4 (3 of them) and 1 to 5"
-    assert printed.startswith(wanted)
+    assert printed.startswith("pairs has 2 sets of numbers that no event leaves, 0 to 4 (3 of them) and 1 to 5")
 
 
 def test_the_gallery_is_free_but_for_the_closed_one() -> None:
     for file in sorted((TOP / "examples").glob("*.toml")):
         net = Network.read(file)
-        found = never_met(net, Moves(net))
+        found, classes = never_met(net, Moves(net)), closed_classes(net)
         assert bool(found) == (file.stem == "central-server"), (file, found)
+        assert classes is None or (len(classes) == 1) == (not found), file
 
 
 def test_loads() -> None:
     assert loads_of(Network.read(example("call-centre"))) == [Load(5, 6, 0)]
     loads = loads_of(Network.read(example("tandem-blocking")))
     assert [each.arrivals > 0 and each.service > 0 for each in loads] == [True] * 3
+    # A guarded event of a server's rate is one more server.
+    net = Network(version=2).queue("a", 9, 2)
+    net.event("in", "arrival", 5, to=["a"]).event("out", "service", 2, source="a")
+    net.event("third", "guarded", 2, part=[{"queue": "a", "least": 3, "shift": -1}])
+    assert loads_of(net) == [Load(5, 6, 0)]
 
 
 @pytest.mark.parametrize("arrival, servers, places", [(5, 3, 30), (150, 100, 140)])
@@ -69,13 +71,6 @@ def test_the_load_counts_each_server_once_and_abandonment_apart(
     assert found.giving_up / found.arrivals == pytest.approx(0.5 * (places - servers) / arrival)
     reported = json.loads(tool("psi-why", "net.toml", "--format", "json", "--seconds", 1)[1])
     assert reported["loads"][0]["load"] == pytest.approx(load)
-
-
-def test_a_guarded_event_of_a_servers_rate_is_one_more_server() -> None:
-    net = Network(version=2).queue("a", 9, 2)
-    net.event("in", "arrival", 5, to=["a"]).event("out", "service", 2, source="a")
-    net.event("third", "guarded", 2, part=[{"queue": "a", "least": 3, "shift": -1}])
-    assert loads_of(net) == [Load(5, 6, 0)]
 
 
 # Two queues, and a switch that only turns where both are alike: each of their sums and numbers can
@@ -114,12 +109,6 @@ def test_closed_classes_of_small_networks_are_found() -> None:
         assert reached <= {*states}
 
 
-def test_what_couples_has_one_closed_class() -> None:
-    for file in sorted((TOP / "examples").glob("*.toml")):
-        found = closed_classes(Network.read(file))
-        assert found is None or (len(found) == 1) == (file.stem != "central-server"), file
-
-
 def test_horizons_are_those_of_the_report(tool: Tool, psi: Psi) -> None:
     reported = json.loads(tool("psi-why", example("single-server"), "--format", "json")[1])
     report = psi.report(example("single-server"), 0, 0, 20)
@@ -132,14 +121,11 @@ def test_horizons_are_those_of_the_report(tool: Tool, psi: Psi) -> None:
 def test_single_states_are_told_where_streams_are_not_met(tool: Tool, tmp_path: Path) -> None:
     text = example("longest-queue").read_text()
     (tmp_path / "net.toml").write_text(text.replace("\nsplit = 1\n", "\nsplit = 1\nlimit = 8\n"))
-    status, out, _ = tool("psi-why", "net.toml", "--seconds", "60")
-    assert status == 0
+    out = out_of(tool("psi-why", "net.toml", "--seconds", "60"))
     wanted = "all 64 states, followed each by itself, have met after 30 steps (stream 0), "
     assert f"\n{wanted}the boxes of a run after 1,586\n" in out
     assert "\nwhat may help: a greater limit: 20, or 22 in version 2; the file's is 8\n" in out
 
 
 def test_events_that_are_not_monotone(tool: Tool) -> None:
-    status, out, _ = tool("psi-why", example("batch-arrivals"), "--seconds", "2")
-    assert status == 0
-    assert "isn't monotone" in out
+    assert "isn't monotone" in out_of(tool("psi-why", example("batch-arrivals"), "--seconds", "2"))
