@@ -67,6 +67,8 @@ GUIDE = (TOP / "docs/FORMATS.md").read_text()
 PART = GUIDE.partition("\n## Performance figures\n")[2].partition("\n## ")[0]
 FILE, CALL = TOP / "examples/service-level.toml", "report examples/service-level.toml 0 0 10000"
 SERVERS, PLACES, COME, SERVED, WITHIN = 3, 10, 5, 2, 0.5
+# The probability of each number of callers.
+LAW = birth_and_death(COME, [SERVED * min(number, SERVERS) for number in range(1, PLACES + 1)])
 
 
 def in_time(found: int) -> float:
@@ -76,11 +78,6 @@ def in_time(found: int) -> float:
     mean = SERVERS * SERVED * WITHIN
     many = found - SERVERS
     return 1 - sum(math.exp(-mean) * mean**i / math.factorial(i) for i in range(many + 1))
-
-
-def law() -> list[float]:
-    """The probability of each number of callers."""
-    return birth_and_death(COME, [SERVED * min(number, SERVERS) for number in range(1, PLACES + 1)])
 
 
 def means_of_law() -> dict[str, float]:
@@ -93,7 +90,7 @@ def means_of_law() -> dict[str, float]:
         "all-busy": lambda n: n >= SERVERS,
         "soon": lambda n: 10**6 * in_time(n),
     }
-    return {name: sum(share * reward(n) for n, share in enumerate(law())) for name, reward in rewards.items()}
+    return {name: sum(share * reward(n) for n, share in enumerate(LAW)) for name, reward in rewards.items()}
 
 
 def means_of_report(program: str) -> dict[str, float]:
@@ -138,7 +135,7 @@ def test_the_table_is_that_of_the_report_and_of_the_law(program: str) -> None:
 def test_the_interval_of_a_quotient_holds_it() -> None:
     """The minutes of waiting, of 20 reports of 500 samples each that are drawn from the law."""
     repetitions, reports, samples = 400, 20, 500
-    found = numpy.random.default_rng(1).choice(PLACES + 1, (repetitions, reports, samples), p=law())
+    found = numpy.random.default_rng(1).choice(PLACES + 1, (repetitions, reports, samples), p=LAW)
     a = numpy.maximum(0, found - SERVERS).mean(axis=2)
     b = COME * (found < PLACES).mean(axis=2)
     r = a.mean(axis=1) / b.mean(axis=1)

@@ -314,25 +314,15 @@ def test_few_files_may_be_open(tool: Tool) -> None:
             assert "ulimit -n" in last[0] or "open files" in last[0], error
 
 
-HOSTS = {
-    "binary": b"\xff\xfe\x00\n",
-    "words": b"this is no host\n",
-    "option": b"-oProxyCommand=sh\n",
-    "slots": b"0/node\n",
-    "empty": b"# nothing\n",
-    "slash": b"4/\n",
-    "a folder": None,
-    "url": b"http://node1/\n",
-    "long": b"n" * 300 + b"\n",
-    "signs": b"node;reboot\n",
-}
-
-
-@pytest.mark.parametrize("name", HOSTS)
-def test_hosts_that_are_no_hosts(tool: Tool, tmp_path: Path, name: str) -> None:
+@pytest.mark.parametrize(
+    "text",
+    [None, b"\xff\xfe\x00", b"this is no host", b"-oProxyCommand=sh", b"0/node", b"# nothing", b"4/", b"http://node1/"]
+    + [b"n" * 300, b"node;reboot"],
+)
+def test_hosts_that_are_no_hosts(tool: Tool, tmp_path: Path, text: bytes | None) -> None:
+    """Where there is no text the name is that of a folder."""
     hosts = tmp_path / "hosts"
-    text = HOSTS[name]
-    hosts.mkdir() if text is None else hosts.write_bytes(text)
+    hosts.mkdir() if text is None else hosts.write_bytes(text + b"\n")
     status, out, error = tool(*MANY, "--hosts", "hosts")
     assert (status, out) == (2, ""), error
     assert re.fullmatch(r"psi-many: [^\n]*hosts[^\n]*\n", error), error

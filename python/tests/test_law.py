@@ -55,15 +55,6 @@ def reported(tool: Tool, *words: object) -> Any:
     return json.loads(tool("psi-law", *words, "--format", "json")[1])
 
 
-def test_the_law_is_that_of_the_states(psi: Psi, network: Network) -> None:
-    states = psi.samples(network, seed=3, first=10, count=300)
-    near, far = states.T.tolist()
-    cost, longest = [[5, 0, 0, 7][number] for number in near], states.max(axis=1).tolist()
-    for name, values in (("near", near), ("far", far), ("longest", longest), ("cost", cost)):
-        counts = collections.Counter(values)
-        assert dict(psi.law(network, name, 3, 10, 300)["count"]) == dict(sorted(counts.items()))
-
-
 def test_the_solved_law_is_in_most_intervals(psi: Psi, network: Network) -> None:
     states, law = law_of(network)
     found = psi.law(network, "near", count=20_000)
@@ -85,10 +76,6 @@ def test_forms_and_pictures(tool: Tool, tmp_path: Path, net: str) -> None:
     assert sum(int(line.split(",")[1]) for line in lines[1:]) == 500
     found = reported(tool, *words)
     assert sum(each["count"] for each in found["values"]) == found["samples"] == 500
-
-
-def test_streams_that_are_not_coupled_are_told_first(tool: Tool, short: str) -> None:
-    assert out_of(tool("psi-law", short, "near", "--count", "200")).startswith("NOT COUPLED: ")
 
 
 RARE = (
@@ -127,10 +114,14 @@ def joined(rows: Iterable[Iterable[int]]) -> dict[tuple[int, ...], int]:
     return dict(sorted(collections.Counter(tuple(row) for row in rows).items()))
 
 
-def test_a_joint_law_is_that_of_the_states(psi: Psi, network: Network) -> None:
+def test_laws_are_those_of_the_states(psi: Psi, network: Network) -> None:
+    """Of one number, and joint ones."""
     states = psi.samples(network, seed=3, first=10, count=300).astype(int)
     near, far = states.T
     cost, longest = [[5, 0, 0, 7][number] for number in near], states.max(axis=1).tolist()
+    for name, values in (("near", near.tolist()), ("far", far.tolist()), ("longest", longest), ("cost", cost)):
+        counts = collections.Counter(values)
+        assert dict(psi.law(network, name, 3, 10, 300)["count"]) == dict(sorted(counts.items()))
     for names, columns, rows in (
         (["near", "far"], ["queue.near", "queue.far"], states.tolist()),
         (["longest", "near"], ["reward.longest", "queue.near"], zip(longest, near.tolist())),
@@ -210,7 +201,7 @@ def test_streams_that_are_not_coupled_widen_probabilities(psi: Psi, tool: Tool, 
     with pytest.warns(psi.Uncoupled):
         both = psi.law(network, ["near", "far"], count=200)
     assert int(both["count"].sum()) == 200 - lost
-    for words in (("near", "far"), ("--where", "near == 0")):
+    for words in (("near",), ("near", "far"), ("--where", "near == 0")):
         assert out_of(tool("psi-law", short, *words, "--count", "200")).startswith(
             f"NOT COUPLED: {lost} of 200 streams; "
         )

@@ -44,9 +44,12 @@ def rows_of(tool: Tool, *words: object) -> list[dict[str, Any]]:
     return rows
 
 
-def test_text_and_json(tool: Tool, blocks: list[Path]) -> None:
+def test_text_json_and_levels(tool: Tool, blocks: list[Path]) -> None:
+    """A wider level is wider."""
     assert out_of(tool("psi-means", "kept")).startswith("2,000 samples in ")
     assert [row["name"] for row in rows_of(tool, "kept") if row["item"] == "mean"] == ["jobs", "broken"]
+    for narrow, wide in zip(*(rows_of(tool, "kept", "--level", level) for level in (90, 99))):
+        assert narrow["half"] <= wide["half"]
 
 
 def test_a_report_that_is_given_twice_is_refused(tool: Tool, tmp_path: Path, blocks: list[Path]) -> None:
@@ -73,11 +76,6 @@ def test_a_network_tells_what_is_not_coupled(tool: Tool, tmp_path: Path) -> None
         if row["item"].endswith("mean"):
             assert row["low"] < row["mean"] < row["high"]
     assert is_refused(tool("psi-means", *blocks, "--net", NET), "aren't of this network")
-
-
-def test_a_wider_level_is_wider(tool: Tool, blocks: list[Path]) -> None:
-    for narrow, wide in zip(*(rows_of(tool, "kept", "--level", level) for level in (90, 99))):
-        assert narrow["half"] <= wide["half"]
 
 
 def test_too_few_batches(tool: Tool, blocks: list[Path]) -> None:

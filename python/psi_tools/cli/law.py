@@ -38,7 +38,6 @@ values make it. With --guaranteed the coverage of each interval is a theorem."""
 
 
 def parser() -> Parser:
-    """The parser of the arguments."""
     parser = Parser(COMMAND, ABOUT)
     parser.add("net", "NET", "a network file")
     parser.add("names", "QUEUE|REWARD", "queues and rewards of the network; one, or several jointly", nargs="*")

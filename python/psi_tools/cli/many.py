@@ -37,7 +37,6 @@ intervals.
 
 
 def parser() -> Parser:
-    """The parser of the arguments."""
     parser = Parser(COMMAND, ABOUT)
     parser.add("net", "NET", "a network file")
     parser.add("seed", "SEED", "the seed, 0 to 2^64 - 1", type=STREAM)
@@ -68,7 +67,6 @@ def parser() -> Parser:
 
 
 def parse(arguments: list[str]) -> argparse.Namespace:
-    """The parsed arguments."""
     args = parser().parse_args(arguments)
     for option in (args.ssh, args.sbatch):
         try:

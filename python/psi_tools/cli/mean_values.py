@@ -39,7 +39,6 @@ def estimate(values: Sequence[int]) -> tuple[float, float]:
 
 
 def parser() -> Parser:
-    """The parser of the arguments."""
     parser = Parser(COMMAND, ABOUT)
     parser.add("net", "NET", "the file of a closed network")
     parser.add("total", "TOTAL", "the number of customers, 0 to 256", type=TOTAL)

@@ -41,7 +41,6 @@ PATHS = 100
 
 
 def parse(arguments: list[str]) -> argparse.Namespace:
-    """The parsed arguments."""
     args = parser().parse_args(arguments)
     if not LEAST_LEVEL <= args.level / 100 <= MOST_LEVEL:
         raise PsiError(f"--level is from {100 * LEAST_LEVEL:g} to {100 * MOST_LEVEL:g}")
@@ -59,7 +58,6 @@ def parse(arguments: list[str]) -> argparse.Namespace:
 
 
 def parser() -> Parser:
-    """The parser of the arguments."""
     parser = Parser(COMMAND, ABOUT)
     text = "reports of psi report, at least 20, or one folder of psi-many; with --paths a network file"
     parser.add("reports", "REPORT", text, nargs="+")

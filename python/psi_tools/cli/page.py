@@ -28,7 +28,6 @@ Python. A log of more than 20,000,000 bytes is refused."""
 
 
 def parser() -> Parser:
-    """The reader of the arguments."""
     parser = Parser(COMMAND, ABOUT)
     parser.add("net", "NET", "a network file")
     parser.add("streams", "SEED STREAM", "the sample's seed and stream, 0 to 2^64 - 1", nargs="*")

@@ -58,7 +58,6 @@ drawn."""
 
 
 def parser() -> Parser:
-    """The parser of the arguments."""
     parser = Parser(COMMAND, ABOUT)
     parser.add("-o --out", "FILE", "the picture: SVG, PNG or PDF, by the ending of its name", default="")
     parser.add("-t --title", "TITLE", "a title in place of the picture's own", default="")
@@ -76,7 +75,6 @@ def parser() -> Parser:
 
 
 def parse(arguments: list[str]) -> argparse.Namespace:
-    """The parsed arguments."""
     args = parser().parse_intermixed_args(arguments)
     require(args.what in DRAWN, f"the first argument is one of {', '.join(DRAWN)}")
     require(args.files, f"{args.what} needs a file")

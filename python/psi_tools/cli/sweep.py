@@ -45,7 +45,6 @@ What is drawn is kept in a folder, so the same call, or one with more values, go
 
 
 def parser() -> Parser:
-    """The parser of the arguments."""
     parser = Parser(COMMAND, ABOUT)
     parser.add("net", "NET", "a network file")
     text = "what differs, and how; or other network files, which are compared as they are"

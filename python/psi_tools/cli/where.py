@@ -18,7 +18,6 @@ The status is 0 where psi accepts the file, and 3, as that of psi check, where i
 
 
 def parser() -> Parser:
-    """The parser of the arguments."""
     parser = Parser(COMMAND, ABOUT)
     parser.add("net", "NET", "a network file")
     parser.add_psi()

@@ -28,7 +28,6 @@ BALANCE = 0.9, 1.1
 
 
 def parser() -> Parser:
-    """The parser of the arguments."""
     parser = Parser(COMMAND, ABOUT)
     parser.add("net", "NET", "a network file")
     parser.add("--seed", "SEED", "the seed of the streams that are tried; 0 by default", type=STREAM, default=0)
