@@ -20,7 +20,8 @@ the docstrings, which `help(psi.samples)` shows too.
 A network is a `Network`, or the path of its file. Every call that draws takes `program`, a
 `Program`; without one it runs the program that is built, or the one on the PATH. Work above two
 seconds shows a progress bar where `tqdm` is installed; the environment variable `TQDM_DISABLE`
-turns it off. The examples assume `import psi`, and this network:
+turns it off. Every call raises `ArgumentError` where an argument is out of its range. The examples
+assume `import psi`, and this network:
 
 ```pycon
 >>> net = psi.Network().queue("desk", capacity=10)

@@ -13,7 +13,7 @@ The examples of the calls assume all of these lines but the last.
 Everything comes from the built program: crates/psi/out/psi, or psi on the PATH, or the `Program` that
 a call is handed. A network is a `Network`, or the path of its file. Seeds and streams are 0 to
 2^64 - 1; the sample of a network, a seed and a stream is always the same. What goes wrong is a
-`PsiError`, with `status`, `line` and `message`.
+`PsiError`, with `status`, `line` and `message`; an argument out of its range is an `ArgumentError`.
 """
 
 import os

@@ -74,8 +74,6 @@ def report(
 
     Raises
     ------
-    ArgumentError
-        An argument is out of its range.
     Refused
         The network is refused.
 
@@ -139,8 +137,6 @@ def means(
 
     Raises
     ------
-    ArgumentError
-        An argument is out of its range.
     Refused
         The network is refused.
 
@@ -236,8 +232,6 @@ def law(
     ------
     PsiError
         The network has no such queue or reward.
-    ArgumentError
-        An argument is out of its range.
     Refused
         The network is refused.
 
@@ -321,8 +315,6 @@ def probability(
     ------
     PsiError
         The text is no condition, names what the network has not, or no stream is coupled.
-    ArgumentError
-        An argument is out of its range.
     Refused
         The network is refused.
 

@@ -49,8 +49,6 @@ def couple(net: Source, seed: int, stream: int, *, program: Program | None = Non
     ------
     NotCoupled
         The stream is not coupled within the network's limit.
-    ArgumentError
-        An argument is out of its range.
     Refused
         The network is refused.
 
@@ -88,8 +86,6 @@ def reward(net: Source, seed: int, stream: int, name: str, *, program: Program |
     ------
     NotCoupled
         The value is not known within the network's limit.
-    ArgumentError
-        An argument is out of its range.
     Refused
         The network is refused, or has no such reward.
 
@@ -126,8 +122,6 @@ def exact(net: Source, seed: int, stream: int, exponent: int, *, program: Progra
 
     Raises
     ------
-    ArgumentError
-        An argument is out of its range.
     Refused
         The network is refused, or too large.
 
@@ -163,8 +157,6 @@ def log(net: Source, seed: int, stream: int, *, program: Program | None = None) 
     ------
     NotCoupled
         The stream is not coupled within the network's limit.
-    ArgumentError
-        An argument is out of its range.
     Refused
         The network is refused.
 

@@ -51,8 +51,6 @@ def samples(
     ------
     NotCoupled
         A stream is not coupled within the network's limit, and `keep` is false.
-    ArgumentError
-        An argument is out of its range.
     Refused
         The network is refused; `line` is psi's own line.
 
@@ -104,8 +102,6 @@ def closed(
     ------
     NotCoupled
         A stream is not coupled within the network's limit, and `keep` is false.
-    ArgumentError
-        An argument is out of its range.
     Refused
         The network is refused, or is not closed.
 
@@ -157,8 +153,6 @@ def states(
 
     Raises
     ------
-    ArgumentError
-        An argument is out of its range.
     Refused
         The network is refused, or is not closed; `line` is the one that psi has for it.
 
@@ -231,8 +225,6 @@ def paths(
 
     Raises
     ------
-    ArgumentError
-        An argument is out of its range.
     Refused
         The network is refused, or is not closed; `line` is the one that psi has for it.
 

@@ -38,10 +38,9 @@ def test_a_folder_of_psi_many(tool: Tool, blocks: list[Path]) -> None:
             assert float(low) == pytest.approx(float(mean) - float(half), abs=float(half) / 20)
 
 
-def rows_of(tool: Tool, *words: object) -> list[dict[str, Any]]:
+def rows_of(tool: Tool, *words: object) -> Any:
     """The rows of an answer in JSON."""
-    rows: list[dict[str, Any]] = json.loads(tool("psi-means", *words, "--format", "json")[1])["rows"]
-    return rows
+    return json.loads(tool("psi-means", *words, "--format", "json")[1])["rows"]
 
 
 def test_text_json_and_levels(tool: Tool, blocks: list[Path]) -> None:

@@ -175,24 +175,16 @@ NAMES = [f"{case[0]}-{case[2].__name__}-{case[5]}" for case in CASES]
 
 
 @pytest.mark.parametrize("name, text, model, first, meant, total", CASES, ids=NAMES)
-def test_the_law_is_that_of_the_model(
+def test_the_law_is_that_of_the_model_and_samples_have_its_means(
     psi: Psi, name: str, text: str, model: Model, first: State, meant: Meant, total: int | None
 ) -> None:
-    net = Network.parse(text)
+    net, law = Network.parse(text), solved(model, first)
     wanted: dict[tuple[int, ...], float] = collections.defaultdict(float)
-    for state, probability in solved(model, first).items():
+    for state, probability in law.items():
         wanted[meant(state)] += probability
     for state, probability in zip(*law_of(net, total)):
         assert math.isclose(probability, wanted.pop(state, 0), abs_tol=1e-12), (name, state)
     assert not wanted
-
-
-@pytest.mark.parametrize("name, text, model, first, meant, total", CASES, ids=NAMES)
-def test_samples_have_the_means_of_the_model(
-    psi: Psi, name: str, text: str, model: Model, first: State, meant: Meant, total: int | None
-) -> None:
-    net = Network.parse(text)
-    law = solved(model, first)
     states, weights = numpy.array([meant(state) for state in law]), numpy.array([*law.values()])
     means = weights @ states
     spreads = numpy.sqrt(weights @ (states - means) ** 2)

@@ -34,10 +34,9 @@ def times_of(folder: Path) -> dict[Path, int]:
     return {file: file.stat().st_mtime_ns for file in folder.rglob("*.csv")}
 
 
-def rows_of(tool: Tool, net: str, *words: object) -> list[dict[str, Any]]:
+def rows_of(tool: Tool, net: str, *words: object) -> Any:
     """The rows of an answer in JSON."""
-    rows: list[dict[str, Any]] = json.loads(out_of(tool("psi-sweep", net, *words, "--format", "json")))["rows"]
-    return rows
+    return json.loads(out_of(tool("psi-sweep", net, *words, "--format", "json")))["rows"]
 
 
 def test_events_have_the_same_numbers_in_all_designs() -> None:

@@ -187,13 +187,9 @@ def completion(shell: str, name: str) -> str:
     return {"bash": bash_of, "zsh": zsh_of, "fish": fish_of}[shell](name, parser)
 
 
-def main(arguments: list[str]) -> None:
-    shell, command = arguments
-    write(completion(shell, command.removeprefix("psi-")))
-
-
 if __name__ == "__main__":
     is_known = len(sys.argv) == 3 and sys.argv[1] in SHELLS
     if not is_known or sys.argv[2].removeprefix("psi-") not in NAMES:
         sys.exit("usage: python3 -m psi_tools.cli.completion bash|zsh|fish COMMAND")
-    sys.exit(run("psi_tools.cli.completion", main, sys.argv[1:]))
+    shell, command = sys.argv[1], sys.argv[2].removeprefix("psi-")
+    sys.exit(run("psi_tools.cli.completion", lambda _: write(completion(shell, command)), sys.argv[1:]))

@@ -87,21 +87,21 @@ def item_at(document: Table, found: Finding) -> Any:
 def place_of(document: Table, found: Finding) -> Place:
     """The line of what is refused in a document, and a remark on it, or none."""
     section, place, key, name = found["section"], found["number"] - 1, found["key"], found["name"]
-    if section == "top":
-        return place_at_top(document, name, key)
-    table = item_at(document, found)
+    table = document if section == "top" else item_at(document, found)
     if table is None:
         return document.places.get(section), None
     if type(table) is not Table:
         return document[section].places[place], None
-    if name == "DuplicateName":
-        own = table.get("name")
-        first = next(each for each in document[section] if type(each) is Table and each.get("name") == own)
-        return table.places.get("name", table.line), f"the first one is on line {first.places['name']}"
     if section == "event" and in_parts(table, name, key):
         return place_in_parts(document, table, name, key)
     if name == "UnknownKey" and key == "-":
         return place_of_odd_key(table), None
+    if section == "top":
+        return place_at_top(document, name, key)
+    if name == "DuplicateName":
+        own = table.get("name")
+        first = next(each for each in document[section] if type(each) is Table and each.get("name") == own)
+        return table.places.get("name", table.line), f"the first one is on line {first.places['name']}"
     if key not in table.places:
         return table.line, "its header; the key isn't there" if name == "MissingKey" else None
     return place_in_value(document, table, name, key)
@@ -109,8 +109,6 @@ def place_of(document: Table, found: Finding) -> Place:
 
 def place_at_top(document: Table, name: str, key: str) -> Place:
     """The line of what is refused at the top."""
-    if name == "UnknownKey" and key == "-":
-        return place_of_odd_key(document), None
     if key in MOST and name == "TooMany" and type(document.get(key)) is Array:
         return document[key].places[MOST[key]], f"the table that is one too many, {MOST[key] + 1}"
     if key in document.places:
