@@ -13,6 +13,8 @@ from psi_tools.cli.command import run
 from psi_tools.cli.entry import NAMES
 from psi_tools.io.files import write
 
+# An option of a command: its names, its value's name, its choices, and its help.
+Option = tuple[Sequence[str], str | None, Iterable[Any] | None, str]
 SHELLS = "bash", "zsh", "fish"
 # Parts of the names of options and arguments that stand for a file or a folder.
 FILES = ("FILE", "FOLDER", "NET", "REPORT", "PSI", "PROGRAM")
@@ -29,17 +31,13 @@ WORDS: dict[str, dict[int, tuple[str, ...]]] = {
 SECTIONS = {"law": {2: "queue|reward"}, "sweep": {2: "queue|event"}}
 
 
-def options_of(
-    parser: argparse.ArgumentParser,
-) -> Iterator[tuple[Sequence[str], str | None, Iterable[Any] | None, str]]:
-    """The options of a reader: each with its names, its value's name, its choices and its help."""
+def options_of(parser: argparse.ArgumentParser) -> Iterator[Option]:
+    """The options of a reader."""
     for action in parser._actions:
         if action.option_strings and action.help is not argparse.SUPPRESS:
-            takes = action.nargs != 0
-            metavar = (action.metavar or action.dest.upper()) if takes else None
-            description = (action.help or "").replace("%%", "%")
+            metavar = (action.metavar or action.dest.upper()) if action.nargs != 0 else None
             name = metavar if isinstance(metavar, str) or metavar is None else " ".join(metavar)
-            yield action.option_strings, name, action.choices, description
+            yield action.option_strings, name, action.choices, (action.help or "").replace("%%", "%")
 
 
 def kinds_of(parser: argparse.ArgumentParser) -> dict[str, tuple[argparse.ArgumentParser, str]]:

@@ -160,10 +160,8 @@ def network(args: argparse.Namespace, path: str, *others: str) -> "NetworkPictur
 def streams_of(what: str, streams: tuple[str, ...]) -> tuple[int, int]:
     """The seed and the stream of a sample."""
     require(len(streams) == 2, f"{what} is given NET SEED STREAM")
-    require(
-        all(NUMBER.fullmatch(word) and int(word) <= GREATEST for word in streams),
-        "SEED and STREAM are numbers up to 2^64 - 1",
-    )
+    are_numbers = all(NUMBER.fullmatch(word) and int(word) <= GREATEST for word in streams)
+    require(are_numbers, "SEED and STREAM are numbers up to 2^64 - 1")
     seed, stream = map(int, streams)
     return seed, stream
 
@@ -172,8 +170,7 @@ def past(args: argparse.Namespace, path: str, *streams: str) -> "tuple[Past, int
     """The runs of a sample, and the queue that is drawn: none for all customers of several."""
     from psi_tools.plot.past import past_of
 
-    seed, stream = streams_of("past", streams)
-    found = past_of(args.psi, path, seed, stream, args.new_words)
+    found = past_of(args.psi, path, *streams_of("past", streams), args.new_words)
     require(args.queue is None or args.queue in found.queues, f"{path}: there is no queue {args.queue}")
     if args.queue is not None:
         return found, found.queues.index(args.queue)
@@ -184,8 +181,7 @@ def path(args: argparse.Namespace, path: str, *streams: str) -> "tuple[Stationar
     """A path, and the queues that are drawn."""
     from psi_tools.plot.past import path_of
 
-    seed, stream = streams_of("path", streams)
-    found = path_of(args.psi, path, seed, stream, USUAL_STEPS if args.steps is None else args.steps)
+    found = path_of(args.psi, path, *streams_of("path", streams), USUAL_STEPS if args.steps is None else args.steps)
     queues = found.past.queues
     require(args.queue is None or args.queue in queues, f"{path}: there is no queue {args.queue}")
     require(args.queue is not None or len(queues) <= MOST_QUEUES, f"{path}: of more than 16 queues --queue names one")

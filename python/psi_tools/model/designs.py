@@ -83,10 +83,8 @@ def table_of(net: Network, name: str, key: str) -> dict[str, Any] | None:
         tables = net.table[KEYS[key][0]]
         return next((table for table in tables if table["name"] == name), None)
     event, queue = name.split(".")
-    for table in net.table["event"]:
-        if table["name"] == event:
-            return next((part for part in table.get("part", []) if part["queue"] == queue), None)
-    return None
+    parts = (part for table in net.table["event"] if table["name"] == event for part in table.get("part", []))
+    return next((part for part in parts if part["queue"] == queue), None)
 
 
 def depends(net: Network, queue: str, used: list[str]) -> list[tuple[str, Key | None]]:
@@ -96,10 +94,8 @@ def depends(net: Network, queue: str, used: list[str]) -> list[tuple[str, Key | 
     found: list[tuple[str, Key | None]] = []
     for event in net.table["event"]:
         for part in event.get("part", []):
-            names = [key for key in PARTS if key in part and part["queue"] == queue]
-            found += [
-                (f"{key} = {part[key]} of event {event['name']}", (f"{event['name']}.{queue}", key)) for key in names
-            ]
+            for key in (key for key in PARTS if key in part and part["queue"] == queue):
+                found.append((f"{key} = {part[key]} of event {event['name']}", (f"{event['name']}.{queue}", key)))
         if event["kind"] == "index" and queue in event["to"]:
             found.append((f"the table of event {event['name']}", None))
     for reward in net.table["reward"]:
@@ -171,8 +167,7 @@ def fit_tables(net: Network) -> Iterator[str]:
             cut_rows(event["table"], [capacity[name] for name in event["to"]])
             for name, row in zip(event["to"], event["table"]):
                 if len(row) < capacity[name]:
-                    message = f"its table has no index for that many customers in {name}"
-                    raise PsiError(f"{event['name']}: {message}")
+                    raise PsiError(f"{event['name']}: its table has no index for that many customers in {name}")
     for reward in net.table["reward"]:
         if reward["kind"] == "table":
             wanted = [capacity[name] + 1 for name in reward["queues"]]

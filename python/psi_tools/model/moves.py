@@ -252,9 +252,6 @@ def describe_classes(net: Network) -> list[str]:
     found = closed_classes(net)
     if found is None or len(found) < 2:
         return []
-    shown = " and of ".join(",".join(map(str, states[0])) for states in found[:2])
-    more = " .." if len(found) > 2 else ""
-    return [
-        f"the states have {len(found)} classes that no event leaves, as those of {shown}{more}: "
-        "states in different ones never meet"
-    ]
+    shown = " and of ".join(",".join(map(str, states[0])) for states in found[:2]) + " .." * (len(found) > 2)
+    head = f"the states have {len(found)} classes that no event leaves, as those of {shown}"
+    return [f"{head}: states in different ones never meet"]

@@ -201,14 +201,13 @@ def place_in_value(document: Table, table: Table, name: str, key: str) -> Place:
         "WrongType": lambda item: type(item) not in types,
         "OutOfRange": lambda item: type(item) is int and not least_of(table) <= item <= 10**9,
     }
-    lines: Iterable[int] = ()
     if name in wrong:
-        lines = (place for item, place in items_of(value) if wrong[name](item))
-    elif name == "RepeatedTarget":
-        lines = repeats(items_of(value))
-    elif name == "TableLength" and key == "table":
-        lines = (place for place, *_ in wrong_rows(document, table))
-    return next(iter(lines), line), None
+        return next((place for item, place in items_of(value) if wrong[name](item)), line), None
+    if name == "RepeatedTarget":
+        return next(repeats(items_of(value)), line), None
+    if name == "TableLength" and key == "table":
+        return next((place for place, *_ in wrong_rows(document, table)), line), None
+    return line, None
 
 
 def items_of(value: Array) -> Iterator[tuple[Any, int]]:
@@ -330,9 +329,8 @@ def on_length(document: Table, table: Table, key: str) -> str | None:
     if len(value) != len(names):
         return f"{key} has the length {len(value)}; {len(names)} is wanted"
     rows = wrong_rows(document, table) if key == "table" else ()
-    return next(
-        (f"the row of {name} has the length {long}; {wanted} is wanted" for _, name, long, wanted in rows), None
-    )
+    texts = (f"the row of {name} has the length {long}; {wanted} is wanted" for _, name, long, wanted in rows)
+    return next(texts, None)
 
 
 def on_total(document: Table, number: int) -> str:
