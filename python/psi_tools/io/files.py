@@ -10,7 +10,6 @@ import contextlib
 import errno
 import os
 import re
-import stat
 import sys
 from collections.abc import Iterable
 
@@ -41,13 +40,8 @@ def descriptor_of(path: str) -> tuple[int, int] | None:
 
 def is_stream(path: str) -> bool:
     """Whether a path is written as a stream: it is there, and no plain file; a folder is none."""
-    if descriptor_of(path):
-        return True
-    try:
-        mode = os.stat(path).st_mode
-    except OSError:
-        return False
-    return not stat.S_ISREG(mode) and not stat.S_ISDIR(mode)
+    is_file = not os.path.exists(path) or os.path.isfile(path) or os.path.isdir(path)
+    return descriptor_of(path) is not None or not is_file
 
 
 def write_stream(path: str, pieces: Iterable[bytes]) -> None:
@@ -64,7 +58,7 @@ def write_stream(path: str, pieces: Iterable[bytes]) -> None:
 def mode_of(target: str) -> int:
     """The mode of a file that is written: its own, or that of a new one."""
     try:
-        return stat.S_IMODE(os.stat(target).st_mode) & 0o777
+        return os.stat(target).st_mode & 0o777
     except FileNotFoundError:
         mask = os.umask(0o077)
         os.umask(mask)
