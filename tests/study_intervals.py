@@ -14,7 +14,6 @@ which is 92 where it isn't given.
 """
 
 import argparse
-import collections
 import itertools
 import os
 import pathlib
@@ -109,10 +108,14 @@ class Tally:
         return bool(of_all >= WORDS.least)
 
 
-def batches_from(net: Network, columns: list[tuple[str, str, Values]], lost: Values | None = None) -> Batches:
-    """Batches with a row for each column of values, which are arrays of batches and samples; where
-    streams aren't coupled, `lost` says which."""
-    known = numpy.ones(columns[0][2].shape, bool) if lost is None else ~lost
+def tallies_of(name: str, wanted: float) -> list[Tally]:
+    """Those of both ways."""
+    return [Tally(f"{name}: {way}", wanted) for way in ("batches", "values")]
+
+
+def batches_from(net: Network, columns: list[tuple[str, str, Values]], known: Values) -> Batches:
+    """Batches with a row for each column of values, which are arrays of batches and samples, and of which those
+    are `known` whose streams are coupled."""
     rows = []
     for kind, name, values in columns:
         sums = [int(x) for x in (values * known).sum(axis=1)]
@@ -128,8 +131,8 @@ def law_from(
 ) -> laws.Law:
     """The law that psi-law has of a row, by how many samples have each value; of the queue these numbers are seen."""
     spans = Spans(net, {"q": (min(seen), max(seen))} if seen else {})
-    pairs = [(value, count) for value, count in sorted(counts.items()) if count]
-    return laws.Law(name, "value", pairs, unknown, spans.of_queue(name) if name == "q" else spans.of_reward(name))
+    span = spans.of_queue(name) if name == "q" else spans.of_reward(name)
+    return laws.Law(name, "value", [*counts.items()], unknown, span)
 
 
 def counted(values: Values) -> dict[int, int]:
@@ -139,21 +142,24 @@ def counted(values: Values) -> dict[int, int]:
 
 
 def single(
-    draw: numpy.random.Generator, name: str, load: float, capacity: int, reward: list[int] | None
+    draw: numpy.random.Generator, name: str, load: float, capacity: int, reward: list[int] | None, share: float = 0
 ) -> list[Tally]:
-    """The two tallies of a single row."""
-    law = law_of_queue(load, capacity)
-    rewards = numpy.arange(capacity + 1) if reward is None else numpy.array(reward)
+    """The two tallies of a single row, where a share of all isn't coupled, the more so the more customers there are."""
+    law, customers = law_of_queue(load, capacity), numpy.arange(capacity + 1)
+    rewards, chance = numpy.array(reward or customers), share * customers / (law @ customers)
     net, wanted = queue_of(load, capacity, reward), float(law @ rewards)
-    tallies = [Tally(f"{name}: {way}", wanted) for way in ("batches", "values")]
-    shape = BATCHES, WORDS.count // BATCHES
+    tallies = tallies_of(name, wanted)
     for _ in range(WORDS.repetitions):
-        numbers = draw.choice(capacity + 1, shape, p=law)
-        values = rewards[numbers]
+        numbers = draw.choice(capacity + 1, (BATCHES, WORDS.count // BATCHES), p=law)
+        values, known = rewards[numbers], numpy.ones(numbers.shape, bool)
+        if share:
+            known = draw.random(numbers.shape) >= chance[numbers]
         columns = [("", "q", numbers)] + ([("reward-", "r", values)] if reward else [])
-        batches = batches_from(net, columns)
+        batches = batches_from(net, columns, known)
         tallies[0].take(batches.mean(batches.rows[-1]))
-        tallies[1].take(law_from(net, "r" if reward else "q", counted(values), seen=counted(numbers)).mean())
+        seen = counted(numbers) if not share else {}
+        counts, unknown = counted(values[known]), int((~known).sum())
+        tallies[1].take(law_from(net, "r" if reward else "q", counts, unknown, seen).mean())
     return tallies
 
 
@@ -166,8 +172,8 @@ def difference(draw: numpy.random.Generator, name: str, plus: float, minus: floa
     for _ in range(WORDS.repetitions):
         kind = draw.choice(4, shape, p=[1 - plus - minus - both, plus, minus, both])
         rows = [(kind == 1) | (kind == 3), (kind == 2) | (kind == 3)]
-        one, other = (batches_from(net, [("", "q", 4 * row), ("reward-", "r", row * 1)]) for row in rows)
-        tally.take(difference_of(one, other))
+        columns = ([("", "q", 4 * row), ("reward-", "r", row * 1)] for row in rows)
+        tally.take(difference_of(*(batches_from(net, own, numpy.ones(shape, bool)) for own in columns)))
     return tally
 
 
@@ -176,22 +182,6 @@ def difference_of(one: Batches, other: Batches) -> Mean:
     rows = [(own, own.rows[-1]) for own in (one, other)]
     first, second = (Sums(row.sums, own.met, own.spans[row.kind, row.name], own.lost) for own, row in rows)
     return difference_of_batches(first, second, 0.95)
-
-
-def uncoupled(draw: numpy.random.Generator) -> list[Tally]:
-    """The tallies where 27 % aren't coupled, and the more so the more customers there are."""
-    load, capacity = 0.7, 8
-    law, numbers = law_of_queue(load, capacity), numpy.arange(capacity + 1)
-    chance = 0.27 * numbers / (law @ numbers)
-    net, wanted = queue_of(load, capacity), float(law @ numbers)
-    tallies = [Tally(f"27 % uncoupled: {way}", wanted) for way in ("batches", "values")]
-    for _ in range(WORDS.repetitions):
-        values = draw.choice(capacity + 1, (BATCHES, WORDS.count // BATCHES), p=law)
-        lost = draw.random(values.shape) < chance[values]
-        batches = batches_from(net, [("", "q", values)], lost)
-        tallies[0].take(batches.mean(batches.rows[0]))
-        tallies[1].take(law_from(net, "q", counted(values[~lost]), int(lost.sum())).mean())
-    return tallies
 
 
 def synthetic() -> Iterator[Tally]:
@@ -204,7 +194,7 @@ def synthetic() -> Iterator[Tally]:
     yield difference(draw, "difference of rare rows, both ways", 0.0006, 0.0003, 0.0005)
     yield difference(draw, "difference of rare rows, apart", 0.001, 0.001, 0)
     yield difference(draw, "difference of common rows, rarely", 0.0005, 0.0002, 0.3)
-    yield from uncoupled(draw)
+    yield from single(draw, "27 % uncoupled", 0.7, 8, None, 0.27)
 
 
 def grouped(reports: list[Report]) -> Iterator[Batches]:
@@ -246,35 +236,24 @@ def by_psi(path: str) -> Iterator[Tally]:
 def each_row(psi: Program, net: Network, titles: list[str]) -> Iterable[Tally]:
     """The tallies of all rows of a network of one queue, by batches and by values."""
     names = ["q", *net.rewards]
-    tallies = [
-        [Tally(f"psi, {title}: {way}", wanted) for way in ("batches", "values")]
-        for title, wanted in zip(titles, solved(net))
-    ]
-    for batches, law in zip(grouped(reports_from(psi, net)), laws_from(psi, net)):
+    tables = {reward["name"]: numpy.array(reward["table"][0]) for reward in net.table["reward"]}
+    tallies = [tallies_of(f"psi, {title}", wanted) for title, wanted in zip(titles, solved(net))]
+    for batches, (numbers, unknown) in zip(grouped(reports_from(psi, net)), numbers_from(psi, net)):
         batches = batches.of_network(net)
         for name, row, (by_batches, by_values) in zip(names, batches.rows, tallies):
+            counts = counted(tables[name][numbers] if name in tables else numbers)
             by_batches.take(batches.mean(row))
-            by_values.take(law_of_row(net, name, *law).mean())
+            by_values.take(law_from(net, name, counts, unknown, counted(numbers)).mean())
     return itertools.chain.from_iterable(tallies)
 
 
-def laws_from(psi: Program, net: Network) -> Iterator[tuple[dict[int, int], int]]:
-    """How many samples of each repetition have each number of customers, and how many aren't coupled."""
+def numbers_from(psi: Program, net: Network) -> Iterator[tuple[Values, int]]:
+    """The number of customers in each sample of each repetition, and how many aren't coupled."""
     size = WORDS.count // 5 // FEW_BATCHES * FEW_BATCHES
     for repetition in range(WORDS.repetitions):
         _, *lines = psi.states(net.data, 51, repetition * size, size).splitlines()
-        numbers = collections.Counter(line.split(",")[2] for line in lines)
-        unknown = numbers.pop("", 0)
-        yield {int(number): count for number, count in numbers.items()}, unknown
-
-
-def law_of_row(net: Network, name: str, numbers: dict[int, int], unknown: int) -> laws.Law:
-    """The law that psi-law has of a row, by how many samples hold each number of customers."""
-    tables = {reward["name"]: reward["table"][0] for reward in net.table["reward"]}
-    counts: collections.Counter[int] = collections.Counter()
-    for number, count in numbers.items():
-        counts[tables[name][number] if name in tables else number] += count
-    return law_from(net, name, counts, unknown, numbers)
+        numbers = [int(number) for line in lines if (number := line.split(",")[2])]
+        yield numpy.array(numbers), size - len(numbers)
 
 
 def swept(psi: Program) -> Tally:
