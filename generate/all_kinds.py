@@ -10,9 +10,8 @@ import itertools
 import tomllib
 from collections.abc import Iterator, Sequence
 
-from generate.case_text import case, write
-from generate.small_networks import Entry
-from generate.toml_text import table
+from generate.case_files import case, write
+from generate.small_networks import Entry, table
 from oracle import plain
 from oracle.plain_network import Event, Network, State, box, is_below
 

@@ -27,7 +27,7 @@ import tempfile
 from collections.abc import Collection, Iterator
 from typing import Any
 
-from generate.case_text import case, write
+from generate.case_files import case, write
 
 COMMANDS = "check sample log replay report trial couple reward exact closed".split()
 REFUSED = 3

@@ -13,8 +13,7 @@ states, packed or not; events picked by a table that is exact or not.
 
 from typing import Any
 
-from generate.small_networks import Dice, Entry, T
-from generate.toml_text import table
+from generate.small_networks import Dice, Entry, T, table
 
 # The greatest capacity, and the most queues, of networks whose states fit one word, two, three,
 # four, or none.

@@ -7,8 +7,7 @@ import bisect
 from collections.abc import Callable, Iterable, Iterator, Mapping, Sequence
 from itertools import repeat
 
-from generate.small_networks import Entry
-from generate.toml_text import table
+from generate.small_networks import Entry, table
 
 MOST_NETWORK = 1_048_576
 MOST_LOG = 33_554_432

@@ -18,8 +18,7 @@ import tomllib
 from collections.abc import Callable, Iterable, Iterator
 
 from generate import all_kinds
-from generate.small_networks import Dice, Entry
-from generate.toml_text import lists
+from generate.small_networks import Dice, Entry, lists
 from oracle.plain import text_of
 from oracle.plain_network import Event, Network, State, box, is_below
 

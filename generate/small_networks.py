@@ -15,11 +15,10 @@ with the proved one. The seed is the number, and the stream its square.
 
 import sys
 import tomllib
-from collections.abc import Iterator, Sequence
+from collections.abc import Iterator, Mapping, Sequence
 from typing import Any, TypeVar
 
-from generate.case_text import case, write
-from generate.toml_text import table
+from generate.case_files import case, write
 from oracle import plain
 from oracle.plain_network import Network
 
@@ -30,6 +29,31 @@ SPLITS = (1, 1, 1, 2, 3, 5, 8, 64, 4096)
 NAMES = "abcde"
 KINDS = "arrival service service index batch negative fork join guarded".split()
 ALL = (1 << 64) - 1
+
+
+def written(value: object) -> str:
+    """A value in TOML; names need no escapes."""
+    if isinstance(value, dict):
+        return "{" + ", ".join(f"{key} = {written(item)}" for key, item in value.items()) + "}"
+    if isinstance(value, list):
+        return "[" + ", ".join(map(written, value)) + "]"
+    return f'"{value}"' if isinstance(value, str) else str(value)
+
+
+def lists(tables: Mapping[str, Any]) -> str:
+    """The file of a network, a line for each queue and event."""
+    lines: list[str] = []
+    for key, value in tables.items():
+        if isinstance(value, list):
+            lines += [f"{key} = [", *(f"    {written(item)}," for item in value), "]"]
+        else:
+            lines.append(f"{key} = {value}")
+    return "\n".join([*lines, ""])
+
+
+def table(header: str, keys: Mapping[str, Any]) -> str:
+    """A table of an array, an item a line."""
+    return f"[[{header}]]\n" + "".join(f"{key} = {written(item)}\n" for key, item in keys.items())
 
 
 class Dice:

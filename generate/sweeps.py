@@ -25,9 +25,8 @@ from collections.abc import Iterable, Iterator, Sequence
 from typing import Any
 
 from generate import all_kinds
-from generate.case_text import case, write
-from generate.small_networks import Dice, Entry
-from generate.toml_text import lists
+from generate.case_files import case, write
+from generate.small_networks import Dice, Entry, lists
 from oracle import plain
 from oracle.plain_network import Network
 

@@ -14,8 +14,7 @@ from collections.abc import Callable, Iterator, Sequence
 
 import pytest
 
-from generate.small_networks import Dice, closed_network, network
-from generate.toml_text import table
+from generate.small_networks import Dice, closed_network, network, table
 from oracle.plain_network import Network
 from psi_tools.model.networks import Network as Made
 from tests.refusing import Call, Refusing
