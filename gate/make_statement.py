@@ -13,7 +13,6 @@ before their first word, and before no other.
 
 import collections
 import contextlib
-import dataclasses
 import pathlib
 import re
 from collections.abc import Sequence
@@ -58,22 +57,21 @@ def clause(sources: Sources, path: str, function: str, label: str = "") -> Item:
     return item
 
 
-@dataclasses.dataclass
 class Section:
     """A section of a part: its title, its words, and the paths that belong to it."""
-
-    title: str
-    words: list[str] = dataclasses.field(default_factory=list)
-    paths: list[str] = dataclasses.field(default_factory=list)
-
-
-class Part:
-    """A part of the page. It begins with clauses and names. What is shown later, or is left out for a
-    reason, isn't followed, and of what is cut the named cases are shown."""
 
     def __init__(self, title: str) -> None:
         self.title = title
         self.words: list[str] = []
+        self.paths: list[str] = []
+
+
+class Part(Section):
+    """A part of the page. It begins with clauses and names. What is shown later, or is left out for a
+    reason, isn't followed, and of what is cut the named cases are shown."""
+
+    def __init__(self, title: str) -> None:
+        super().__init__(title)
         self.sections: list[Section] = []
         self.clauses: list[list[str]] = []
         self.names: list[list[str]] = []
@@ -94,10 +92,8 @@ def outline() -> tuple[list[str], list[Part]]:
             parts[-1].sections.append(Section(line[3:]))
         elif line.startswith("# "):
             parts.append(Part(line[2:]))
-        elif key == "clause":
-            parts[-1].clauses.append(rest.split())
-        elif key == "name":
-            parts[-1].names.append(rest.split())
+        elif key in ("clause", "name"):
+            (parts[-1].clauses if key == "clause" else parts[-1].names).append(rest.split())
         elif key == "cut":
             name, *cases = rest.split()
             parts[-1].cut[name] = cases

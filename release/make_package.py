@@ -146,9 +146,8 @@ def fill_documents(root: pathlib.Path, version: str, second: int) -> None:
     changes = (FILES / "changelog.Debian").read_text().format(name=NAME, version=version, by=maintainer(), stamp=stamp)
     pack(doc / "changelog.Debian.gz", changes)
     mit = (TOP / "LICENSE-MIT").read_text().splitlines()[4:]
-    placed(doc / "copyright").write_text(
-        (FILES / "copyright").read_text() + "".join(f" {line or '.'}\n" for line in mit)
-    )
+    terms = "".join(f" {line or '.'}\n" for line in mit)
+    placed(doc / "copyright").write_text((FILES / "copyright").read_text() + terms)
     for name, text in man_pages.pages(TOP, day):
         pack(share / f"man/man{name[-1]}" / f"{name}.gz", text)
     for file in tracked("release/package_files/lintian-overrides"):
@@ -214,10 +213,9 @@ def make_archive(
 
 def stripped(program: pathlib.Path, room: pathlib.Path, name: str) -> pathlib.Path:
     """A copy of a program without its symbols."""
-    copied = room / name
-    copy(program, copied, 0o755)
-    subprocess.run(["strip", "--strip-all", "-R", ".comment", copied], check=True)
-    return copied
+    copy(program, room / name, 0o755)
+    subprocess.run(["strip", "--strip-all", "-R", ".comment", room / name], check=True)
+    return room / name
 
 
 def main(words: list[str]) -> int:

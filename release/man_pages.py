@@ -36,6 +36,8 @@ BLOCK = re.compile(rf"```|#|\||> |{ITEM.pattern}")
 # The name of another page, which isn't broken over two lines.
 PAGE = re.compile(r"(psi-[a-z]+\(\d\))")
 INLINE = re.compile(r"`([^`]+)`|\*\*(.+?)\*\*|\*(.+?)\*|!?\[((?:[^\]`]|`[^`]*`)*)\]\(([^)\s]*)\)")
+# A proved program that is called, or is named alone.
+PROGRAM = re.compile(r"(?<![\w/])psi_(merge|states|paths)(?=$| (?:FILE|NET|\.\.))")
 # The most characters that a table may have beside one another.
 MOST_WIDE = 64
 BULLET = "\\(bu"
@@ -81,10 +83,6 @@ PLACES = (
     ("./psi", "psi"),
     ("tools/psi-", "psi-"),
     ("tools/setup", "apt-get"),
-    ("psi_merge FILE", "psi-merge FILE"),
-    ("psi_states NET", "psi-states NET"),
-    ("psi_states ..", "psi-states .."),
-    ("psi_paths NET", "psi-paths NET"),
     ("tools/", f"{LIBRARY}/tools/"),
     ("examples/", f"{SHARE}/examples/"),
 )
@@ -130,8 +128,7 @@ def inline(text: str) -> str:
 
 def of_package(code: str) -> str:
     """Code as it is written where the package is installed."""
-    if code in ("psi_merge", "psi_states", "psi_paths"):
-        return code.replace("_", "-")
+    code = PROGRAM.sub(r"psi-\1", code)
     for source, place in PLACES:
         code = code if place in code and source in place else code.replace(source, place)
     return code
@@ -273,11 +270,6 @@ def commands_text() -> str:
     return listed("Command | What it does", {f"`{name}`": texts[name] for name in names})
 
 
-def statuses_text() -> str:
-    """The statuses of psi, as a list."""
-    return listed("Status | Meaning", dict(help_block("Exit status")))
-
-
 def source_of(text: str) -> str:
     """A page's source with what its lines stand for."""
     made: dict[str, Callable[[str], str]] = {
@@ -287,7 +279,7 @@ def source_of(text: str) -> str:
         "status": lambda _: STATUS,
         "synopsis": lambda _: synopsis_text(),
         "commands": lambda _: commands_text(),
-        "statuses": lambda _: statuses_text(),
+        "statuses": lambda _: listed("Status | Meaning", dict(help_block("Exit status"))),
     }
     return re.sub(r"^@(\w+)(?: (\w+))?$", lambda found: made[found[1]](found[2]), text, flags=re.M)
 
