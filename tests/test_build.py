@@ -1,24 +1,19 @@
 """How `./psi` builds, in seconds and without proving anything: the toolchain's command `rt` is a script
 in a temporary folder on the PATH that notes its calls and answers `version`, `lib` and `run` alone, so
-the build has none of the private names of the toolchain's modules. What is compared:
-
-- the crates that are proved: all that crates.txt has below the program, each after those below it;
-- progress on standard error, and a note where the logic of the toolchain is another one;
-- later builds: none where nothing has changed, and else the changed crate and those above it;
-- the end where a proof fails or is killed;
-- the time left, on machines of other speeds, played through: from a quarter on it is within a third
-  of the truth, or a minute of a machine of the listed speed.
+the build has none of the private names of the toolchain's modules. And how the package of python/ is built.
 """
 
 import os
 import pathlib
 import random
 import re
+import shutil
+import sys
 from collections.abc import Callable, Iterable
 
 import pytest
 
-from tests.support import TOP, Expectations, answer_as_text, checkout
+from tests.support import TOP, Expectations, answer_as_text, checkout, printed_by
 from tools.build.crates import Crates, crates_below, rows_of
 from tools.build.schedule import Costs, Pace, Schedule
 
@@ -96,7 +91,7 @@ def test_rows() -> None:
 
 
 def try_first(expect: Expectations, trial: Trial) -> None:
-    """A build from nothing."""
+    """A build from nothing proves all that crates.txt has below the program, each crate after those below it."""
     status, out, lines, calls = trial.build()
     expect((status, out) == (0, ""), f"a build ends with {status} {out} {lines}")
     wanted = [name for name in crates_below(trial.top) if "psi" in crates_above(trial.top, [name])]
@@ -116,7 +111,7 @@ def try_first(expect: Expectations, trial: Trial) -> None:
 
 
 def try_later(expect: Expectations, trial: Trial) -> None:
-    """Builds after the first one."""
+    """Later builds prove nothing where nothing has changed, and else the changed crate and those above it."""
     status, _, lines, calls = trial.build()
     expect((status, lines, calls) == (0, [], []), f"a second build does {lines} {calls}")
     source = trial.top / "crates/psi_log_words/src/lib.rt"
@@ -129,7 +124,7 @@ def try_later(expect: Expectations, trial: Trial) -> None:
 
 
 def try_failures(expect: Expectations, trial: Trial) -> None:
-    """Proofs that fail, and that something ends."""
+    """Proofs that fail or are killed, and a toolchain with another logic."""
     source = trial.top / "crates/psi_state/src/lib.rt"
     source.write_text(source.read_text() + "// A change.\n")
     status, _, lines, calls = trial.build(RT_FAILS="psi_event")
@@ -183,7 +178,8 @@ def test_builds(expect: Expectations, tmp_path: pathlib.Path) -> None:
 
 @pytest.mark.parametrize("seed, machine", enumerate(MACHINES))
 def test_time_left(expect: Expectations, seed: int, machine: tuple[int, float]) -> None:
-    """The time left, where crates take other times than those that are listed."""
+    """The time left, where crates take other times than those that are listed: from a quarter of a build on it is
+    within a third of the truth, or a minute of a machine of the listed speed."""
     processors, speed = machine
     crates = Crates(TOP, "psi")
     costs = Costs((TOP / "tools/build/seconds.txt").read_text(), lambda name: 500)
@@ -200,3 +196,21 @@ def test_time_left(expect: Expectations, seed: int, machine: tuple[int, float]) 
     ]
     expect(not off, f"{processors} processors, speed {speed}: off at {off[:3]}")
     expect(whole > 60, f"{whole} s")
+
+
+@pytest.mark.slow
+def test_the_package_stands_alone(tmp_path: pathlib.Path, program: str) -> None:
+    """A copy of its folder is built, installed and tested, with psi on the PATH."""
+    pytest.importorskip("pip", reason="it wants pip")
+    copy, site = tmp_path / "python", tmp_path / "site"
+    ignored = shutil.ignore_patterns("__pycache__", ".*_cache", ".hypothesis", "build", "*.egg-info")
+    shutil.copytree(TOP / "python", copy, ignore=ignored)
+    install = [sys.executable, "-m", "pip", "install", "-q", "--no-index", "--no-build-isolation", "--no-deps"]
+    printed_by(*install, "--target", site, copy, folder=tmp_path, seconds=300)
+    for name in ("psi", "psi_tools"):
+        shutil.rmtree(copy / name)
+    path = f"{pathlib.Path(program).parent}:{os.environ['PATH']}"
+    environment = {**os.environ, "PATH": path, "PYTHONPATH": str(site)}
+    environment.pop("PSI", None)
+    call = [sys.executable, "-m", "pytest", "-q", "-p", "no:cacheprovider"]
+    assert " passed" in printed_by(*call, folder=copy, seconds=300, env=environment)

@@ -1,16 +1,18 @@
 """What the guides say of commands beside their blocks and their marked numbers: README's table of commands,
-the table of statuses in docs/LIMITS.md, and what two commands have in common.
+the table of statuses in docs/LIMITS.md, and what two commands have in common; and the notebook of docs/.
 """
 
 import os
+import pathlib
 import re
 import tomllib
 
 import pytest
 
+from generate import notebook
 from tests.documents import Clone, Document
 from tests.gallery import BLOCK
-from tests.support import EXAMPLES, TOP, Expectations, report_of
+from tests.support import EXAMPLES, TOP, Expectations, printed_by, report_of
 
 TANDEM, FIRST = "examples/tandem-blocking.toml", "examples/first.toml"
 # What stands for a word of README's table of commands.
@@ -220,3 +222,16 @@ def test_the_interval_of_the_guide_holds(clone: Clone) -> None:
     row = re.search(r"^reward  full .* (0\.\d+)  (0\.\d+) ", text, re.M)
     solved = re.search(r"give ([\d.]+) %", " ".join(text.split()))
     assert row and solved and float(row[1]) <= float(solved[1]) / 100 <= float(row[2])
+
+
+@pytest.mark.slow
+@pytest.mark.needs("jupyter")
+def test_notebook(program: str, tmp_path: pathlib.Path, capsys: pytest.CaptureFixture[str]) -> None:
+    """The notebook runs, and its outputs are those that it is stored with."""
+    stored = TOP / "docs/psi-in-python.ipynb"
+    words = ["jupyter", "nbconvert", "--log-level", "ERROR", "--execute", "--to", "notebook"]
+    (tmp_path / "psi").symlink_to(program)
+    path = f"{tmp_path}:{os.environ['PATH']}"
+    quiet = {"PYDEVD_DISABLE_FILE_VALIDATION": "1", "TQDM_DISABLE": "1"}
+    printed_by(*words, "--output-dir", tmp_path, stored, seconds=900, env={**os.environ, "PATH": path, **quiet})
+    assert notebook.main([str(stored), str(tmp_path / stored.name)]) == 0, capsys.readouterr()

@@ -1,18 +1,6 @@
-"""The files that release/make_package.py makes of the built program are made twice, and compared; lintian
-finds no error in the Debian package; and in a bare system of the release that runs here, which
-debootstrap makes in a temporary folder, the archive is unpacked, its sum checked, and psi and psi-many
-of it run before anything is installed, and psi once more where the Dockerfile of the archive puts it.
-Then the package is installed by dpkg, and there, by chroot,
-
-- the tour runs: each command and each text of docs/TOUR.md, as documents.py compares them, and each
-  picture;
-- `--help`, `-h`, `help COMMAND` and `--version` of psi answer, and all else is the program's;
-- psi-many prints the report of one process, and merges by psi-merge;
-- psi-merge makes of two reports the one of one process, and refuses what is none;
-- the man pages, one for each command, have their parts, their examples run, and nothing in them is of
-  the sources; psi-file(5) has each part of docs/FORMATS.md, with all its blocks of code;
-- completion works;
-- dpkg's own check of what it has installed finds nothing, and it leaves nothing when it is removed.
+"""The files that release/make_package.py makes of the built program are made twice, and compared; in a bare system
+of the release that runs here, which debootstrap makes in a temporary folder, the archive runs before anything is
+installed; and then the package, which dpkg installs there, by chroot.
 
 It wants root, debootstrap, lintian and a mirror of Debian, $MIRROR or http://deb.debian.org/debian, and
 takes some minutes.
@@ -107,7 +95,7 @@ def try_lintian(expect: Expectations, package: pathlib.Path) -> None:
 
 
 def try_archive(expect: Expectations, bare: Bare, archive: pathlib.Path, sums: pathlib.Path) -> None:
-    """The archive, in a system in which nothing is installed."""
+    """Its sum is right, and it runs where nothing is installed, and where its Dockerfile puts it."""
     for file in (archive, sums):
         shutil.copy(file, bare.top)
     status, out, error = bare.execute(f"sha256sum --check --ignore-missing {sums.name}")
@@ -201,6 +189,7 @@ def install(bare: Bare, package: pathlib.Path) -> tuple[int, str]:
 
 
 def try_tour(expect: Expectations, bare: Bare) -> None:
+    """Each command, each text and each picture of docs/TOUR.md is as documents.py compares them."""
     name = "docs/TOUR.md"
     expect(bare.read(name) == (TOP / name).read_bytes(), "the package has another tour")
     document = documents.Document(name, bare.read(name).decode(), expect)

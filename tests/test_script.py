@@ -1,12 +1,5 @@
-"""The scripts named psi, `./psi` of a checkout and the one that a release installs:
-
-- `--help`, `-h`, `help`, `help COMMAND` and `--version` answer within a second, where neither the
-  program nor the command `rt` is there, and build nothing; the help has every command and status;
-- all other arguments are the program's: both scripts end as the program itself does, with the same
-  texts;
-- where standard error is a terminal and a file is refused, the file, its line and a sentence follow
-  the program's line; where it is no terminal, nothing does;
-- the installed script takes at most 2 ms of processor time more than the program.
+"""The scripts named psi, `./psi` of a checkout and the one that a release installs: they answer what is asked of
+themselves, all other arguments are the program's, and on a terminal they explain what is refused.
 """
 
 import contextlib
@@ -63,6 +56,7 @@ def ended(words: Sequence[object], folder: pathlib.Path, path: str | None = None
 
 
 def try_help(expect: Expectations, script: pathlib.Path, top: pathlib.Path) -> None:
+    """Help and the version come within a second, where neither the program nor `rt` is there; of each command too."""
     calls = [["--help"], ["-h"], ["help"], ["--version"], *(["help", name] for name in COMMANDS)]
     answers = {}
     for words in calls:
@@ -166,7 +160,7 @@ def on_terminal(words: Sequence[object], folder: pathlib.Path) -> tuple[int, byt
 
 
 def test_terminal(expect: Expectations, script: pathlib.Path, program: str, built: pathlib.Path) -> None:
-    """What follows the line of a refusal on a terminal."""
+    """On a terminal a file that is refused, its line and a sentence follow the program's line; else nothing does."""
     calls = {
         ("check", "bad.toml"): ("bad.toml:8: rate = 0.5", "Write a whole number"),
         ("sample", "bad.toml", "0", "0"): ("bad.toml:8: rate = 0.5", "Write a whole number"),
@@ -197,7 +191,7 @@ def processor_time(words: Sequence[object], folder: pathlib.Path) -> float:
 
 @pytest.mark.quiet
 def test_time(installed: pathlib.Path, program: str, tmp_path: pathlib.Path) -> None:
-    """How much longer a call takes by the installed script: the median of differences, in processor
+    """The installed script takes at most 2 ms more than the program: the median of differences, in processor
     time, since other work may run beside; where it is too long it is measured again."""
     for _ in range(TRIES):
         calls = [[one, "nonsense"] for one in (installed, program)]
