@@ -48,24 +48,16 @@ SUPERSCRIPT = str.maketrans("0123456789", "⁰¹²³⁴⁵⁶⁷⁸⁹")
 STEPS = [1, 2, 5, 10]
 # Where a clip path of an SVG is named.
 CLIP = re.compile(rb'(<clipPath id="|url\(#)(p[0-9a-f]{10})(?=["\)])')
-STYLE = {
-    "font.family": "DejaVu Sans",
-    "font.size": 8,
-    "axes.titlesize": 8,
-    "axes.labelsize": 8,
-    "xtick.labelsize": 7,
-    "ytick.labelsize": 7,
-    "legend.fontsize": 7.5,
-    "legend.frameon": False,
-    "axes.spines.top": False,
-    "axes.spines.right": False,
-    "axes.linewidth": 0.6,
-    "xtick.major.width": 0.6,
-    "ytick.major.width": 0.6,
-    "figure.constrained_layout.use": True,
-    "savefig.dpi": DOTS_PER_INCH,
-    "svg.hashsalt": "psi-plot",
-    "path.simplify": True,
+STYLE: dict[str, dict[str, Any]] = {
+    "font": {"family": "DejaVu Sans", "size": 8},
+    "axes": {"titlesize": 8, "labelsize": 8, "linewidth": 0.6, "spines.top": False, "spines.right": False},
+    "xtick": {"labelsize": 7, "major.width": 0.6},
+    "ytick": {"labelsize": 7, "major.width": 0.6},
+    "legend": {"fontsize": 7.5, "frameon": False},
+    "figure": {"constrained_layout.use": True},
+    "savefig": {"dpi": DOTS_PER_INCH},
+    "svg": {"hashsalt": "psi-plot"},
+    "path": {"simplify": True},
 }
 
 
@@ -74,7 +66,8 @@ def in_style() -> Iterator[None]:
     """Has the style of the pictures. Then what matplotlib is set to, and the filters of warnings, are as before."""
     with quiet(), matplotlib.rc_context():
         matplotlib.rcdefaults()
-        matplotlib.rcParams.update(STYLE)
+        for group, values in STYLE.items():
+            matplotlib.rc(group, **values)
         yield
 
 
