@@ -55,25 +55,17 @@ def write_stream(path: str, pieces: Iterable[bytes]) -> None:
         file.writelines(pieces)
 
 
-def mode_of(target: str) -> int:
-    """The mode of a file that is written: its own, or that of a new one."""
-    try:
-        return os.stat(target).st_mode & 0o777
-    except FileNotFoundError:
-        mask = os.umask(0o077)
-        os.umask(mask)
-        return 0o666 & ~mask
-
-
 def replace(target: str, pieces: Iterable[bytes], front: str, ending: str = "", is_synced: bool = True) -> None:
     """Writes a plain file piece by piece under a temporary name, flushes it, to the disk where it is synced, and
     gives it its own name. Where that fails the temporary file is removed, and the old one is as it was."""
-    mode, flags = mode_of(target), os.O_WRONLY | os.O_CREAT | os.O_EXCL | os.O_NOFOLLOW | os.O_CLOEXEC
+    flags = os.O_WRONLY | os.O_CREAT | os.O_EXCL | os.O_NOFOLLOW | os.O_CLOEXEC
+    mode = os.stat(target).st_mode & 0o777 if os.path.exists(target) else None
     part = os.path.join(os.path.dirname(target) or ".", f"{front}{os.urandom(12).hex()}{ending}")
-    number = os.open(part, flags, 0o600)
+    number = os.open(part, flags, 0o666 if mode is None else 0o600)
     try:
         with open(number, "wb") as file:
-            os.fchmod(file.fileno(), mode)
+            if mode is not None:
+                os.fchmod(file.fileno(), mode)
             file.writelines(pieces)
             file.flush()
             if is_synced:
