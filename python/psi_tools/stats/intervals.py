@@ -61,30 +61,29 @@ def reading_ahead() -> Iterator[None]:
 @dataclasses.dataclass(frozen=True)
 class Mean:
     """A mean with half the width of its interval, in the unit of the values; none where there are
-    no values, or only one batch with some. The ends are there where the mean isn't the middle."""
+    no values, or only one batch with some. The mean is the middle where the ends aren't given."""
 
     mean: float | None
     half: float | None
     ends: tuple[float, float] | None = None
 
+    def __post_init__(self) -> None:
+        if self.ends is None and self.mean is not None and self.half is not None:
+            object.__setattr__(self, "ends", (self.mean - self.half, self.mean + self.half))
+
     @property
     def low(self) -> float | None:
         """The lower end."""
-        if self.ends is not None:
-            return self.ends[0]
-        return None if self.half is None or self.mean is None else self.mean - self.half
+        return self.ends and self.ends[0]
 
     @property
     def high(self) -> float | None:
         """The upper end."""
-        if self.ends is not None:
-            return self.ends[1]
-        return None if self.half is None or self.mean is None else self.mean + self.half
+        return self.ends and self.ends[1]
 
     def holds(self, value: float) -> bool:
         """Whether a value is in the interval."""
-        low, high = self.low, self.high
-        return low is not None and high is not None and low <= value <= high
+        return self.ends is not None and self.ends[0] <= value <= self.ends[1]
 
     @property
     def is_even(self) -> bool:
