@@ -40,11 +40,10 @@ from solving import law_of
 
 from psi_tools import check_interval
 from psi_tools.draw.states import Draw, any_drawing
-from psi_tools.draw.streams import Streams, blocks_of
 from psi_tools.stats.guaranteed import Guarantee, Pilot, by_count, file_of, one_in, parts_of
 from psi_tools.draw.law import tally_of
 from psi_tools.model.networks import Network, header_of, value_of
-from psi_tools.draw.program import Program
+from psi_tools.draw.program import Program, Streams, blocks_of
 from psi_tools.stats.spans import Spans
 
 # How many samples have each value, these with how many streams aren't coupled, and both ends of an interval.

@@ -40,12 +40,11 @@ from psi_tools.stats import law as laws
 from psi_tools.stats.batches import Batches, batches_of
 from psi_tools.model.designs import aligned, designs_of
 from psi_tools.draw.reports import reports_of
-from psi_tools.draw.streams import blocks_of
 from psi_tools.io.reports import Report
 from psi_tools.stats.intervals import Mean, Sums, difference_of_batches
 from psi_tools.stats.spans import Row, Spans
 from psi_tools.model.networks import Network
-from psi_tools.draw.program import Program
+from psi_tools.draw.program import Program, blocks_of
 
 # Values of samples, or the probabilities of values.
 Values = numpy.ndarray[Any, Any]

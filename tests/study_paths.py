@@ -38,8 +38,7 @@ from solving import law_of
 
 from oracle.plain_network import Network as Plain
 from psi_tools.draw.paths import paths_of
-from psi_tools.draw.program import Program
-from psi_tools.draw.streams import blocks_of
+from psi_tools.draw.program import Program, blocks_of
 from psi_tools.io.samples import Rows
 from psi_tools.model.networks import Network
 from psi_tools.stats.paths import MOVED, paths_of_rows

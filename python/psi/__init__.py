@@ -25,9 +25,8 @@ from psi.results import Coalescence, FewSamples, NotCoupled, Probability, Reward
 from psi.sampling import couple, draw_log, exact, log, replay, reward
 from psi.tables import closed, paths, samples, states
 from psi_tools import __version__
-from psi_tools.arguments import whole_argument
 from psi_tools.draw.program import Program
-from psi_tools.errors import ArgumentError, InputError, PsiError, Refused
+from psi_tools.errors import ArgumentError, InputError, PsiError, Refused, whole_argument
 from psi_tools.io.exact import Shrinking
 from psi_tools.model.networks import Network
 

@@ -6,10 +6,9 @@ from collections.abc import Sequence
 from typing import Any
 
 from psi.results import Uncoupled
-from psi_tools.arguments import GREATEST, whole_argument
-from psi_tools.draw.program import Program
+from psi_tools.errors import GREATEST, whole_argument
+from psi_tools.draw.program import Program, blocks_of, size_of
 from psi_tools.draw.reports import reports_of
-from psi_tools.draw.streams import blocks_of, size_of
 from psi_tools.io.reports import Report
 from psi_tools.io.terminal import QUIET, Bar
 

@@ -9,11 +9,10 @@ import pandas
 
 from psi.calls import ProgressBar, drawn, resolved, streams_of, warn_uncoupled
 from psi.results import FewSamples, Probability
-from psi_tools.arguments import level_argument
 from psi_tools.draw.blocks import digest_of
 from psi_tools.draw.law import Samples
 from psi_tools.draw.program import Program
-from psi_tools.errors import ArgumentError, PsiError
+from psi_tools.errors import ArgumentError, PsiError, level_argument
 from psi_tools.io.reports import together
 from psi_tools.model.networks import Source, data_of, network_of
 from psi_tools.stats.batches import REWARD, batches_of, record

@@ -9,11 +9,10 @@ import pandas
 
 from psi.calls import ProgressBar, resolved, streams_of, warn_uncoupled
 from psi.results import NotCoupled
-from psi_tools.arguments import whole_argument
+from psi_tools.errors import whole_argument
 from psi_tools.draw import paths as of_paths
 from psi_tools.draw.states import MOST_TOTAL, Draw, any_drawing, drawing
-from psi_tools.draw.program import Program
-from psi_tools.draw.streams import Streams, blocks_of, table_size
+from psi_tools.draw.program import Program, Streams, blocks_of, table_size
 from psi_tools.io.columns import Array, Columns
 from psi_tools.model.networks import Network, Source, header_of, network_of
 from psi_tools.stats.spans import Spans

@@ -7,13 +7,12 @@ from solving import means_of
 
 from psi_tools.stats.batches import Batches, batches_of
 from psi_tools.draw.reports import reports_of
-from psi_tools.draw.streams import blocks_of
 from psi_tools.stats import intervals
 from psi_tools.stats.intervals import ZERO_ONE, Mean, Span, Sums, mean_of_batches, mean_of_values, probability, student
 from psi_tools.stats.spans import Row
 from psi_tools.stats.text import figures, with_interval
 from psi_tools.model.networks import Network
-from psi_tools.draw.program import Program
+from psi_tools.draw.program import Program, blocks_of
 
 REPEATED, LEAST, MOST = 200, 180, 199
 # With this span no value is reckoned with that did not come: an interval is that of Student's t alone.

@@ -14,7 +14,7 @@ pytest.importorskip("hypothesis")
 
 from hypothesis import given, settings
 from hypothesis import strategies as st
-from psi_tools.draw.streams import blocks_of, size_of
+from psi_tools.draw.program import blocks_of, size_of
 from psi_tools.io import reports, toml
 from psi_tools.model.designs import aligned, common_events, designs_of, values_of
 from psi_tools.model.networks import Network, plain

@@ -9,7 +9,6 @@ from psi_tools.draw.program import Program
 from psi_tools.errors import PsiError
 from psi_tools.io import tables
 from psi_tools.io.files import write
-from psi_tools.io.tables import Record
 from psi_tools.io.terminal import Progress, print_note
 from psi_tools.model.networks import Network, checked
 from psi_tools.stats.law import RECORD, SHARED, Joint, Law, Share
@@ -107,7 +106,7 @@ def answer_of(found: Found, args: argparse.Namespace) -> str:
     records = found.records()
     if args.format == "csv":
         return tables.as_csv(records)
-    drawn: Record = {"samples": found.many, "unknown": found.unknown, "notes": notes_of(found)}
+    drawn: tables.Record = {"samples": found.many, "unknown": found.unknown, "notes": notes_of(found)}
     if isinstance(found, Share):
         return tables.as_json({"where": found.condition, **drawn, **records[0]})
     if isinstance(found, Joint):

@@ -14,10 +14,9 @@ from collections.abc import Iterator
 from typing import NoReturn
 
 from psi_tools.cli.options import STREAM, TOTAL, Parser, check_last_stream, number
+from psi_tools.draw import program
 from psi_tools.draw.blocks import MOST_BLOCKS, Folder
 from psi_tools.draw.many import COMMAND, SHARE, SSH, Here, Hosts, Slurm, Way, draw_all, joined, merge, run_task
-from psi_tools.draw.program import Program, built_companion, built_program, companion_of, program_of
-from psi_tools.draw.streams import LEAST_BATCHES, MOST_STREAMS
 from psi_tools.errors import PsiError
 from psi_tools.io.files import check_writable, read_file, write
 from psi_tools.io.reports import read
@@ -25,7 +24,7 @@ from psi_tools.io.samples import uncoupled_in
 from psi_tools.io.terminal import print_note
 from psi_tools.model.networks import header_of
 
-MOST_COUNT = MOST_BLOCKS * MOST_STREAMS
+MOST_COUNT = MOST_BLOCKS * program.MOST_STREAMS
 ABOUT = """Prints the report of any number of streams, as psi report would if it accepted that many. The
 streams are cut in blocks, which are drawn side by side; finished blocks are kept in a folder, so
 the same call goes on where it was stopped. psi-means prints the means of such a folder with their
@@ -50,9 +49,9 @@ def parser() -> Parser:
     text = "print the samples themselves, a row for each stream, by psi_states on this machine"
     parser.flag("--states", text)
     parser.add("--folder", "FOLDER", "where finished blocks are kept; NET.SEED.FIRST.COUNT.many by default")
-    parser.add_psi(default=built_program())
+    parser.add_psi(default=program.built_program())
     text = "the number of streams in a block; by default such that there are 20 blocks or more"
-    parser.add("--block", "N", text, type=number(1, MOST_STREAMS))
+    parser.add("--block", "N", text, type=number(1, program.MOST_STREAMS))
     text = "the number of blocks that are drawn at the same time, or of tasks in Slurm"
     more = "by default that of the processors, or 100 tasks"
     parser.add("--jobs", "N", f"{text}; {more}", type=number(1, MOST_BLOCKS))
@@ -84,14 +83,14 @@ def parse(arguments: list[str]) -> argparse.Namespace:
 
 def blocks_of(args: argparse.Namespace, psi: str) -> tuple[Folder, list[pathlib.Path]]:
     """The folder of the arguments, and the files of all its blocks, once they are drawn."""
-    program_of("sbatch" if args.slurm else "parallel")
+    program.program_of("sbatch" if args.slurm else "parallel")
     # psi has to take the network, and with --closed its first stream.
-    net, program = read_file(args.net), Program(psi)
-    program.ask("check", net)
+    net, asked = read_file(args.net), program.Program(psi)
+    asked.ask("check", net)
     if args.closed is not None:
-        program.ask("closed", net, args.seed, args.first, args.closed, statuses=(0, 1))
+        asked.ask("closed", net, args.seed, args.first, args.closed, statuses=(0, 1))
     engine: type[Hosts] | type[Slurm] | type[Here] = Hosts if args.hosts else Slurm if args.slurm else Here
-    way: Way = engine(args, built_companion(psi, "psi_states") if args.states else psi, net)
+    way: Way = engine(args, program.built_companion(psi, "psi_states") if args.states else psi, net)
     numbers = {"seed": args.seed, "first": args.first, "count": args.count}
     name = "{}.{seed}.{first}.{count}".format(pathlib.Path(args.net).name, **numbers)
     if args.closed is not None:
@@ -102,8 +101,8 @@ def blocks_of(args: argparse.Namespace, psi: str) -> tuple[Folder, list[pathlib.
         name += ".states"
     folder = Folder(args.folder or f"{name}.many")
     folder.lock()
-    fitting = min(-(-args.count // (SHARE * way.slots)), args.count // LEAST_BATCHES)
-    before = folder.bind(net, numbers, args.block, max(1, min(MOST_STREAMS, fitting)))
+    fitting = min(-(-args.count // (SHARE * way.slots)), args.count // program.LEAST_BATCHES)
+    before = folder.bind(net, numbers, args.block, max(1, min(program.MOST_STREAMS, fitting)))
     if folder.is_restored:
         print_note(COMMAND, f"{folder.path / 'bound'} was damaged, and is made again from its copy")
     if before < args.count:
@@ -116,9 +115,9 @@ def blocks_of(args: argparse.Namespace, psi: str) -> tuple[Folder, list[pathlib.
 def write_report(args: argparse.Namespace, psi: str) -> None:
     """Draws and writes the report that the arguments ask for. It is merged by the program that the call
     names; else by psi_merge, which is proved, where it stands beside PSI or is built; else by merge_reports.py."""
-    program = program_of(args.merge) if args.merge else companion_of(psi, "psi_merge")
+    merging = program.program_of(args.merge) if args.merge else program.companion_of(psi, "psi_merge")
     folder, files = blocks_of(args, psi)
-    text = merge(folder, files, program)
+    text = merge(folder, files, merging)
     write(text.decode(), args.out)
     report = read(text)
     report_uncoupled(report.samples - report.met, args, "sums and extremes are of the others, and biased")
@@ -157,7 +156,7 @@ def work(arguments: list[str]) -> int:
     for ending in (signal.SIGINT, signal.SIGTERM, signal.SIGHUP):
         signal.signal(ending, stop)
     check_writable(args.out)
-    psi = program_of(args.psi)
+    psi = program.program_of(args.psi)
     if args.states:
         write_table(args, psi)
     else:

@@ -2,14 +2,12 @@
 
 import argparse
 
-from psi_tools.arguments import LEAST_LEVEL, MOST_LEVEL
 from psi_tools.cli.options import PILOTS, STEPS, TOTAL, Parser, check_files, check_last_stream
 from psi_tools.draw.reports import read_any
-from psi_tools.draw.streams import LEAST_BATCHES
-from psi_tools.errors import PsiError
+from psi_tools.draw.program import LEAST_BATCHES
+from psi_tools.errors import LEAST_LEVEL, MOST_LEVEL, PsiError
 from psi_tools.io import tables
 from psi_tools.io.files import write
-from psi_tools.io.tables import Record
 from psi_tools.io.terminal import print_note
 from psi_tools.model.networks import Network
 from psi_tools.stats.batches import KINDS, Batches, mean_of, notes_of, records_of, remarks, table_of
@@ -90,7 +88,7 @@ def head_of(batches: Batches, level: float, kind: str = "intervals") -> str:
     return f"{samples:,} samples in {many}, {state}; {kind} of {level:g} %"
 
 
-def text_of(batches: Batches, records: list[Record], notes: list[str], level: float) -> str:
+def text_of(batches: Batches, records: list[tables.Record], notes: list[str], level: float) -> str:
     """The answer for people."""
     lines = [*notes, head_of(batches, level)]
     lines += table_of((each for each in records if each["item"] in KINDS), has_extremes=True)
@@ -102,14 +100,16 @@ def text_of(batches: Batches, records: list[Record], notes: list[str], level: fl
     return tables.ended([*lines, *remarks(batches)])
 
 
-def in_form(heads: Record, records: list[Record], args: argparse.Namespace, notes: list[str]) -> tuple[str, list[str]]:
+def in_form(
+    heads: tables.Record, records: list[tables.Record], args: argparse.Namespace, notes: list[str]
+) -> tuple[str, list[str]]:
     """The answer for programs, and what is noted beside it."""
     if args.format == "csv":
         return tables.as_csv(records), notes
     return tables.as_json({**heads, "level": args.level / 100, "notes": notes, "rows": records}), notes
 
 
-def heads_of(batches: Batches) -> Record:
+def heads_of(batches: Batches) -> tables.Record:
     """How many samples there are, how many are coupled, and in how many batches."""
     return {"samples": sum(batches.samples), "met": sum(batches.met), "batches": len(batches.samples)}
 

@@ -5,8 +5,7 @@ from collections.abc import Callable
 from typing import Any, NoReturn
 
 from psi_tools import __version__
-from psi_tools.arguments import GREATEST, NUMBER
-from psi_tools.errors import PsiError
+from psi_tools.errors import GREATEST, NUMBER, PsiError
 from psi_tools.io.files import check_writable
 
 

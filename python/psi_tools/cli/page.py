@@ -4,10 +4,9 @@ import pathlib
 import tempfile
 from typing import Any
 
-from psi_tools.arguments import GREATEST, NUMBER
 from psi_tools.cli.options import Parser
 from psi_tools.draw.program import Program
-from psi_tools.errors import PsiError
+from psi_tools.errors import GREATEST, NUMBER, PsiError
 from psi_tools.io.files import check_writable, read_file, write
 from psi_tools.model.networks import Network, checked
 from psi_tools.plot.page import page_of, runs_of

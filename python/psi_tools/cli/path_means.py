@@ -2,16 +2,13 @@
 
 import argparse
 
-from psi_tools.arguments import GREATEST
 from psi_tools.cli.means import COMMAND, in_form
 from psi_tools.draw.blocks import digest_of
 from psi_tools.draw.paths import paths_of
-from psi_tools.draw.program import Program
-from psi_tools.draw.streams import LEAST_BATCHES, blocks_of, table_size
-from psi_tools.errors import PsiError
+from psi_tools.draw.program import LEAST_BATCHES, Program, blocks_of, table_size
+from psi_tools.errors import GREATEST, PsiError
 from psi_tools.io import tables
 from psi_tools.io.files import write
-from psi_tools.io.tables import Record
 from psi_tools.io.terminal import Progress
 from psi_tools.model.networks import Network, checked
 from psi_tools.stats.intervals import reading_ahead
@@ -42,7 +39,7 @@ def head_of(paths: Paths, level: float, kind: str = "intervals") -> str:
     return f"{paths.count:,} paths of {paths.steps:,} steps, {state}; {kind} of {level:g} %"
 
 
-def text_of(paths: Paths, records: list[Record], level: float) -> str:
+def text_of(paths: Paths, records: list[tables.Record], level: float) -> str:
     """The answer for people."""
     means, rates = ([each for each in records if each["item"].endswith("rate") == is_rate] for is_rate in (False, True))
     lines = [*notes_of(paths), head_of(paths, level), *table_of(means)]
@@ -74,7 +71,7 @@ def guaranteed_answer(psi: Program, net: Network, args: argparse.Namespace, path
     return tables.ended([*notes_of(paths), head, *table, *remarks]), []
 
 
-def heads_of(paths: Paths) -> Record:
+def heads_of(paths: Paths) -> tables.Record:
     """How many paths there are, how many are coupled, and of how many steps."""
     return {"paths": paths.count, "coupled": len(paths.horizons), "steps": paths.steps}
 

@@ -7,12 +7,10 @@ import pathlib
 from collections.abc import Callable
 from typing import TYPE_CHECKING, Any, TypeVar
 
-from psi_tools.arguments import GREATEST, NUMBER
 from psi_tools.cli.options import STEPS, Parser
-from psi_tools.draw.program import Program
+from psi_tools.draw.program import LEAST_BATCHES, Program
 from psi_tools.draw.reports import as_printed, read_folder, read_report
-from psi_tools.draw.streams import LEAST_BATCHES
-from psi_tools.errors import InputError, PsiError, reason, require
+from psi_tools.errors import GREATEST, NUMBER, InputError, PsiError, reason, require
 from psi_tools.io.files import check_writable, write
 from psi_tools.model.networks import checked
 from psi_tools.plot.report import Report, report_of

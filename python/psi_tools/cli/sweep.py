@@ -11,7 +11,6 @@ from psi_tools.draw.sweep import Comparison, carried_in, draw_designs, notes_of,
 from psi_tools.errors import PsiError
 from psi_tools.io import tables
 from psi_tools.io.files import write
-from psi_tools.io.tables import Record
 from psi_tools.io.terminal import print_note
 from psi_tools.model.designs import Design, aligned, check_bounds, designs_of
 from psi_tools.model.networks import checked
@@ -19,7 +18,7 @@ from psi_tools.stats.intervals import Mean
 from psi_tools.stats.text import ends_shown, figures
 
 # A record of the answer, its mean, and the difference to the base.
-RecordOfDesign = tuple[Record, Mean, Mean]
+RecordOfDesign = tuple[tables.Record, Mean, Mean]
 
 COMMAND, COUNT = "psi-sweep", 10_000
 ABOUT = """Draws the same network with other numbers, all under the same seed and streams, and

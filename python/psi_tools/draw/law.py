@@ -6,11 +6,9 @@ import functools
 from collections.abc import Sequence
 from typing import TYPE_CHECKING
 
-from psi_tools.arguments import GREATEST
-from psi_tools.draw.program import Program
+from psi_tools.draw.program import Program, Streams, blocks_of, table_size
 from psi_tools.draw.states import any_drawing
-from psi_tools.draw.streams import Streams, blocks_of, table_size
-from psi_tools.errors import PsiError
+from psi_tools.errors import GREATEST, PsiError
 from psi_tools.io.terminal import Bar, Meter
 from psi_tools.model.conditions import Condition, column_of
 from psi_tools.model.networks import Network, header_of

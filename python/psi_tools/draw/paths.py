@@ -3,8 +3,7 @@
 import functools
 from collections.abc import Callable, Sequence
 
-from psi_tools.draw.program import Program
-from psi_tools.draw.streams import Streams
+from psi_tools.draw.program import Program, Streams
 from psi_tools.io.samples import Rows, rows_of
 from psi_tools.model.networks import Network
 

@@ -1,4 +1,4 @@
-"""Running psi: where it is, what it answers, and many answers side by side."""
+"""Running psi: where it is, what it answers, and many answers side by side, as those of streams in blocks."""
 
 import atexit
 import contextlib
@@ -12,12 +12,21 @@ import threading
 from collections.abc import Callable, Container, Iterable
 from typing import TypeVar
 
-from psi_tools.arguments import whole_argument
-from psi_tools.errors import PsiError, Refused, printable
+from psi_tools.errors import PsiError, Refused, printable, whole_argument
 
 Value = TypeVar("Value")
 
 TOP = pathlib.Path(__file__).resolve().parents[3]
+# A block: its first stream, and how many streams it has.
+Streams = tuple[int, int]
+
+# As many streams as one call of psi report takes, and how many blocks there are while they allow
+# it. On every machine there are as many, since an interval goes by its batches.
+MOST_STREAMS, BLOCKS = 65_536, 40
+# The least number of batches, each a block, that an interval goes by.
+LEAST_BATCHES = 20
+# How many blocks of a table each process draws: the first shows how long the rest takes.
+ROUNDS = 2
 
 
 @dataclasses.dataclass
@@ -215,3 +224,20 @@ def accepted(answer: Answer, name: str, statuses: Container[int]) -> Answer:
         status = answer.status if answer.status >= 0 else 128 - answer.status
         raise Refused(message or f"{name} ended with {answer.status}", status, answer.line)
     return answer
+
+
+def size_of(count: int) -> int:
+    """How many streams a block of a report has."""
+    return max(1, min(MOST_STREAMS, count // BLOCKS))
+
+
+def table_size(count: int, jobs: int) -> int:
+    """How many streams a block of a table has, where `jobs` blocks are drawn at the same time. No interval goes by such
+    blocks: there are a few for each process, so that all end together and few are started."""
+    return min(MOST_STREAMS, -(-count // min(BLOCKS, ROUNDS * jobs)))
+
+
+def blocks_of(first: int, count: int, size: int) -> list[Streams]:
+    """The blocks, each its first stream and how many streams it has."""
+    ends = range(first, first + count, size)
+    return [(begin, min(size, first + count - begin)) for begin in ends]

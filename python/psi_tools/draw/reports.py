@@ -5,12 +5,10 @@ import os
 from collections.abc import Callable, Sequence
 
 from psi_tools.draw.blocks import Folder, is_as_written
-from psi_tools.draw.program import Program
-from psi_tools.draw.streams import Streams
+from psi_tools.draw.program import Program, Streams
 from psi_tools.errors import PsiError
 from psi_tools.io.files import read_file
-from psi_tools.io.reports import Report, ReportError
-from psi_tools.io.reports import read as parse_report
+from psi_tools.io.reports import Report, ReportError, read
 from psi_tools.model.networks import Network
 from psi_tools.stats.batches import REWARD, Batches, batches_of
 
@@ -25,7 +23,7 @@ def as_printed(data: bytes) -> bytes:
 def read_report(data: bytes, path: object) -> Report:
     """The report in some bytes; raises PsiError with the file and the line where it is none."""
     try:
-        report = parse_report(data)
+        report = read(data)
     except ReportError as refused:
         raise PsiError(f"{path} is no report: {refused}") from None
     if not report.samples:

@@ -9,8 +9,7 @@ import collections
 import re
 from collections.abc import Callable
 
-from psi_tools.draw.program import Program
-from psi_tools.draw.streams import Streams
+from psi_tools.draw.program import Program, Streams
 from psi_tools.io.reports import Figure, Report
 from psi_tools.model.networks import Network, header_of, values_of
 

@@ -9,9 +9,8 @@ import re
 from typing import Any
 
 from psi_tools.draw import blocks
-from psi_tools.draw.program import Program
+from psi_tools.draw.program import Program, size_of
 from psi_tools.draw.reports import report_of
-from psi_tools.draw.streams import size_of
 from psi_tools.errors import PsiError, reason
 from psi_tools.io.reports import Report
 from psi_tools.io.tables import Record

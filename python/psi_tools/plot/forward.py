@@ -11,9 +11,8 @@ from typing import Any
 
 import numpy
 
-from psi_tools.arguments import NUMBER
 from psi_tools.draw.program import Program
-from psi_tools.errors import require
+from psi_tools.errors import NUMBER, require
 from psi_tools.model.networks import Network, checked
 
 # An array; and the share of the random words that choose an event, with what it makes of each number.
