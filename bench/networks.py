@@ -35,6 +35,13 @@ def watching(net: Network, queue: str) -> Network:
     return net.reward(SQUARED, "table", [queue], table=[squares])
 
 
+def watched(
+    name: str, about: str, net: Network, queue: str, samples: int, counted: int, has_product_form: bool = False
+) -> Case:
+    """An open network whose queue is watched."""
+    return Case(name, about, watching(net, queue), queue, samples, counted, None, has_product_form)
+
+
 def one_queue(capacity: int, arrival: int, service: int, limit: int | None = None) -> Network:
     """One server and a queue: M/M/1/K."""
     net = Network(limit=limit).queue("desk", capacity)
@@ -133,72 +140,17 @@ def copied(copies: int) -> Network:
 
 def cases() -> list[Case]:
     """The ten networks, from one queue to 32."""
+    lost, long = line(3, 12, 1, 5, 6, "lost"), line(5, 100, 2, 10, 5, "stay", 20)
+    wide, joined = line(32, 20, 1, 4, 5, "stay", 20), shortest(32, 20, 9 * 32, 10)
     return [
-        Case(
-            "one-queue",
-            "M/M/1/10, load 0.8",
-            watching(one_queue(10, 4, 5), "desk"),
-            "desk",
-            40_000,
-            2_000,
-            has_product_form=True,
-        ),
-        Case(
-            "small-line",
-            "3 queues of 12 places, customers leave where the next is full",
-            watching(line(3, 12, 1, 5, 6, "lost"), "q3"),
-            "q3",
-            20_000,
-            500,
-        ),
-        Case(
-            "line-8",
-            "8 queues of 20 places, blocking, load 0.8",
-            watching(line(8, 20, 1, 4, 5, "stay"), "q8"),
-            "q8",
-            1_000,
-            60,
-        ),
-        Case(
-            "long-line",
-            "5 queues of 100 places and 2 servers, blocking, load 1",
-            watching(line(5, 100, 2, 10, 5, "stay", 20), "q5"),
-            "q5",
-            100,
-            4,
-        ),
-        Case(
-            "wide-line",
-            "32 queues of 20 places, blocking, load 0.8",
-            watching(line(32, 20, 1, 4, 5, "stay", 20), "q32"),
-            "q32",
-            100,
-            8,
-        ),
-        Case(
-            "shortest",
-            "32 queues of 20 places, join the shortest, load 0.9",
-            watching(shortest(32, 20, 9 * 32, 10), "q1"),
-            "q1",
-            200,
-            4,
-        ),
-        Case(
-            "forks",
-            "6 queues of 3 places, fork and join, 4,096 states followed",
-            watching(forks(), "e"),
-            "e",
-            5_000,
-            20,
-        ),
-        Case(
-            "assembly",
-            "8 queues of 40 places, fork and two joins, split late",
-            watching(assembly(), "q4"),
-            "q4",
-            2_000,
-            30,
-        ),
+        watched("one-queue", "M/M/1/10, load 0.8", one_queue(10, 4, 5), "desk", 40_000, 2_000, True),
+        watched("small-line", "3 queues of 12 places, customers leave where the next is full", lost, "q3", 20_000, 500),
+        watched("line-8", "8 queues of 20 places, blocking, load 0.8", line(8, 20, 1, 4, 5, "stay"), "q8", 1_000, 60),
+        watched("long-line", "5 queues of 100 places and 2 servers, blocking, load 1", long, "q5", 100, 4),
+        watched("wide-line", "32 queues of 20 places, blocking, load 0.8", wide, "q32", 100, 8),
+        watched("shortest", "32 queues of 20 places, join the shortest, load 0.9", joined, "q1", 200, 4),
+        watched("forks", "6 queues of 3 places, fork and join, 4,096 states followed", forks(), "e", 5_000, 20),
+        watched("assembly", "8 queues of 40 places, fork and two joins, split late", assembly(), "q4", 2_000, 30),
         Case("central-server", "closed, 3 queues, 6 customers", central_server(6), "cpu", 200, 8, 6, True),
         Case("ring", "closed, 20 queues of 10 places, 40 customers, blocking", ring(20, 10), "q0", 4, 1, 40),
     ]
@@ -211,18 +163,15 @@ def walked() -> list[Case]:
     def example(name: str, about: str, queue: str, samples: int) -> Case:
         net = Network.read(f"{on_path.TOP}/examples/{name}.toml").copy()
         net.table["reward"].clear()
-        return Case(name, about, watching(net, queue), queue, samples, 0)
+        return watched(name, about, net, queue, samples, 0)
 
-    slow = "M/M/1/1000, load 0.99"
     return [
         example("tandem-blocking", "3 queues with blocking, 60 states", "cut", 10_000),
         example("shortest-queue", "3 queues, join the shortest, 216 states", "left", 10_000),
         example("fork-join", "fork and join, 144 states", "half-a", 5_000),
-        Case("line-8x20", "8 queues of 20, load 0.9", watching(line(8, 20, 1, 9, 10, "stay", 20), "q8"), "q8", 500, 0),
-        Case(
-            "line-20x10", "20 queues of 10, load 1", watching(line(20, 10, 1, 1, 1, "stay", 20), "q20"), "q20", 250, 0
-        ),
-        Case("one-queue-1000", slow, watching(one_queue(1_000, 99, 100, 22), "desk"), "desk", 100, 0),
+        watched("line-8x20", "8 queues of 20, load 0.9", line(8, 20, 1, 9, 10, "stay", 20), "q8", 500, 0),
+        watched("line-20x10", "20 queues of 10, load 1", line(20, 10, 1, 1, 1, "stay", 20), "q20", 250, 0),
+        watched("one-queue-1000", "M/M/1/1000, load 0.99", one_queue(1_000, 99, 100, 22), "desk", 100, 0),
     ]
 
 
