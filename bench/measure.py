@@ -23,9 +23,6 @@ JOBS = len(os.sched_getaffinity(0))
 ENVIRONMENT = {"OPENBLAS_NUM_THREADS": "1", "OMP_NUM_THREADS": "1", "PYTHONHASHSEED": "0"}
 # How many runs show how much memory one takes.
 RUNS = 5
-# A least time is settled once two more runs are within this factor and this many seconds of it, or once
-# all runs together took this many seconds.
-NEAR, GRAIN, ENOUGH = 1.04, 0.001, 60.0
 
 
 @dataclasses.dataclass
@@ -47,32 +44,6 @@ def run(words: list[str]) -> Run:
     if one.returncode:
         raise OSError(f"{' '.join(words)} ended with {one.returncode}: {line[-200:]}")
     return Run(out, used.ru_utime + used.ru_stime)
-
-
-@dataclasses.dataclass
-class Times:
-    """The processor times, in seconds, of a run that is repeated. What else the machine does slows each
-    run, but no two alike, so the least is what the run takes."""
-
-    taken: list[float] = dataclasses.field(default_factory=list)
-
-    @property
-    def least(self) -> float:
-        """The least of the times."""
-        return min(self.taken)
-
-    def is_settled(self, fewest: int) -> bool:
-        """Whether the run was repeated often enough, which is this many times at least."""
-        near = [seconds for seconds in self.taken if seconds <= NEAR * self.least + GRAIN]
-        return sum(self.taken) >= ENOUGH or (len(self.taken) >= fewest and len(near) >= 3)
-
-
-def time_again(calls: dict[str, list[list[str]]], times: dict[str, Times], fewest: int) -> None:
-    """Takes once more the time of each list of calls that is not settled."""
-    for name, lists in calls.items():
-        known = times.setdefault(name, Times())
-        if not known.is_settled(fewest):
-            known.taken.append(sum(run(words).seconds for words in lists))
 
 
 def instructions(words: list[str]) -> int | None:

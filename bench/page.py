@@ -2,41 +2,37 @@
 
 import dataclasses
 import math
+import operator
 import textwrap
 
 import texts
 from networks import Case
-from measure import ENOUGH, NEAR
 from rivals import Bias, Found
+from texts import CALLED
+from turns import BUDGET, FEWEST, SHORTEST, Taken, Turns
 
-METHODS = "paths", "chain", "simpy", "scipy", "octave"
-CALLED = {
-    "paths": "PSI by paths",
-    "chain": "plain chain",
-    "simpy": "SimPy",
-    "scipy": "scipy.sparse",
-    "octave": "octave-queueing",
-}
+# The base of a table and what it is compared with: in the first PSI and all others, in the second paths.
+METHODS, WALKERS = ("psi", *CALLED), ("paths", "psi", "chain")
+# The figures of a run: seconds until the target, those without the start and of the start, and nanoseconds a step.
+SECONDS, WORK, START, STEP = map(operator.attrgetter, ("seconds", "work", "start", "step"))
 
 
 @dataclasses.dataclass
 class Sampling:
     """What samples of a network take: the samples and steps of the runs whose time was measured,
-    the seconds of these and of the program's start, instructions a step (none without valgrind),
-    and the bytes of memory."""
+    these runs, instructions a step (none without valgrind), and the bytes of memory."""
 
     case: Case
     samples: int
     steps: int
-    seconds: float
-    start: float
+    turns: Turns[Taken]
     instructions: float | None
     peak: int
 
     @property
     def each(self) -> float:
         """The seconds of a sample, without those of the start."""
-        return max(self.seconds - self.start, 1e-9) / self.samples
+        return self.turns.median(self.case.name, WORK) / self.samples
 
     @property
     def step(self) -> list[str]:
@@ -46,22 +42,11 @@ class Sampling:
 
 @dataclasses.dataclass
 class Comparison:
-    """What each method comes to for a network; none where a method does not have it."""
+    """The turns of some methods on a network, and its number of states."""
 
     case: Case
     states: int
-    psi: Found
-    others: dict[str, Found | None]
-
-
-@dataclasses.dataclass
-class Walk:
-    """What samples, paths and the plain chain come to for a network; no chain where it isn't built."""
-
-    case: Case
-    psi: Found
-    paths: Found
-    chain: Found | None
+    turns: Turns[Found]
 
 
 @dataclasses.dataclass
@@ -72,7 +57,7 @@ class Measured:
     samplings: list[Sampling]
     families: dict[str, dict[str, Sampling]]
     comparisons: list[Comparison]
-    walks: list[Walk]
+    walks: list[Comparison]
     exact: float
     biases: list[Bias]
     bias_steps: int
@@ -87,11 +72,6 @@ def shown(value: float | None) -> str:
     if rounded >= 100 or not rounded:
         return f"{rounded:,.0f}"
     return f"{rounded:.{2 - math.floor(math.log10(rounded))}f}"
-
-
-def ratio(other: Found | None, psi: Found) -> str:
-    """How many times PSI's time a method takes."""
-    return "-" if other is None else shown(other.seconds / psi.seconds)
 
 
 def table(head: list[str], rows: list[list[str]]) -> str:
@@ -131,54 +111,61 @@ def growth(name: str, family: dict[str, Sampling]) -> str:
     """The table of a family: its cost beside that of the first network."""
     first, *_ = family.values()
     rows = [
-        [value, shown(one.each / first.each), shown(one.steps / one.samples), *one.step]
+        [
+            value,
+            shown(one.turns.ratio(one.case.name, WORK) * first.samples / one.samples),
+            shown(one.steps / one.samples),
+            *one.step,
+        ]
         for value, one in family.items()
     ]
-    head = [name, "time a sample", "steps a sample", "ns a step", "instructions a step"]
+    head = [name, texts.EACH, "steps a sample", "ns a step", "instructions a step"]
     return table(head, rows)
 
 
 def time_table(comparisons: list[Comparison]) -> str:
     """The table of times until the target, the ratios to PSI's first."""
     rows = [
-        [one.case.name, *(ratio(one.others[method], one.psi) for method in METHODS), shown(one.psi.seconds)]
+        [
+            one.case.name,
+            *(shown(one.turns.ratio(method, SECONDS)) for method in CALLED),
+            shown(one.turns.median("psi", SECONDS)),
+        ]
         for one in comparisons
     ]
-    return table(["network", *(CALLED[method] for method in METHODS), "PSI, seconds"], rows)
+    return table(["network", *CALLED.values(), "PSI, seconds"], rows)
 
 
-def walk_table(walks: list[Walk]) -> str:
+def walk_table(walks: list[Comparison]) -> str:
     """The table of paths beside samples and the plain chain."""
-    rows = []
-    for one in walks:
-        chain = one.chain
-        step = chain.step if chain else None
-        rows.append(
-            [
-                one.case.about,
-                *(shown(found.seconds if found else None) for found in (one.psi, one.paths, chain)),
-                "-" if chain is None else shown(one.paths.seconds / chain.seconds),
-                *(shown(number) for number in (one.paths.step, step)),
-                shown(one.paths.step / step) if one.paths.step and step else "-",
-            ]
-        )
-    head = ["network", "samples, s", "paths, s", "plain chain, s", "ratio", "paths, ns a step", "chain, ns a step"]
-    return table([*head, "ratio of steps"], rows)
+    rows = [
+        [
+            one.case.about,
+            *(shown(one.turns.median(method, SECONDS)) for method in ("psi", "paths", "chain")),
+            shown(1 / one.turns.ratio("chain", SECONDS)),
+            *(shown(one.turns.median(method, STEP)) for method in ("paths", "chain")),
+            shown(1 / one.turns.ratio("chain", STEP)),
+        ]
+        for one in walks
+    ]
+    head = ["network", "samples, s", "paths, s", "plain chain, s", texts.RATIO, "paths, ns a step", "chain, ns a step"]
+    return table([*head, texts.STEPS_RATIO], rows)
 
 
-def estimate(found: Found | None) -> str:
-    """An estimate, with half its interval where it has one."""
-    if found is None:
+def estimate(runs: list[tuple[Found, Found]]) -> str:
+    """The estimate of some runs, with half its interval where it has one."""
+    if not runs:
         return "-"
+    found, _ = runs[0]
     half = f" ± {found.half:.3f}" if found.half > 0 else ""
     return f"{found.mean:.3f}{half}"
 
 
 def mean_table(comparisons: list[Comparison]) -> str:
     """The table of the means that the methods found. SimPy's runs are too short for one."""
-    methods = [method for method in METHODS if method != "simpy"]
+    methods = [method for method in CALLED if method != "simpy"]
     rows = [
-        [one.case.name, shown_states(one.states), *map(estimate, (one.psi, *(one.others[it] for it in methods)))]
+        [one.case.name, shown_states(one.states), *(estimate(one.turns.pairs[it]) for it in ("psi", *methods))]
         for one in comparisons
     ]
     return table(["network", "states", "PSI", *(CALLED[method] for method in methods)], rows)
@@ -198,31 +185,31 @@ def bias_table(biases: list[Bias]) -> str:
 def where_right(comparisons: list[Comparison]) -> str:
     """For each method, on which networks it takes less and more time than PSI."""
     items = []
-    for method in METHODS:
-        both = [(one, other) for one in comparisons if (other := one.others[method])]
-        less = [one.case.name for one, other in both if other.seconds < one.psi.seconds]
-        more = [one.case.name for one, other in both if other.seconds >= one.psi.seconds]
-        lacks = len(comparisons) - len(both)
+    for method in CALLED:
+        ratios = {one.case.name: one.turns.ratio(method, SECONDS) for one in comparisons}
+        less = [name for name, ratio in ratios.items() if ratio < 1]
+        more = [name for name, ratio in ratios.items() if ratio >= 1]
+        lacks = len(ratios) - len(less) - len(more)
         parts = [f"less time than PSI on {', '.join(less)}"] if less else []
         parts += [f"more on {', '.join(more)}"] if more else []
-        parts += [f"no answer for the other {lacks}"] if lacks and both else []
+        parts += [f"no answer for the other {lacks}"] if 0 < lacks < len(ratios) else []
         parts = parts or ["not measured"]
         items.append(f"- **{CALLED[method]}**: {'; '.join(parts)}. {texts.ADVICE[method]}")
     return "\n".join(items)
 
 
-def page(found: Measured, rounds: tuple[int, int], batches: int, paths: int, most: int) -> str:
+def page(found: Measured, rounds: int, batches: int, paths: int, most: int) -> str:
     """The whole page."""
-    start = min(one.start for one in found.samplings) * 1_000
+    start = min(one.turns.median(one.case.name, START) for one in found.samplings) * 1_000
     rows = [sampling_row(one) for one in found.samplings]
     head = ["network", "steps a sample", "samples a second", "ns a step", "instructions a step", "MB"]
     parts = [
         "# Performance\n",
-        wrapped(texts.HEAD.format(fewest=rounds[0], most=rounds[1], near=NEAR - 1, enough=ENOUGH)),
-        "## PSI beside other methods\n",
+        wrapped(texts.HEAD.format(rounds=rounds, fewest=FEWEST, budget=BUDGET, shortest=SHORTEST)),
+        f"## {texts.COMPARING}\n",
         wrapped(texts.COMPARED.format(batches=batches, most=most)),
         time_table(found.comparisons),
-        "## Paths beside the plain chain\n",
+        f"## {texts.WALKING}\n",
         wrapped(texts.WALKS.format(paths=paths)),
         walk_table(found.walks),
         "## Which method to choose\n",
@@ -232,7 +219,7 @@ def page(found: Measured, rounds: tuple[int, int], batches: int, paths: int, mos
         wrapped(texts.BIAS.format(runs=found.bias_runs, steps=found.bias_steps, exact=found.exact)),
         bias_table(found.biases),
         wrapped(texts.BIAS_END),
-        "## How the time grows\n",
+        f"## {texts.GROWING}\n",
         wrapped(texts.GROWTH),
         *(growth(name, family) for name, family in found.families.items()),
         "## Samples a second\n",

@@ -2,8 +2,7 @@
 
 The target is the mean length of the watched queue within 1 % of itself, at a confidence of 95 %.
 What a run of moderate length comes to is scaled: the half-width of an interval falls with the
-square root of the work. Times are processor times of whole processes, their start included, and the
-least of several runs.
+square root of the work. Times are processor times of whole processes, their start included.
 """
 
 import csv
@@ -16,12 +15,12 @@ import shutil
 import statistics
 import subprocess
 import sys
-from collections.abc import Callable
 
 import solve
 from events import events_of, text_of
-from measure import Run, Times, run, sums_of
+from measure import Run, run, steps_of, sums_of
 from networks import SQUARED, WATCHED, Case, one_queue
+from turns import Taken
 
 TARGET, SEED = 0.01, 1
 # Student's t for 19 degrees of freedom, and the normal quantile, both for 95 %.
@@ -33,22 +32,15 @@ PYTHON = "/usr/bin/python3" if os.access("/usr/bin/python3", os.X_OK) else sys.e
 
 
 @dataclasses.dataclass
-class Found:
-    """A method's estimate of the mean, half of its 95 % interval (0 where it is exact), the seconds
-    of its start and of the whole run, how many times that run's work the target takes and, of a
-    simulation, the steps of the run."""
+class Found(Taken):
+    """A method's estimate of the mean, half of its 95 % interval (0 where it is exact), with the seconds of
+    its start and of the whole run, how many times that run's work the target takes and, of a simulation,
+    the steps of the run."""
 
     mean: float
     half: float
-    start: float
-    measured: float
     times: float = 1.0
     steps: int | None = None
-
-    @property
-    def work(self) -> float:
-        """The seconds of the run without its start."""
-        return max(self.measured - self.start, 0)
 
     @property
     def seconds(self) -> float:
@@ -56,34 +48,14 @@ class Found:
         return self.start + self.work * self.times
 
     @property
-    def step(self) -> float | None:
-        """The nanoseconds a step."""
-        return None if self.steps is None else self.work / self.steps * 1e9
+    def step(self) -> float:
+        """The nanoseconds a step; not a number where there are none."""
+        return math.nan if self.steps is None else self.work / self.steps * 1e9
 
-
-class Least:
-    """The least times of each method on each network, over runs that are repeated this often or more."""
-
-    def __init__(self, fewest: int) -> None:
-        self.fewest = fewest
-        self.found: dict[tuple[str, str], Found | None] = {}
-        self.times: dict[tuple[str, str], Times] = {}
-
-    def of(self, network: str, method: str, measure: Callable[[], Found | None]) -> Found | None:
-        """Measures a method on a network again, unless its time is settled or it has no answer, and
-        returns what it found, with the least start and the least time so far."""
-        key = network, method
-        known = self.found.get(key)
-        if key in self.found and (known is None or self.times[key].is_settled(self.fewest)):
-            return known
-        found = self.found[key] = measure()
-        if found:
-            times = self.times.setdefault(key, Times())
-            times.taken.append(found.measured)
-            found.measured = times.least
-        if found and known:
-            found.start = min(found.start, known.start)
-        return found
+    def timed_by(self, part: "Found") -> "Found":
+        """The same estimate, with the times of a run of fewer steps."""
+        assert self.steps and part.steps
+        return dataclasses.replace(part, mean=self.mean, half=self.half, times=self.times * self.steps / part.steps)
 
 
 def times_of(mean: float, half: float) -> float:
@@ -101,19 +73,21 @@ def by_psi(program: str, file: str, case: Case, samples: int) -> Found:
     mean = sums["reward-sum", WATCHED] / samples
     squares = sums["reward-sum", SQUARED] / samples
     half = Z_QUANTILE * math.sqrt((squares - mean * mean) / (samples - 1))
-    return Found(mean, half, start, done.seconds, times_of(mean, half))
+    return Found(start, done.seconds, mean, half, times_of(mean, half), steps_of(done.out))
 
 
 def by_closed(program: str, file: str, case: Case, samples: int) -> Found:
     """The same of a closed network: each sample is a process of its own."""
-    place, values, seconds = case.net.queues.index(case.watched), [], 0.0
+    place, values, steps, seconds = case.net.queues.index(case.watched), [], 0, 0.0
     for stream in range(samples):
         done = run([program, "closed", file, "0", str(stream), str(case.total)])
-        values.append(int(done.out.split()[-1].split(",")[place]))
+        _, horizon, _, state = done.out.split()
+        values.append(int(state.split(",")[place]))
+        steps += int(horizon)
         seconds += done.seconds
     mean = statistics.fmean(values)
     half = Z_QUANTILE * statistics.stdev(values) / math.sqrt(samples)
-    return Found(mean, half, 0, seconds, times_of(mean, half))
+    return Found(0, seconds, mean, half, times_of(mean, half), steps)
 
 
 def by_paths(program: str, file: str, case: Case, steps: int) -> Found:
@@ -127,7 +101,7 @@ def by_paths(program: str, file: str, case: Case, steps: int) -> Found:
     means = [int(row[f"queue.{case.watched}"]) / (each + 1) for row in rows]
     mean = statistics.fmean(means)
     half = PATHS_QUANTILE * statistics.stdev(means) / math.sqrt(PATHS)
-    return Found(mean, half, start, done.seconds, times_of(mean, half), PATHS * each)
+    return Found(start, done.seconds, mean, half, times_of(mean, half), PATHS * each)
 
 
 def batch_means(done: Run) -> list[float]:
@@ -143,7 +117,7 @@ def by_chain(chain: str, file: str, steps: int) -> Found:
     means = batch_means(done)
     mean = statistics.fmean(means)
     half = T_QUANTILE * statistics.stdev(means) / math.sqrt(BATCHES)
-    return Found(mean, half, start, done.seconds, times_of(mean, half), (BATCHES + 1) * (steps // BATCHES))
+    return Found(start, done.seconds, mean, half, times_of(mean, half), (BATCHES + 1) * (steps // BATCHES))
 
 
 def by_simpy(file: str, case: Case, time: float, needed: float) -> Found:
@@ -154,7 +128,7 @@ def by_simpy(file: str, case: Case, time: float, needed: float) -> Found:
     more += [] if case.total is None else ["--total", str(case.total)]
     start = run([*words, "0.001", "0", *more]).seconds
     done = run([*words, str(time), "0", *more])
-    return Found(float(done.out.split()[0]), math.nan, start, done.seconds, needed / time)
+    return Found(start, done.seconds, float(done.out.split()[0]), math.nan, needed / time)
 
 
 def by_solving(file: str, case: Case) -> Found | None:
@@ -163,7 +137,7 @@ def by_solving(file: str, case: Case) -> Found | None:
         return None
     more = [] if case.total is None else ["--total", str(case.total)]
     done = run([PYTHON, str(HERE / "solve.py"), file, case.watched, *more])
-    return Found(float(done.out.split()[0]), 0.0, 0.0, done.seconds)
+    return Found(0.0, done.seconds, float(done.out.split()[0]), 0.0)
 
 
 def by_product_form(case: Case) -> Found | None:
@@ -173,7 +147,7 @@ def by_product_form(case: Case) -> Found | None:
     if not case.has_product_form or not octave:
         return None
     done = run([octave, "--no-gui", "--quiet", "--eval", octave_text(case)])
-    return Found(float(done.out.split()[-1]), 0.0, 0.0, done.seconds)
+    return Found(0.0, done.seconds, float(done.out.split()[-1]), 0.0)
 
 
 def octave_text(case: Case) -> str:

@@ -1,23 +1,34 @@
 """The prose of PERFORMANCE.md."""
 
+CALLED = {
+    "paths": "PSI by paths",
+    "chain": "plain chain",
+    "simpy": "SimPy",
+    "scipy": "scipy.sparse",
+    "octave": "octave-queueing",
+}
+# The headings of the tables that have ratios, and the columns in which these stand.
+COMPARING, WALKING, GROWING = "PSI beside other methods", "Paths beside the plain chain", "How the time grows"
+RATIO, STEPS_RATIO, EACH = "ratio", "ratio of steps", "time a sample"
+RATIOS = {COMPARING: {*CALLED.values()}, WALKING: {RATIO, STEPS_RATIO}, GROWING: {EACH}}
 HEAD = """
 This page reports how fast PSI draws samples, how the time grows, and what other methods take for
 the same answer. Read it before you choose a method. `bench/run` measures everything and writes the
 page.
 
 Compare ratios, not seconds. The machine may have been busy, as its load at the end of this page
-shows. So each time is the least processor time of {fewest} runs or more, in which all networks and
-all methods take turns. A run is repeated until its time is settled: until two more runs come within
-{near:.0%} of the least, or until its runs took {enough:.0f} seconds in all. After {most} runs there is no
-other.
+shows, and its pace changes. So PSI and another method run by turns, always the one that took less time
+so far, until each took {shortest} seconds; the method's mean time is divided by that of PSI. Each ratio is the
+median of {rounds} such turns, which are spread over the whole measurement. A comparison ends after {fewest}
+turns or more, once another turn would make more than {budget:.0f} seconds in all. All times are processor
+times of whole processes; those in seconds are medians, too.
 
 Instructions are counted by callgrind, and hardly depend on what else runs.
 """
 COMPARED = """
 Every method finds the mean length of one queue within 1 % of itself, at a confidence level of 95 %.
 The entries are how many times PSI's time a method takes: below 1 the other method is faster. A dash
-means that the method does not apply, or that it was not measured. Times are processor times of
-whole processes.
+means that the method does not apply, or that it was not measured.
 
 - PSI: independent samples, until the confidence interval is that narrow.
 - PSI by paths: `psi_paths` lets the network run on from samples, and every step counts. The paths are
@@ -29,16 +40,19 @@ the plain chain needs, since both simulate the same process.
 - scipy.sparse: `bench/solve.py` solves the stationary equations, up to {most:,} states.
 - octave-queueing: where the network has product form.
 
-PSI, the plain chain and SimPy run for a part of the time, which is scaled: the width of a
-confidence interval falls with the square root of the work. A closed network has no report: each of
-its samples is a process of its own, so the start of the program is part of the time of each.
+PSI, paths, the plain chain and SimPy run for a part of the time, which is scaled: the width of a
+confidence interval falls with the square root of the work. The estimates of PSI, paths and the plain
+chain come from one run each, and their times from runs of a part of its steps. A closed network has no
+report: each of its samples is a process of its own, so the start of the program is part of the time of
+each.
 """
 WALKS = """
 A path begins in a sample, so it needs no warm-up, and its interval takes nothing for independent but
 the streams. Here {paths} samples are drawn, and from each a path, until the mean of one queue is known
 within 1 % at a confidence level of 95 %. The plain chain has a warm-up of a twentieth of its run, which
 its user has to know. A step of a path is one random word, idle or not; the sums of all queues and all
-counts of events are part of it. A step of the plain chain is an event, and sums one queue.
+counts of events are part of it. A step of the plain chain is an event, and sums one queue. Paths and the
+plain chain run by turns.
 """
 PSI = """
 PSI is the tool where a chain is too large to be solved, has no product form, and nobody knows how
@@ -72,7 +86,8 @@ More runs make the interval narrower and leave the error as it is. A sample of P
 error: it has the stationary distribution, and needs no warm-up.
 """
 GROWTH = """
-The time a sample takes is relative to the first row of its table. It is the product of two numbers:
+The time a sample takes is relative to the first row of its table, with which each other row runs by
+turns. It is the product of two numbers:
 how many steps a sample needs, which the network decides, and the time of a step.
 
 - Queues: lines of queues of 20 places at a load of 0.8, with blocking.

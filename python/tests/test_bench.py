@@ -1,6 +1,8 @@
 """The programs of bench/ that PSI is compared with: on small networks all agree with the solved
 chain."""
 
+import functools
+import itertools
 import math
 import pathlib
 import random
@@ -8,6 +10,7 @@ import shutil
 import statistics
 import subprocess
 import sys
+from collections.abc import Callable
 
 import pytest
 from conftest import TOP, companion
@@ -22,6 +25,7 @@ import page
 import rivals
 import solve
 import solving
+import turns
 from psi_tools.model.networks import Network
 
 HAS_SIMPY = subprocess.run([rivals.PYTHON, "-c", "import SimPy.Simulation"], capture_output=True).returncode == 0
@@ -151,29 +155,87 @@ def test_the_events_of_other_kinds_are_refused() -> None:
 def test_the_time_until_the_target_grows_with_the_square_of_the_width() -> None:
     for half, times in ((0.04, 4), (0.01, 0.25)):
         assert math.isclose(rivals.times_of(2.0, half), times)
-        assert math.isclose(rivals.Found(2.0, half, 0.5, 1.5, rivals.times_of(2.0, half)).seconds, 0.5 + times)
+        assert math.isclose(rivals.Found(0.5, 1.5, 2.0, half, rivals.times_of(2.0, half)).seconds, 0.5 + times)
 
 
-def test_the_least_start_and_the_least_time_of_several_runs_are_taken() -> None:
-    runs, least = iter([(0.5, 3.0), (0.25, 4.0), (0.75, 2.25), (0.1, 8.0)]), rivals.Least(2)
-    for wanted in (0.5, 3.0), (0.25, 3.0), (0.25, 2.25):
-        found = least.of("net", "psi", lambda: rivals.Found(1.0, 0.01, *next(runs), 2.0, 1_000))
-        assert found and (found.start, found.measured) == wanted
-    assert found and found.seconds == 0.25 + 2 * 2.0 and found.step == 2.0 / 1_000 * 1e9
-    assert least.of("net", "octave", lambda: None) is None
-    # After a run that took long enough there is no other.
-    for seconds in measure.ENOUGH, 1:
-        found = least.of("long", "psi", lambda: rivals.Found(1.0, 0.01, 0, seconds))
-        assert found and found.measured == measure.ENOUGH
+def test_a_long_run_is_timed_by_a_part_of_it() -> None:
+    whole, part = rivals.Found(0.5, 8.5, 2.0, 0.04, 4.0, 1_000), rivals.Found(0.25, 4.25, 3.0, 0.9, 99.0, 250)
+    timed = whole.timed_by(part)
+    assert (timed.mean, timed.half, timed.step) == (2.0, 0.04, 4 / 250 * 1e9)
+    assert timed.seconds == 0.25 + 4 * 4.0 * 4.0
 
 
-def test_a_time_is_settled_once_two_more_runs_are_near() -> None:
-    times = measure.Times([2.0, 2.05, 3.0])
-    assert times.least == 2.0 and not times.is_settled(3)
-    times.taken.append(2.07)
-    assert times.is_settled(4) and not times.is_settled(5)
-    assert not measure.Times([0.001, 0.0019]).is_settled(2) and measure.Times([0.001, 0.0019, 0.002]).is_settled(3)
-    assert measure.Times([measure.ENOUGH / 2, measure.ENOUGH]).is_settled(5)
+class Machine:
+    """A machine with a clock of its own, which is half as fast from some moment on."""
+
+    def __init__(self, moment: float = math.inf) -> None:
+        self.now, self.moment = 0.0, moment
+        self.runs: list[str] = []
+
+    def take(self, works: dict[str, float], count: int) -> turns.Turns[turns.Taken]:
+        """So many turns of programs that take these seconds before that moment, and no start."""
+        measures = {name: functools.partial(self.run, name, work) for name, work in works.items()}
+        found = turns.Turns(measures, lambda: self.now)
+        for _ in range(count):
+            found.take()
+        return found
+
+    def run(self, name: str, work: float) -> turns.Taken | None:
+        """Runs a program, which has no answer where it takes no time."""
+        self.runs.append(name)
+        early = min(work, max(0.0, self.moment - self.now))
+        self.now += (seconds := early + 2 * (work - early))
+        return turns.Taken(0.0, seconds) if work else None
+
+
+def work(one: turns.Taken) -> float:
+    return one.work
+
+
+def test_a_machine_that_slows_down_changes_no_ratio() -> None:
+    works = {"base": 0.1, "short": 0.01, "like": 0.1, "long": 5.0}
+    for moment in range(0, 600, 7):
+        found = Machine(moment / 10).take(works, 5)
+        for name, seconds in works.items():
+            assert math.isclose(found.ratio(name, work), seconds / 0.1, rel_tol=0.03)
+
+
+def test_a_measure_and_the_base_run_by_turns_until_both_took_long_enough() -> None:
+    assert 0.25 < turns.SHORTEST < 0.3125
+    machine = Machine()
+    found = machine.take({"base": 0.125, "none": 0.0, "twice": 0.25, "half": 0.0625, "long": 5.0}, 2)
+    order = "base twice base base twice base / base half half base half half base half base / base long base base base"
+    assert machine.runs == ["base", "none", *order.replace("/ ", "").split() * 2]
+    assert [found.median(name, work) for name in found.measures if name != "none"] == [0.125, 0.25, 0.0625, 5.0]
+    assert not found.pairs["none"] and math.isnan(found.ratio("none", work)) and math.isnan(found.median("none", work))
+
+
+def test_a_ratio_is_that_of_the_means_of_a_turn() -> None:
+    machine = Machine(0.125 + 0.25)
+    found = machine.take({"base": 0.125, "twice": 0.25}, 1)
+    # The base takes 0.125, 0.25 and 0.25 seconds, and the other one 0.25 and 0.5.
+    assert machine.runs == "base twice base twice base".split()
+    assert found.ratios("twice", work) == [0.375 / (0.625 / 3)] and found.median("base", work) == 0.625 / 3
+
+
+def test_a_base_alone_is_measured_as_well() -> None:
+    found = Machine().take({"base": 0.125}, 3)
+    assert found.median("base", work) == 0.125 and found.spreads(work) == []
+
+
+def test_long_runs_have_fewer_turns() -> None:
+    for share, count in (0.5, 3), (0.25, 4), (0.2, 5), (0.03, 7):
+        machine = Machine()
+        machine.take({"base": 0.5, "other": share * turns.BUDGET - 1}, 7)
+        assert machine.runs.count("other") == count
+
+
+def test_what_is_shown_is_in_the_middle_of_the_turns() -> None:
+    found = turns.Turns({"base": lambda: turns.Taken(0, 1), "other": lambda: None})
+    base = turns.Taken(0.5, 1.0)
+    found.pairs["other"] = [(turns.Taken(0.5, 0.5 + ratio / 2), base) for ratio in (9.0, 2.0, 4.0, 3.0, 0.1)]
+    assert found.ratio("other", work) == 3.0 and found.median("other", work) == 1.5
+    assert found.spreads(work) == [(4.0 - 2.0) / 2 / 3.0]
 
 
 @OF_CHAIN
@@ -206,15 +268,6 @@ def test_each_network_has_a_name_of_its_own() -> None:
     assert len(set(names)) == len(names)
 
 
-def test_only_times_that_are_not_settled_are_taken_again() -> None:
-    calls = {"none": [["true"]], "known": [["true"]], "slow": [["true"]] * 3}
-    times = {"known": measure.Times([measure.ENOUGH])}
-    for count in 1, 2:
-        measure.time_again(calls, times, 3)
-        assert [len(times[name].taken) for name in calls] == [count, 1, count]
-    assert times["known"].least == measure.ENOUGH and 0 <= times["none"].least < measure.ENOUGH
-
-
 def test_verdicts_on_instructions() -> None:
     assert instructions.verdict(1_030, 1_000) == "" and instructions.verdict(970, 1_000) == ""
     assert instructions.verdict(1_031, 1_000) == "above its bound, +3.1 %"
@@ -240,25 +293,48 @@ def test_bounds_of_the_same_kit_and_level_are_compared_alone() -> None:
     assert instructions.bounds_of("c", "x86-64", bounds) == {}
 
 
-def found(seconds: float, steps: int | None = None) -> rivals.Found:
-    return rivals.Found(1.0, 0.01, 0.0, seconds, 1.0, steps)
+def counting() -> Callable[[], float]:
+    """A clock that is a second later each time."""
+    clock = itertools.count()
+    return lambda: next(clock)
+
+
+def turns_of(**runs: tuple[float, float] | None) -> turns.Turns[rivals.Found]:
+    """A turn of some methods, of which each takes these seconds and these nanoseconds a step, or has no answer."""
+
+    def measure(run: tuple[float, float] | None) -> rivals.Found | None:
+        return run and rivals.Found(0.0, run[0], 1.0, 0.01, 1.0, round(run[0] / run[1] * 1e9))
+
+    found = turns.Turns({name: functools.partial(measure, run) for name, run in runs.items()}, counting())
+    found.take()
+    return found
 
 
 def test_the_page_names_where_a_method_takes_less_time() -> None:
-    others = {"paths": None, "chain": found(1), "simpy": found(40), "scipy": None, "octave": None}
-    one = page.Comparison(CASES["open"], 48, found(2), others)
+    made = turns_of(psi=(2, 1), paths=None, chain=(1, 1), simpy=(40, 1), scipy=None, octave=None)
+    one = page.Comparison(CASES["open"], 48, made)
     printed = page.where_right([one])
     assert "**plain chain**: less time than PSI on small. " in printed
     assert "**SimPy**: more on small. " in printed and "**octave-queueing**: not measured" in printed
     assert page.time_table([one]).splitlines()[-1] == "| small | - | 0.500 | 20.0 | - | - | 2.00 |"
+    assert page.mean_table([one]).splitlines()[-1] == "| small | 48 | 1.000 ± 0.010 | - | 1.000 ± 0.010 | - | - |"
 
 
 def test_the_page_has_the_paths_beside_the_chain() -> None:
-    paths, chain = found(3, 750_000_000), found(2, 625_000_000)
-    one = page.Walk(CASES["open"], found(20), paths, chain)
+    one = page.Comparison(CASES["open"], 48, turns_of(paths=(3, 4), psi=(20, 1), chain=(2, 3.2)))
     assert page.walk_table([one]).splitlines()[-1] == "|  | 20.0 | 3.00 | 2.00 | 1.50 | 4.00 | 3.20 | 1.25 |"
-    alone = page.Walk(CASES["open"], found(20), found(3), None)
-    assert page.walk_table([alone]).splitlines()[-1] == "|  | 20.0 | 3.00 | - | - | - | - | - |"
+    alone = page.Comparison(CASES["open"], 48, turns_of(paths=(3, 4), psi=(20, 1), chain=None))
+    assert page.walk_table([alone]).splitlines()[-1] == "|  | 20.0 | 3.00 | - | - | 4.00 | - | - |"
+
+
+def test_the_page_has_what_a_sample_takes_beside_that_of_the_first_network() -> None:
+    cases = networks.growing()["load"]
+    made = turns.Turns({"load-50": lambda: turns.Taken(1, 3), "load-99": lambda: turns.Taken(1, 13)}, counting())
+    made.take()
+    few, many = (page.Sampling(cases[name], count, 10**9, made, 7.0, 0) for name, count in (("0.50", 4), ("0.99", 2)))
+    head, _, *rows = page.growth("load", {"0.50": few, "0.99": many}).splitlines()
+    assert head == "| load | time a sample | steps a sample | ns a step | instructions a step |"
+    assert rows == ["| 0.50 | 1.00 | 250,000,000 | 2.00 | 7.00 |", "| 0.99 | 12.0 | 500,000,000 | 12.0 | 7.00 |"]
 
 
 def test_paths_have_the_mean(case: networks.Case, program: str, tmp_path: pathlib.Path) -> None:
