@@ -6,6 +6,7 @@ import itertools
 import math
 import pathlib
 import random
+import re
 import shutil
 import statistics
 import subprocess
@@ -335,6 +336,33 @@ def test_the_page_has_what_a_sample_takes_beside_that_of_the_first_network() -> 
     head, _, *rows = page.growth("load", {"0.50": few, "0.99": many}).splitlines()
     assert head == "| load | time a sample | steps a sample | ns a step | instructions a step |"
     assert rows == ["| 0.50 | 1.00 | 250,000,000 | 2.00 | 7.00 |", "| 0.99 | 12.0 | 500,000,000 | 12.0 | 7.00 |"]
+
+
+def compared(first: str, second: str, folder: pathlib.Path, *more: str) -> tuple[int, list[str]]:
+    """The status of bench/compare for two pages, and the lines that it prints."""
+    files = folder / "first.md", folder / "second.md"
+    for file, text in zip(files, (first, second)):
+        file.write_text(text)
+    done = subprocess.run([TOP / "bench/compare", *files, *more], capture_output=True, text=True)
+    return done.returncode, done.stdout.splitlines()
+
+
+def test_the_ratios_of_two_pages_are_compared(tmp_path: pathlib.Path) -> None:
+    text = (TOP / "PERFORMANCE.md").read_text()
+    status, (last,) = compared(text, text, tmp_path)
+    assert status == 0 and re.fullmatch(r"6\d ratios, 0 of them more than 15 % apart; at most 0.0 %", last)
+    one = "## PSI beside other methods\n\n| network | SimPy | PSI, seconds |\n| --- | ---: | ---: |\n| a | 1.00 | 7 |\n"
+    rows = "## How the time grows\n\n| load | time a sample |\n| --- | ---: |\n| 0.5 | 1,000 |\n| 0.9 | - |\n"
+    other = one.replace("1.00 | 7", "1.15 | 9") + rows
+    assert compared(one + rows, other, tmp_path) == (0, ["2 ratios, 0 of them more than 15 % apart; at most 15.0 %"])
+    lines = [
+        "PSI beside other methods, a, SimPy: 1 and 1.15",
+        "2 ratios, 1 of them more than 10 % apart; at most 15.0 %",
+    ]
+    assert compared(one + rows, other, tmp_path, "--within", "10") == (1, lines)
+    assert compared(one, one + rows, tmp_path)[0] == compared(rows, one, tmp_path)[0] == 1
+    assert compared(one, "", tmp_path) == compared("", one, tmp_path) == (2, [])
+    assert compared(one, one, tmp_path, "nonsense")[0] == 2
 
 
 def test_paths_have_the_mean(case: networks.Case, program: str, tmp_path: pathlib.Path) -> None:
