@@ -18,10 +18,11 @@ page.
 
 Compare ratios, not seconds. The machine may have been busy, as its load at the end of this page
 shows, and its pace changes. So PSI and another method run by turns, always the one that took less time
-so far, until each took {shortest} seconds; the method's mean time is divided by that of PSI. Each ratio is the
-median of {rounds} such turns, which are spread over the whole measurement. A comparison ends after {fewest}
-turns or more, once another turn would make more than {budget:.0f} seconds in all. All times are processor
-times of whole processes; those in seconds are medians, too.
+so far, until each took {shortest} seconds and the method ran {runs} times or took {long} seconds. The method's
+mean time is divided by that of PSI. There are {rounds} such turns, spread over the whole measurement, and
+a ratio is their mean without the least and the greatest. A comparison ends after {fewest} turns or more,
+once another turn would make more than {budget:.0f} seconds in all. All times are processor times of whole
+processes; those in seconds are such means as well.
 
 Instructions are counted by callgrind, and hardly depend on what else runs.
 """
@@ -36,7 +37,8 @@ the values of the interval.
 - Plain chain: `bench/chain`, a forward simulation of the uniformized chain in plain Rust. It is one
 long run, whose interval comes from {batches} batches, after one batch of warm-up.
 - SimPy: `bench/forward_simpy.py`, with a process for each event. It simulates the model time that
-the plain chain needs, since both simulate the same process.
+the plain chain needs, since both simulate the same process. Beside other work it slows down far more
+than compiled programs do, so its ratios hold for a similar load only.
 - scipy.sparse: `bench/solve.py` solves the stationary equations, up to {most:,} states.
 - octave-queueing: where the network has product form.
 

@@ -11,9 +11,12 @@ import statistics
 from collections.abc import Callable, Mapping
 from typing import Generic, TypeVar
 
-# A turn ends once both took so many seconds. After so many turns none begins that would probably make more
-# than so many seconds of all.
-SHORTEST, FEWEST, BUDGET = 0.3, 3, 60.0
+# A turn ends once both took so many seconds, and the measure ran so often or took so many more: two processes
+# of the same kind differ, if only by where their memory is.
+SHORTEST, RUNS, LONG = 0.3, 3, 1.2
+# After so many turns none begins that would probably make more than so many seconds of all.
+FEWEST, BUDGET = 3, 60.0
+LIMITS = {"shortest": SHORTEST, "runs": RUNS, "long": LONG, "fewest": FEWEST, "budget": BUDGET}
 
 
 @dataclasses.dataclass
@@ -44,6 +47,11 @@ def mean_of(runs: list[T]) -> T:
     return dataclasses.replace(runs[0], start=start, measured=measured)
 
 
+def middle(values: list[float]) -> float:
+    """The mean of values without the least and the greatest; not a number where there is none."""
+    return statistics.fmean(sorted(values)[1:-1] or values or [math.nan])
+
+
 class Turns(Generic[T]):
     """The runs of some measures, the first of which is the base, with which the others are compared. In a turn
     the base and another measure run by turns. A measure that answers with none has no turn."""
@@ -64,11 +72,11 @@ class Turns(Generic[T]):
         return self.clock() - began
 
     def turn(self, name: str) -> None:
-        """Runs the base and another measure, always that which took less time so far, until both took long
-        enough. The base runs first and last."""
+        """Runs the base and another measure, always the one that took less time so far. The base is first and
+        last."""
         base, own = list[T](), list[T]()
         of_base, of_own = self.run(self.base, base), 0.0
-        while min(of_base, of_own) < SHORTEST:
+        while min(of_base, of_own) < SHORTEST or (len(own) < RUNS and of_own < LONG):
             if of_own < of_base:
                 of_own += self.run(name, own)
                 if not own:
@@ -89,21 +97,20 @@ class Turns(Generic[T]):
         self.number += 1
         self.spent += self.clock() - began
 
-    def median(self, name: str, of: Callable[[T], float]) -> float:
-        """The median of a figure over the runs of a measure; not a number where it has none."""
-        return statistics.median([of(own) for own, _ in self.pairs[name]] or [math.nan])
+    def middle(self, name: str, of: Callable[[T], float]) -> float:
+        """The middle of a figure over the turns of a measure; not a number where it has none."""
+        return middle([of(own) for own, _ in self.pairs[name]])
 
     def ratios(self, name: str, of: Callable[[T], float]) -> list[float]:
         """What each run of a measure has of a figure, relative to the base beside it."""
         return [of(own) / of(base) for own, base in self.pairs[name]]
 
     def ratio(self, name: str, of: Callable[[T], float]) -> float:
-        """The median of these ratios; not a number where there is none."""
-        return statistics.median(self.ratios(name, of) or [math.nan])
+        """The middle of these ratios; not a number where there is none."""
+        return middle(self.ratios(name, of))
 
     def spreads(self, of: Callable[[T], float]) -> list[float]:
-        """Half of what lies between the quartiles of these ratios, relative to the median, for each other
-        measure."""
+        """Half the interquartile range of these ratios, relative to the median, for each other measure."""
         all_ratios = [self.ratios(name, of) for name in self.others]
         quartiles = [statistics.quantiles(some, method="inclusive") for some in all_ratios if len(some) > 1]
         return [(high - low) / 2 / middle for low, middle, high in quartiles]

@@ -202,30 +202,32 @@ def test_a_machine_that_slows_down_changes_no_ratio() -> None:
 
 
 def test_a_measure_and_the_base_run_by_turns_until_both_took_long_enough() -> None:
-    assert 0.25 < turns.SHORTEST < 0.3125
+    assert (turns.SHORTEST, turns.RUNS, turns.LONG) == (0.3, 3, 1.2)
     machine = Machine()
     found = machine.take({"base": 0.125, "none": 0.0, "twice": 0.25, "half": 0.0625, "long": 5.0}, 2)
-    order = "base twice base base twice base / base half half base half half base half base / base long base base base"
-    assert machine.runs == ["base", "none", *order.replace("/ ", "").split() * 2]
-    assert [found.median(name, work) for name in found.measures if name != "none"] == [0.125, 0.25, 0.0625, 5.0]
-    assert not found.pairs["none"] and math.isnan(found.ratio("none", work)) and math.isnan(found.median("none", work))
+    twice, half = "base twice base base twice base base twice base", "base half half base half half base half base"
+    order = f"{twice} {half} base long base base base".split()
+    assert machine.runs == ["base", "none", *order * 2]
+    assert [found.middle(name, work) for name in found.measures if name != "none"] == [0.125, 0.25, 0.0625, 5.0]
+    assert not found.pairs["none"] and math.isnan(found.ratio("none", work)) and math.isnan(found.middle("none", work))
 
 
 def test_a_ratio_is_that_of_the_means_of_a_turn() -> None:
     machine = Machine(0.125 + 0.25)
     found = machine.take({"base": 0.125, "twice": 0.25}, 1)
-    # The base takes 0.125, 0.25 and 0.25 seconds, and the other one 0.25 and 0.5.
-    assert machine.runs == "base twice base twice base".split()
-    assert found.ratios("twice", work) == [0.375 / (0.625 / 3)] and found.median("base", work) == 0.625 / 3
+    # The first run of both takes half as long as each other one.
+    assert machine.runs == "base twice base twice base base twice base".split()
+    assert math.isclose(found.ratio("twice", work), 1.25 / 3 / (1.125 / 5))
+    assert math.isclose(found.middle("base", work), 1.125 / 5)
 
 
 def test_a_base_alone_is_measured_as_well() -> None:
     found = Machine().take({"base": 0.125}, 3)
-    assert found.median("base", work) == 0.125 and found.spreads(work) == []
+    assert found.middle("base", work) == 0.125 and found.spreads(work) == []
 
 
 def test_long_runs_have_fewer_turns() -> None:
-    for share, count in (0.5, 3), (0.25, 4), (0.2, 5), (0.03, 7):
+    for share, count in (0.5, 3), (0.25, 4), (0.2, 5), (0.05, 7):
         machine = Machine()
         machine.take({"base": 0.5, "other": share * turns.BUDGET - 1}, 7)
         assert machine.runs.count("other") == count
@@ -235,7 +237,7 @@ def test_what_is_shown_is_in_the_middle_of_the_turns() -> None:
     found = turns.Turns({"base": lambda: turns.Taken(0, 1), "other": lambda: None})
     base = turns.Taken(0.5, 1.0)
     found.pairs["other"] = [(turns.Taken(0.5, 0.5 + ratio / 2), base) for ratio in (9.0, 2.0, 4.0, 3.0, 0.1)]
-    assert found.ratio("other", work) == 3.0 and found.median("other", work) == 1.5
+    assert found.ratio("other", work) == 3.0 and found.middle("other", work) == 1.5
     assert found.spreads(work) == [(4.0 - 2.0) / 2 / 3.0]
 
 
