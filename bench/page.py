@@ -32,7 +32,7 @@ class Sampling:
     @property
     def each(self) -> float:
         """The seconds of a sample, without those of the start."""
-        return self.turns.middle(self.case.name, WORK) / self.samples
+        return self.turns.trimmed_mean(self.case.name, WORK) / self.samples
 
     @property
     def step(self) -> list[str]:
@@ -129,7 +129,7 @@ def time_table(comparisons: list[Comparison]) -> str:
         [
             one.case.name,
             *(shown(one.turns.ratio(method, SECONDS)) for method in CALLED),
-            shown(one.turns.middle("psi", SECONDS)),
+            shown(one.turns.trimmed_mean("psi", SECONDS)),
         ]
         for one in comparisons
     ]
@@ -141,9 +141,9 @@ def walk_table(walks: list[Comparison]) -> str:
     rows = [
         [
             one.case.about,
-            *(shown(one.turns.middle(method, SECONDS)) for method in ("psi", "paths", "chain")),
+            *(shown(one.turns.trimmed_mean(method, SECONDS)) for method in ("psi", "paths", "chain")),
             shown(1 / one.turns.ratio("chain", SECONDS)),
-            *(shown(one.turns.middle(method, STEP)) for method in ("paths", "chain")),
+            *(shown(one.turns.trimmed_mean(method, STEP)) for method in ("paths", "chain")),
             shown(1 / one.turns.ratio("chain", STEP)),
         ]
         for one in walks
@@ -200,7 +200,7 @@ def where_right(comparisons: list[Comparison]) -> str:
 
 def page(found: Measured, rounds: int, batches: int, paths: int, most: int) -> str:
     """The whole page."""
-    start = min(one.turns.middle(one.case.name, START) for one in found.samplings) * 1_000
+    start = min(one.turns.trimmed_mean(one.case.name, START) for one in found.samplings) * 1_000
     rows = [sampling_row(one) for one in found.samplings]
     head = ["network", "steps a sample", "samples a second", "ns a step", "instructions a step", "MB"]
     parts = [

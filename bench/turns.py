@@ -47,8 +47,8 @@ def mean_of(runs: list[T]) -> T:
     return dataclasses.replace(runs[0], start=start, measured=measured)
 
 
-def middle(values: list[float]) -> float:
-    """The mean of values without the least and the greatest; not a number where there is none."""
+def trimmed_mean(values: list[float]) -> float:
+    """The mean of values without the least and the greatest (a trimmed mean); not a number where there is none."""
     return statistics.fmean(sorted(values)[1:-1] or values or [math.nan])
 
 
@@ -97,20 +97,20 @@ class Turns(Generic[T]):
         self.number += 1
         self.spent += self.clock() - began
 
-    def middle(self, name: str, of: Callable[[T], float]) -> float:
-        """The middle of a figure over the turns of a measure; not a number where it has none."""
-        return middle([of(own) for own, _ in self.pairs[name]])
+    def trimmed_mean(self, name: str, of: Callable[[T], float]) -> float:
+        """The trimmed mean of a figure over the turns of a measure; not a number where it has none."""
+        return trimmed_mean([of(own) for own, _ in self.pairs[name]])
 
     def ratios(self, name: str, of: Callable[[T], float]) -> list[float]:
         """What each run of a measure has of a figure, relative to the base beside it."""
         return [of(own) / of(base) for own, base in self.pairs[name]]
 
     def ratio(self, name: str, of: Callable[[T], float]) -> float:
-        """The middle of these ratios; not a number where there is none."""
-        return middle(self.ratios(name, of))
+        """The trimmed mean of these ratios; not a number where there is none."""
+        return trimmed_mean(self.ratios(name, of))
 
     def spreads(self, of: Callable[[T], float]) -> list[float]:
         """Half the interquartile range of these ratios, relative to the median, for each other measure."""
         all_ratios = [self.ratios(name, of) for name in self.others]
         quartiles = [statistics.quantiles(some, method="inclusive") for some in all_ratios if len(some) > 1]
-        return [(high - low) / 2 / middle for low, middle, high in quartiles]
+        return [(high - low) / 2 / median for low, median, high in quartiles]

@@ -182,7 +182,7 @@ class Machine:
         return found
 
     def run(self, name: str, work: float) -> turns.Taken | None:
-        """Runs a program, which has no answer where it takes no time."""
+        """Runs a program, which has no answer where its time is 0."""
         self.runs.append(name)
         early = min(work, max(0.0, self.moment - self.now))
         self.now += (seconds := early + 2 * (work - early))
@@ -208,8 +208,12 @@ def test_a_measure_and_the_base_run_by_turns_until_both_took_long_enough() -> No
     twice, half = "base twice base base twice base base twice base", "base half half base half half base half base"
     order = f"{twice} {half} base long base base base".split()
     assert machine.runs == ["base", "none", *order * 2]
-    assert [found.middle(name, work) for name in found.measures if name != "none"] == [0.125, 0.25, 0.0625, 5.0]
-    assert not found.pairs["none"] and math.isnan(found.ratio("none", work)) and math.isnan(found.middle("none", work))
+    assert [found.trimmed_mean(name, work) for name in found.measures if name != "none"] == [0.125, 0.25, 0.0625, 5.0]
+    assert (
+        not found.pairs["none"]
+        and math.isnan(found.ratio("none", work))
+        and math.isnan(found.trimmed_mean("none", work))
+    )
 
 
 def test_a_ratio_is_that_of_the_means_of_a_turn() -> None:
@@ -218,12 +222,12 @@ def test_a_ratio_is_that_of_the_means_of_a_turn() -> None:
     # The first run of both takes half as long as each other one.
     assert machine.runs == "base twice base twice base base twice base".split()
     assert math.isclose(found.ratio("twice", work), 1.25 / 3 / (1.125 / 5))
-    assert math.isclose(found.middle("base", work), 1.125 / 5)
+    assert math.isclose(found.trimmed_mean("base", work), 1.125 / 5)
 
 
 def test_a_base_alone_is_measured_as_well() -> None:
     found = Machine().take({"base": 0.125}, 3)
-    assert found.middle("base", work) == 0.125 and found.spreads(work) == []
+    assert found.trimmed_mean("base", work) == 0.125 and found.spreads(work) == []
 
 
 def test_long_runs_have_fewer_turns() -> None:
@@ -233,11 +237,11 @@ def test_long_runs_have_fewer_turns() -> None:
         assert machine.runs.count("other") == count
 
 
-def test_what_is_shown_is_in_the_middle_of_the_turns() -> None:
+def test_what_is_shown_is_the_trimmed_mean_of_the_turns() -> None:
     found = turns.Turns({"base": lambda: turns.Taken(0, 1), "other": lambda: None})
     base = turns.Taken(0.5, 1.0)
     found.pairs["other"] = [(turns.Taken(0.5, 0.5 + ratio / 2), base) for ratio in (9.0, 2.0, 4.0, 3.0, 0.1)]
-    assert found.ratio("other", work) == 3.0 and found.middle("other", work) == 1.5
+    assert found.ratio("other", work) == 3.0 and found.trimmed_mean("other", work) == 1.5
     assert found.spreads(work) == [(4.0 - 2.0) / 2 / 3.0]
 
 
