@@ -39,22 +39,20 @@ pub first_answer-tells : {A : Type 0} (run : ℕ → Option A) (limit : ℕ) →
 unfolding first_answer
 first_answer-tells run limit = first_from-tells run limit 0 1 limit (omega arith) refl (record { each = λ k small. absurd (omega arith) })
 
-found-only : {A : Type 0} (run : ℕ → Option A) (limit t : ℕ) (a : A) (found : Option (ℕ × A)) → IsFirst run limit t a → TellsFirst run limit found
-    → found ≡ Some (t, a)
-found-only run limit t a None is tells = search rules
-found-only run limit t a (Some found) is tells = search rules
-
-none-only : {A : Type 0} (run : ℕ → Option A) (limit : ℕ) (found : Option (ℕ × A)) → HasNone run (suc limit) → TellsFirst run limit found → found ≡ None
-none-only run limit None none tells = refl
-none-only run limit (Some found) none tells = search rules
+-- what is told of a first answer is told of one alone
+tells-only : {A : Type 0} (run : ℕ → Option A) (limit : ℕ) (found other : Option (ℕ × A)) → TellsFirst run limit found → TellsFirst run limit other → found ≡ other
+tells-only run limit None None tells other = refl
+tells-only run limit None (Some y) tells other = search rules
+tells-only run limit (Some x) None tells other = search rules
+tells-only run limit (Some x) (Some y) tells other = search rules
 
 -- the least one is the first answer
 pub first_answer-found : {A : Type 0} (run : ℕ → Option A) (limit t : ℕ) (a : A) → IsFirst run limit t a → first_answer run limit ≡ Some (t, a)
-first_answer-found run limit t a is = found-only run limit t a (first_answer run limit) is (first_answer-tells run limit)
+first_answer-found run limit t a is = tells-only run limit (first_answer run limit) (Some (t, a)) (first_answer-tells run limit) is
 
 -- where no power of two has an answer, there is no first
 pub first_answer-none : {A : Type 0} (run : ℕ → Option A) (limit : ℕ) → HasNone run (suc limit) → first_answer run limit ≡ None
-first_answer-none run limit none = none-only run limit (first_answer run limit) none (first_answer-tells run limit)
+first_answer-none run limit none = tells-only run limit (first_answer run limit) None (first_answer-tells run limit) none
 
 -- a shift of 1 within the greatest limit is a power of two
 pub shift-power : (exponent : ℕ) → exponent ≤ 22 → 1 * 2 ^ exponent % 4294967296 ≡ 2 ^ exponent
