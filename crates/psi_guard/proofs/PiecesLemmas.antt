@@ -3,6 +3,7 @@ use Rattle.std.specs.Prelude.{◌≡◌, ◌≢◌, ℕ, zero, suc, ◌+◌, ◌
 use Rattle.std.proofs.Common.{inl, inr, ap, sym, ◌∙◌, arith, rules}
 use Rattle.std.proofs.lemmas.Bool.Decides.{nat_tests}
 use Rattle.std.proofs.lemmas.Bool.{both_ways, true_from_ne_false, false_from_ne_true, cases_lt, cases_eq, cases_Bool, lt-ltb, le-ltb, le-leb, lt-leb, eq-eqb, ne_eqb, and_parts, and_cases}
+use borrow.Author.Differences.{up as ups, down as downs}
 use Rattle.psi_state.specs.State.{AreCapacities, IsBelow}
 use Rattle.psi_event.specs.declared.sides.Side.{Side}
 use Rattle.psi_event.specs.declared.sides.Side.TheVariants.{Any, AtLeast, Below}
@@ -15,7 +16,7 @@ use Rattle.psi_guard.specs.Guarding.{shifted, moved, guarded, part_of}
 use Rattle.psi_guard.specs.Refusals.{AreGuards}
 use Rattle.psi_guard.specs.Rule.{rule, FitsGuard, AllowsAll, RefusesSome}
 use Rattle.psi_guard.specs.Inner.RuleLaws.{fits_guard, makes}
-use Rattle.psi_guard.specs.Pieces.{ups, downs, is_exact, is_clipped, guard_side, guard_bound, clip_side, clip_bound, exact_at, clipped_at, SaysOf, exact, AreTold, Tell}
+use Rattle.psi_guard.specs.Pieces.{is_exact, is_clipped, guard_side, guard_bound, clip_side, clip_bound, exact_at, clipped_at, SaysOf, exact, AreTold, Tell}
 
 -- ---- a piece applies where each number is on its side
 

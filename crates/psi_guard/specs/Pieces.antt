@@ -1,6 +1,7 @@
 -- The pieces of a guarded event, queue by queue: the parts that are exact change their queues in the first piece, and one that is
 -- clipped changes its queue in the second.
-use Rattle.std.specs.Prelude.{◌≡◌, ℕ, suc, ◌+◌, ◌<◌, ℤ, pos, negsuc, ◌⊎◌, Bool, true, false, ◌&&◌, ◌||◌, nat_eq, nat_lt, nat_le, if◌then◌else◌, List, length, slice_index, slice_index_or, slice_set}
+use Rattle.std.specs.Prelude.{◌≡◌, ℕ, ◌+◌, ◌<◌, ◌⊎◌, Bool, true, false, ◌&&◌, ◌||◌, nat_eq, nat_lt, nat_le, if◌then◌else◌, List, length, slice_index, slice_index_or, slice_set}
+use borrow.Author.Differences.{up as ups, down as downs}
 use Rattle.psi_event.specs.declared.sides.Side.{Side}
 use Rattle.psi_event.specs.declared.sides.Side.TheVariants.{Any, AtLeast, Below}
 use Rattle.psi_event.specs.declared.piecewise.Piece.{Piece}
@@ -9,15 +10,6 @@ use Rattle.psi_guard.specs.declared.parts.Part.{Part}
 use Rattle.psi_guard.specs.declared.pieces.PieceAt.{PieceAt}
 use Rattle.psi_guard.specs.declared.pieces.PiecesAt.{PiecesAt}
 use Rattle.psi_guard.specs.Guarding.{part_of}
-
--- how many customers a shift brings to a queue, and how many it takes from it
-abbrev pub ups : ℤ → ℕ
-ups (pos n) = n
-ups (negsuc n) = 0
-
-abbrev pub downs : ℤ → ℕ
-downs (pos n) = 0
-downs (negsuc n) = suc n
 
 -- a part of a queue of this capacity
 module _ (cap : ℕ) (part : Part) where

@@ -1,8 +1,9 @@
 //! The pieces of a guarded event.
 
 ghost use Rattle.std.specs.Prelude.{◌≡◌, ◌<◌, ◌≤◌, IfSome, MatchBool, length, unsigned_abs};
+ghost use borrow.Author.Differences.{up as ups, down as downs};
 ghost use Rattle.psi_event.specs.Piecewise.{Does};
-ghost use Rattle.psi_guard.specs.Pieces.{AreTold, Tell, clipped_at, downs, exact_at, is_clipped, is_exact, piece_with, pieces_at, ups};
+ghost use Rattle.psi_guard.specs.Pieces.{AreTold, Tell, clipped_at, exact_at, is_clipped, is_exact, piece_with, pieces_at};
 
 use crate::guarded::Guarded;
 use crate::parts::Part;
