@@ -148,11 +148,18 @@ fn letters(alloc: Global, count: u32) -> Result<Vec<u8>, AllocError> {
     Ok(text)
 }
 
+// Writes letters into the file of this name, and returns them.
+fn write_letters(rt: &HostRuntime, name: &str, count: u32) -> Result<Vec<u8>, Fail> {
+    let text = letters(rt.alloc(), count)?;
+    fs::write(rt, name, text.as_slice())?;
+    Ok(text)
+}
+
 // A read that may take so many bytes gives the front of the text that is in the file.
-fn gives_front(rt: &HostRuntime, alloc: Global, name: &str, most: u32, text: &[u8]) -> bool
+fn gives_front(rt: &HostRuntime, name: &str, most: u32, text: &[u8]) -> bool
     requires { most ≤ 2 ^ 30 }
 {
-    let read = DiskShelf::new(rt).read(alloc, name, most);
+    let read = DiskShelf::new(rt).read(rt.alloc(), name, most);
     read.is_ok_and(|read| {
         read.len() == text.len().min(most as usize + 1) && text.starts_with(read.as_slice())
     })
@@ -162,16 +169,14 @@ fn gives_front(rt: &HostRuntime, alloc: Global, name: &str, most: u32, text: &[u
 /// under a name with spaces at its ends.
 #[test]
 fn a_shelf_over_files_gives_their_bytes_up_to_a_bound(rt: HostRuntime) -> Result<(), Fail> {
-    let alloc = rt.alloc();
     let name = " psi_io_letters.txt ";
-    let text = letters(alloc, 17_000_000)?;
+    let text = write_letters(&rt, name, 17_000_000)?;
     let text = text.as_slice();
-    fs::write(&rt, name, text)?;
-    assert!(rt; gives_front(&rt, alloc, name, 0, text));
-    assert!(rt; gives_front(&rt, alloc, name, 8_191, text));
-    assert!(rt; gives_front(&rt, alloc, name, 8_192, text));
-    assert!(rt; gives_front(&rt, alloc, name, 1_048_576, text));
-    assert!(rt; gives_front(&rt, alloc, name, 1_073_741_824, text));
+    assert!(rt; gives_front(&rt, name, 0, text));
+    assert!(rt; gives_front(&rt, name, 8_191, text));
+    assert!(rt; gives_front(&rt, name, 8_192, text));
+    assert!(rt; gives_front(&rt, name, 1_048_576, text));
+    assert!(rt; gives_front(&rt, name, 1_073_741_824, text));
     fs::remove_file(&rt, name)?;
     Ok(())
 }
@@ -182,9 +187,8 @@ fn a_shelf_over_files_gives_their_bytes_up_to_a_bound(rt: HostRuntime) -> Result
 fn a_file_is_handed_on_in_pieces(rt: HostRuntime) -> Result<(), Fail> {
     let alloc = rt.alloc();
     let name = "psi_io_pieces.txt";
-    let text = letters(alloc, 20_000)?;
+    let text = write_letters(&rt, name, 20_000)?;
     let text = text.as_slice();
-    fs::write(&rt, name, text)?;
     let mut disk = DiskShelf::new(&rt);
     let mut pieces = Pieces::new(alloc, 3);
     assert_eq!(rt; disk.feed(name, 1_048_576, &mut pieces), Ok(()));
