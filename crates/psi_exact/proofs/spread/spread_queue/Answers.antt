@@ -1,11 +1,11 @@
 -- Answers in the proof of `spread_queue`.
 use Rattle.std.proofs.Common.{◌≡◌, ◌+◌, ℕ, suc, List, length, slice_index, drop, inl, inr, refl, ap, ◌∙◌, subst, arith}
-use Rattle.psi_state.specs.State.{Corners, box, all_states}
+use Rattle.psi_state.specs.State.{all_states}
 use Rattle.psi_exact.specs.Alike.{AreFilled}
 use Rattle.psi_exact.proofs.DigitsLemmas.{cut}
 use Rattle.psi_exact.proofs.WalkLemmas.{In-whole, rank-whole}
 use Rattle.psi_exact.proofs.VisitsLemmas.{visits-begin, visits-first, visits-next, visits-end}
-use Rattle.psi_exact.proofs.SpreadLemmas.{HasRight, front-below, front-none, stride-some, block-fits, filled-within, cut-below, IsSpreading, spread-right}
+use Rattle.psi_exact.proofs.SpreadLemmas.{front-below, front-none, stride-some, block-fits, filled-within, cut-below, IsSpreading, spread-right}
 use Rattle.psi_exact.proofs.spread.spread_queue.Goals as goal
 
 pub returns-then-get-gt0 : goal.returns-then-get-gt0
@@ -15,9 +15,7 @@ returns-then-get-gt0 g c =
 
 pub loop-state-init : goal.loop-state-init
 loop-state-init g c = record {
-  visited = visits-begin c.args.front.now (λ (y : List ℕ). HasRight (g.E.EventLaw.capacities c.args.e.now) (g.E.EventLaw.function c.args.e.now) c.args.span.now c.args.place c.args.ranks.now y)
-      c.into_iter-state-iterator.result
-      (c.into_iter-state-iterator.ensures.into_iter_gives ∙ (c.states-state-items.ensures.states ∙ ap (λ (b : Corners). box b.lo b.hi) c.whole.ensures));
+  visited = visits-begin _ _ _ _ _ c.into_iter-state-iterator.ensures.into_iter_gives c.states-state-items.ensures.states c.whole.ensures;
   filled = c.requires.filled;
 }
 
@@ -25,16 +23,14 @@ pub rank-requires-clause-member : goal.rank-requires-clause-member
 rank-requires-clause-member g c =
     In-whole (g.E.EventLaw.capacities c.args.e.now) c.caps-caps.result c.in-Some.state c.whole-bounds.result c.whole-bounds.ensures c.caps-caps.ensures.value
     (front-below (g.E.EventLaw.capacities c.args.e.now) (g.E.EventLaw.function c.args.e.now) c.args.span.now c.args.front.now c.in-Some.state c.args.place c.requires.span c.requires.front
-    (visits-first c.args.front.now (λ (y : List ℕ). HasRight (g.E.EventLaw.capacities c.args.e.now) (g.E.EventLaw.function c.args.e.now) c.args.span.now c.args.place c.loop-state.ranks y)
-    c.in-Some.state c.loop-state.state-iterator c.next.new.self c.loop-state.invariant.visited c.in-Some.ensures.steps))
+    (visits-first _ _ _ _ _ c.loop-state.invariant.visited c.in-Some.ensures.steps))
 
 pub spread_block-requires : goal.spread_block-requires
 spread_block-requires g c =
     let caps = g.E.EventLaw.capacities c.args.e.now in
     let f = g.E.EventLaw.function c.args.e.now in
     let y = c.in-Some.state in
-    let first = visits-first c.args.front.now (λ (z : List ℕ). HasRight caps f c.args.span.now c.args.place c.loop-state.ranks z) y c.loop-state.state-iterator c.next.new.self
-    c.loop-state.invariant.visited c.in-Some.ensures.steps in
+    let first = visits-first _ _ _ _ _ c.loop-state.invariant.visited c.in-Some.ensures.steps in
     let within = front-below caps f c.args.span.now c.args.front.now y c.args.place c.requires.span c.requires.front first in
     let at = (rank-whole caps c.caps-caps.result y c.whole-bounds.result c.rank.result c.whole-bounds.ensures c.caps-caps.ensures.value c.rank.ensures.place).rank in
     let next : c.args.place + 1 ≡ suc c.args.place = omega arith in
@@ -63,8 +59,7 @@ loop-state-preserved g c =
     let old = c.loop-state.ranks in
     let new = c.spread_block.new.ranks in
     let y = c.in-Some.state in
-    let first = visits-first c.args.front.now (λ (z : List ℕ). HasRight caps f span q old z) y c.loop-state.state-iterator c.next.new.self
-    c.loop-state.invariant.visited c.in-Some.ensures.steps in
+    let first = visits-first _ _ _ _ _ c.loop-state.invariant.visited c.in-Some.ensures.steps in
     let within = front-below caps f span c.args.front.now y q c.requires.span c.requires.front first in
     let at = (rank-whole caps c.caps-caps.result y c.whole-bounds.result c.rank.result c.whole-bounds.ensures c.caps-caps.ensures.value c.rank.ensures.place).rank in
     let next : q + 1 ≡ suc q = omega arith in
@@ -87,8 +82,7 @@ loop-state-preserved g c =
       filled = subst (λ n. AreFilled caps f span n old) next c.loop-state.invariant.filled;
     } in
     record {
-      visited = visits-next c.args.front.now (λ (z : List ℕ). HasRight caps f span q old z) (λ (z : List ℕ). HasRight caps f span q new z)
-          y c.loop-state.state-iterator c.next.new.self c.loop-state.invariant.visited c.in-Some.ensures.steps
+      visited = visits-next _ _ _ _ _ _ c.loop-state.invariant.visited c.in-Some.ensures.steps
           (λ x below base is. spread-right caps f span q c.rank.result c.args.stride (c.get-2.result + 1) y old new x spreading below base (inl is))
           (λ z inside right. λ x below base is. spread-right caps f span q c.rank.result c.args.stride (c.get-2.result + 1) y old new x spreading below base (inr (right x below base is)));
       filled = record {
@@ -104,7 +98,6 @@ returns g c =
     let f = g.E.EventLaw.function c.args.e.now in
     record {
       each = λ x within base.
-          visits-end c.args.front.now (λ (z : List ℕ). HasRight caps f c.args.span.now c.args.place c.loop-state.ranks z) c.loop-state.state-iterator
-          c.loop-state.invariant.visited c.in-None.ensures.steps.0 (cut c.args.place x)
+          visits-end _ _ _ c.loop-state.invariant.visited c.in-None.ensures.steps.0 (cut c.args.place x)
           (cut-below caps f c.args.span.now c.args.front.now x c.args.place c.requires.span c.requires.front within base) x within base refl;
     }

@@ -1,8 +1,6 @@
 -- Answers in the proof of `write_bases`.
-use Rattle.std.proofs.Common.{◌≡◌, ◌<◌, ℕ, List, length, slice_set, inl, inr, refl, ap, ◌∙◌, arith}
-use Rattle.psi_state.specs.State.{Corners, box}
+use Rattle.std.proofs.Common.{◌≡◌, ◌<◌, ℕ, List, length, inl, inr, refl, ap, ◌∙◌, arith}
 use Rattle.psi_exact.specs.Ranks.{rank_of}
-use Rattle.psi_exact.specs.Alike.{IsRight}
 use Rattle.psi_exact.proofs.WalkLemmas.{In-whole, rank-whole}
 use Rattle.psi_exact.proofs.VisitsLemmas.{visits-begin, visits-first, visits-next, visits-end}
 use Rattle.psi_exact.proofs.AlikeLemmas.{below-span}
@@ -11,16 +9,13 @@ use Rattle.psi_exact.proofs.spread.write_bases.Goals as goal
 
 pub loop-state-init : goal.loop-state-init
 loop-state-init g c = record {
-  visited = visits-begin c.args.span.now (λ (x : List ℕ). IsRight (g.E.EventLaw.capacities c.args.e.now) (g.E.EventLaw.function c.args.e.now) c.args.ranks.now x)
-      c.into_iter-state-iterator.result
-      (c.into_iter-state-iterator.ensures.into_iter_gives ∙ (c.states-state-items.ensures.states ∙ ap (λ (b : Corners). box b.lo b.hi) c.whole.ensures));
+  visited = visits-begin _ _ _ _ _ c.into_iter-state-iterator.ensures.into_iter_gives c.states-state-items.ensures.states c.whole.ensures;
 }
 
 pub apply-requires : goal.apply-requires
 apply-requires g c =
     below-span (g.E.EventLaw.capacities c.args.e.now) (g.E.EventLaw.function c.args.e.now) c.args.span.now c.in-Some.state c.requires.span
-    (visits-first c.args.span.now (λ (x : List ℕ). IsRight (g.E.EventLaw.capacities c.args.e.now) (g.E.EventLaw.function c.args.e.now) c.loop-state.ranks x)
-    c.in-Some.state c.loop-state.state-iterator c.next.new.self c.loop-state.invariant.visited c.in-Some.ensures.steps)
+    (visits-first _ _ _ _ _ c.loop-state.invariant.visited c.in-Some.ensures.steps)
 
 pub rank-requires-clause-member : goal.rank-requires-clause-member
 rank-requires-clause-member g c =
@@ -30,8 +25,7 @@ pub rank-requires-in-loop-state-clause-member : goal.rank-requires-in-loop-state
 rank-requires-in-loop-state-clause-member g c =
     In-whole (g.E.EventLaw.capacities c.args.e.now) c.caps.result c.in-Some.state c.whole-bounds.result c.whole-bounds.ensures c.caps.ensures.value
     (below-span (g.E.EventLaw.capacities c.args.e.now) (g.E.EventLaw.function c.args.e.now) c.args.span.now c.in-Some.state c.requires.span
-    (visits-first c.args.span.now (λ (x : List ℕ). IsRight (g.E.EventLaw.capacities c.args.e.now) (g.E.EventLaw.function c.args.e.now) c.loop-state.ranks x)
-    c.in-Some.state c.loop-state.state-iterator c.next.new.self c.loop-state.invariant.visited c.in-Some.ensures.steps))
+    (visits-first _ _ _ _ _ c.loop-state.invariant.visited c.in-Some.ensures.steps))
 
 pub loop-state-preserved : goal.loop-state-preserved
 loop-state-preserved g c =
@@ -41,15 +35,14 @@ loop-state-preserved g c =
     let y = c.in-Some.state in
     let place = c.rank-in-loop-state.result in
     let rank = c.rank.result in
-    let first = visits-first span (λ (x : List ℕ). IsRight caps f c.loop-state.ranks x) y c.loop-state.state-iterator c.next.new.self c.loop-state.invariant.visited c.in-Some.ensures.steps in
+    let first = visits-first _ _ _ _ _ c.loop-state.invariant.visited c.in-Some.ensures.steps in
     let within = below-span caps f span y c.requires.span first in
     let own = rank-whole caps c.caps.result y c.whole-bounds.result place c.whole-bounds.ensures c.caps.ensures.value c.rank-in-loop-state.ensures.place in
     let image = rank-whole caps c.caps.result c.apply.new.x c.whole-bounds.result rank c.whole-bounds.ensures c.caps.ensures.value c.rank.ensures.place in
     let value : rank ≡ rank_of caps (f y) = image.rank ∙ ap (λ (z : List ℕ). rank_of caps z) c.apply.ensures.value in
     let fits : place < length c.loop-state.ranks = (let small = own.small in let room = c.requires.room in let count = c.loop-state.auto.ranks in omega arith) in
     record {
-      visited = visits-next span (λ (x : List ℕ). IsRight caps f c.loop-state.ranks x) (λ (x : List ℕ). IsRight caps f (slice_set c.loop-state.ranks place rank) x)
-          y c.loop-state.state-iterator c.next.new.self c.loop-state.invariant.visited c.in-Some.ensures.steps
+      visited = visits-next _ _ _ _ _ _ c.loop-state.invariant.visited c.in-Some.ensures.steps
           (right-set caps f c.loop-state.ranks y y place rank within within own.rank value fits (inl refl))
           (λ x below right. right-set caps f c.loop-state.ranks x y place rank (below-span caps f span x c.requires.span below) within own.rank value fits (inr right));
     }
@@ -57,8 +50,7 @@ loop-state-preserved g c =
 pub returns : goal.returns
 returns g c = record {
   each = λ x within base.
-      visits-end c.args.span.now (λ (y : List ℕ). IsRight (g.E.EventLaw.capacities c.args.e.now) (g.E.EventLaw.function c.args.e.now) c.loop-state.ranks y)
-      c.loop-state.state-iterator c.loop-state.invariant.visited c.in-None.ensures.steps.0 x
+      visits-end _ _ _ c.loop-state.invariant.visited c.in-None.ensures.steps.0 x
       (base-below (g.E.EventLaw.capacities c.args.e.now) (g.E.EventLaw.function c.args.e.now) c.args.span.now x (length c.args.span.now) c.requires.span within
       (let same = c.requires.span.same_length in omega arith) base);
 }
