@@ -39,20 +39,24 @@ pub first_answer-tells : {A : Type 0} (run : ℕ → Option A) (limit : ℕ) →
 unfolding first_answer
 first_answer-tells run limit = first_from-tells run limit 0 1 limit (omega arith) refl (record { each = λ k small. absurd (omega arith) })
 
--- what is told of a first answer is told of one alone
-tells-only : {A : Type 0} (run : ℕ → Option A) (limit : ℕ) (found other : Option (ℕ × A)) → TellsFirst run limit found → TellsFirst run limit other → found ≡ other
-tells-only run limit None None tells other = refl
-tells-only run limit None (Some y) tells other = search rules
-tells-only run limit (Some x) None tells other = search rules
-tells-only run limit (Some x) (Some y) tells other = search rules
+-- options of which the same is told are one, where it isn't told of none and of a value, and of two values only where they are one
+pub told-only : {B : Type 0} (Told : Option B → Type 0) → ((x : B) → Told None → Told (Some x) → ⊥) → ((x y : B) → Told (Some x) → Told (Some y) → x ≡ y)
+    → (found other : Option B) → Told found → Told other → found ≡ other
+told-only Told apart same None None tells also = refl
+told-only Told apart same None (Some y) tells also = absurd (apart y tells also)
+told-only Told apart same (Some x) None tells also = absurd (apart x also tells)
+told-only Told apart same (Some x) (Some y) tells also = ap Some (same x y tells also)
+
+tells_first-only : {A : Type 0} (run : ℕ → Option A) (limit : ℕ) (found other : Option (ℕ × A)) → TellsFirst run limit found → TellsFirst run limit other → found ≡ other
+tells_first-only run limit = told-only (TellsFirst run limit) (λ x none is. search rules) (λ x y is also. search rules)
 
 -- the least one is the first answer
 pub first_answer-found : {A : Type 0} (run : ℕ → Option A) (limit t : ℕ) (a : A) → IsFirst run limit t a → first_answer run limit ≡ Some (t, a)
-first_answer-found run limit t a is = tells-only run limit (first_answer run limit) (Some (t, a)) (first_answer-tells run limit) is
+first_answer-found run limit t a is = tells_first-only run limit (first_answer run limit) (Some (t, a)) (first_answer-tells run limit) is
 
 -- where no power of two has an answer, there is no first
 pub first_answer-none : {A : Type 0} (run : ℕ → Option A) (limit : ℕ) → HasNone run (suc limit) → first_answer run limit ≡ None
-first_answer-none run limit none = tells-only run limit (first_answer run limit) None (first_answer-tells run limit) none
+first_answer-none run limit none = tells_first-only run limit (first_answer run limit) None (first_answer-tells run limit) none
 
 -- a shift of 1 within the greatest limit is a power of two
 pub shift-power : (exponent : ℕ) → exponent ≤ 22 → 1 * 2 ^ exponent % 4294967296 ≡ 2 ^ exponent

@@ -2,6 +2,7 @@
 use Rattle.std.specs.Prelude.{◌≡◌, ℕ, zero, suc, ◌+◌, ◌≤◌, Option, Some, None, refl}
 use Rattle.std.proofs.Common.{rules, sym, ◌∙◌, arith}
 use Rattle.psi_rate.specs.Doubling.{answer_or}
+use Rattle.psi_rate.proofs.DoublingLemmas.{told-only}
 use Rattle.psi_rate.specs.Least.{least_from, least_answer, HasNoneBelow, IsLeast, TellsLeast}
 
 pub has_none_below-next : {A : Type 0} (run : ℕ → Option A) (t : ℕ) → run t ≡ None → HasNoneBelow run t → HasNoneBelow run (suc t)
@@ -28,20 +29,16 @@ pub least_answer-tells : {A : Type 0} (run : ℕ → Option A) (most : ℕ) → 
 unfolding least_answer
 least_answer-tells run most = least_from-tells run most 1 most (omega arith) (omega arith) (has_none_below-one run)
 
--- what is told of a least answer is told of one alone
-tells-only : {A : Type 0} (run : ℕ → Option A) (most : ℕ) (found other : Option (ℕ × A)) → TellsLeast run most found → TellsLeast run most other → found ≡ other
-tells-only run most None None tells other = refl
-tells-only run most None (Some y) tells other = search rules
-tells-only run most (Some x) None tells other = search rules
-tells-only run most (Some x) (Some y) tells other = search rules
+tells_least-only : {A : Type 0} (run : ℕ → Option A) (most : ℕ) (found other : Option (ℕ × A)) → TellsLeast run most found → TellsLeast run most other → found ≡ other
+tells_least-only run most = told-only (TellsLeast run most) (λ x none is. search rules) (λ x y is also. search rules)
 
 -- the answer at the least horizon is the least answer
 pub least_answer-found : {A : Type 0} (run : ℕ → Option A) (most t : ℕ) (a : A) → IsLeast run most t a → least_answer run most ≡ Some (t, a)
-least_answer-found run most t a is = tells-only run most (least_answer run most) (Some (t, a)) (least_answer-tells run most) is
+least_answer-found run most t a is = tells_least-only run most (least_answer run most) (Some (t, a)) (least_answer-tells run most) is
 
 -- where no horizon has an answer, there is no least one
 pub least_answer-none : {A : Type 0} (run : ℕ → Option A) (most : ℕ) → HasNoneBelow run (suc most) → least_answer run most ≡ None
-least_answer-none run most none = tells-only run most (least_answer run most) None (least_answer-tells run most) none
+least_answer-none run most none = tells_least-only run most (least_answer run most) None (least_answer-tells run most) none
 
 -- runs that agree from horizon 1 on have the same least horizon
 pub has_none_below-agree : {A : Type 0} (run other : ℕ → Option A) (t : ℕ) → ((k : ℕ) → 1 ≤ k → run k ≡ other k) → HasNoneBelow run t → HasNoneBelow other t
