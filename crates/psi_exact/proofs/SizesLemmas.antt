@@ -1,21 +1,11 @@
 -- The sizes of images, one after another.
-use Rattle.std.specs.Prelude.{◌≡◌, ℕ, zero, suc, ◌+◌, ◌-◌, ◌^◌, ◌<◌, List, [], ◌∷◌, ◌++◌, length, drop, replicate, slice_set, refl}
-use Rattle.std.proofs.Common.{ap, sym, ◌∙◌, arith}
-use Rattle.std.proofs.lemmas.List.{drop-set-lt, drop-drop, drop-replicate, map-append, length-map}
+use Rattle.std.specs.Prelude.{◌≡◌, ℕ, zero, suc, ◌+◌, ◌^◌, List, [], ◌∷◌, ◌++◌, length, refl}
+use Rattle.std.proofs.Common.{ap, ◌∙◌, arith}
+use Rattle.std.proofs.lemmas.List.{map-append, length-map}
 use Rattle.std.proofs.lemmas.Grind.{common_steps}
 use Rattle.psi_state.specs.State.{numbers_from}
 use Rattle.psi_rate.specs.Composition.{image_at}
 use Rattle.psi_exact.specs.Sizes.{sizes_before}
-
--- one place more is taken, and zeros are left after it
-pub drop-push : (xs : List ℕ) (n v : ℕ) → n < 13 → drop n xs ≡ replicate (13 - n) 0 → drop (n + 1) (slice_set xs n v) ≡ replicate (13 - (n + 1)) 0
-drop-push xs n v small rest =
-    let away : drop (n + 1) (slice_set xs n v) ≡ drop (n + 1) xs = drop-set-lt (n + 1) xs n v (omega arith) in
-    let left : 13 - n - 1 ≡ 13 - (n + 1) = omega arith in
-    away ∙ (sym (drop-drop 1 n xs)
-    ∙ (ap (λ (ys : List ℕ). drop 1 ys) rest
-    ∙ (drop-replicate 1 (13 - n) 0
-    ∙ ap (λ k. replicate k 0) left)))
 
 numbers_from-more : (first n : ℕ) → numbers_from first (suc n) ≡ numbers_from first n ++ (first + n) ∷ []
 numbers_from-more first zero = (let e : first ≡ first + 0 = omega arith in ap (λ k. k ∷ []) e)

@@ -1,5 +1,4 @@
 -- The lemmas of this crate.
-pub mod ArraysLemmas
 pub mod OrderLemmas
 pub mod PairsLemmas
 pub mod HullsLemmas

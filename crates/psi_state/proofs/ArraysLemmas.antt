@@ -2,7 +2,7 @@
 use Rattle.std.specs.Prelude.{◌≡◌, ℕ, zero, suc, ◌+◌, ◌-◌, ◌*◌, ◌<◌, ◌≤◌, List, length, replicate, take, drop, slice_index, slice_set, refl}
 use Rattle.std.proofs.Common.{inl, inr, ap, ◌∙◌, sym, arith}
 use Rattle.std.proofs.lemmas.Bool.{cases_lt}
-use Rattle.std.proofs.lemmas.List.{drop-set-lt, drop-drop, drop-replicate, get_or-drop, get_or-take, get_or_past, length-take-le}
+use Rattle.std.proofs.lemmas.List.{drop-set-lt, drop-drop, drop-replicate, get_or-drop, get_or-take, get_or_past, length-set, length-take-le}
 use Rattle.psi_state.specs.Hashing.{quad}
 use Rattle.psi_state.proofs.BoxesLemmas.{set-each}
 
@@ -12,15 +12,21 @@ slice_index-zeros zero i = refl
 slice_index-zeros (suc n) zero = refl
 slice_index-zeros (suc n) (suc i) = slice_index-zeros n i
 
--- one place more is taken, and zeros are left after it
-pub drop-push : (xs : List ℕ) (n v : ℕ) → n < 32 → drop n xs ≡ replicate (32 - n) 0 → drop (n + 1) (slice_set xs n v) ≡ replicate (32 - (n + 1)) 0
-drop-push xs n v small rest =
-    let away : drop (n + 1) (slice_set xs n v) ≡ drop (n + 1) xs = drop-set-lt (n + 1) xs n v (omega arith) in
-    let left : 32 - n - 1 ≡ 32 - (n + 1) = omega arith in
-    away ∙ (sym (drop-drop 1 n xs)
-    ∙ (ap (λ (ys : List ℕ). drop 1 ys) rest
-    ∙ (drop-replicate 1 (32 - n) 0
-    ∙ ap (λ k. replicate k 0) left)))
+-- one place more of a fixed array is taken, and the filler stands after it
+pub array-pushed : {A : Type 0} (most : ℕ) (xs : List A) (n : ℕ) (shown : List A) (v filler : A) → n ≤ most → length xs ≡ most
+    → drop n xs ≡ replicate (most - n) filler → take n xs ≡ shown → length shown < most
+    → (n + 1 ≤ most) × (length (slice_set xs n v) ≡ most) × (drop (n + 1) (slice_set xs n v) ≡ replicate (most - (n + 1)) filler)
+array-pushed {A} most xs n shown v filler few full rest is fits =
+    let count : length shown ≡ n = ap (length {A = A}) (sym is) ∙ length-take-le n xs (omega arith) in
+    let left : most - n - 1 ≡ most - (n + 1) = omega arith in (
+      omega arith,
+      length-set xs n v ∙ full,
+      drop-set-lt (n + 1) xs n v (omega arith)
+          ∙ (sym (drop-drop 1 n xs)
+          ∙ (ap (λ (ys : List A). drop 1 ys) rest
+          ∙ (drop-replicate 1 (most - n) filler
+          ∙ ap (λ k. replicate k filler) left))),
+    )
 
 -- a number that fits is put among numbers that fit
 pub slice_set-small : (xs : List ℕ) (n v bound : ℕ) → n < length xs → v < bound → ((i : ℕ) → slice_index xs i < bound)
