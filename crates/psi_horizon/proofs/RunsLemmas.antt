@@ -13,7 +13,7 @@ use Rattle.psi_state.specs.Sets.{image, single}
 use Rattle.psi_state.proofs.SetsLemmas.{single-each, single-apart}
 use Rattle.psi_state.proofs.StatesLemmas.{In-zeros, same-from_eq, apart-from_eq}
 use Rattle.psi_state.specs.Ascending.{IsRising}
-use Rattle.psi_state.proofs.AscendingLemmas.{image-rising, image-image, image-agree, image-identity}
+use Rattle.psi_state.proofs.AscendingLemmas.{image-rising, image-image, image-agree, image-identity, rising-same_each}
 use Rattle.psi_rate.specs.Composition.{compose, image_at, AreClosed, AreMonotone, IsReached}
 use Rattle.psi_rate.specs.Doubling.{IsLasting}
 use Rattle.psi_rate.specs.Outcomes.{meeting_at, IsOutcome, ReachesOutcome}
@@ -22,7 +22,7 @@ use Rattle.psi_rate.proofs.DoublingLemmas.{lasting-none}
 use Rattle.psi_rate.proofs.OutcomesLemmas.{outcome-agree}
 use Rattle.psi_region.specs.Region.{Area, start, step, IsArea, IsWithin}
 use Rattle.psi_region.proofs.RegionLemmas.{start-area, step-area, step-within, within-start, step-has, step-split}
-use Rattle.psi_region.proofs.FollowedLemmas.{rising-same_each, step-between}
+use Rattle.psi_region.proofs.FollowedLemmas.{step-between}
 use Rattle.psi_horizon.specs.Runs.{follow, region_at, ending_at, region_after, AreOrdered, DecidesRuns, AreExact}
 
 pub follow-area : (split : ℕ) (caps : List ℕ) (f : ℕ → List ℕ → List ℕ) (t : ℕ) (a : Area) → AreClosed caps f → IsArea caps a → IsArea caps (follow split f t a)

@@ -13,7 +13,7 @@ use Rattle.psi_state.specs.Sets.{image, single}
 use Rattle.psi_state.proofs.SetsLemmas.{single-apart, In-image, In-of_image}
 use Rattle.psi_state.proofs.StatesLemmas.{In-zeros}
 use Rattle.psi_state.specs.Ascending.{IsRising}
-use Rattle.psi_state.proofs.AscendingLemmas.{rising-distinct}
+use Rattle.psi_state.proofs.AscendingLemmas.{rising-same_each}
 use Rattle.psi_event.specs.Law.{Function, IsClosed, IsMonotone}
 use Rattle.psi_event.specs.Numbers.{follow_numbers}
 use Rattle.psi_region.specs.Region.{Area, start, splits, next, step, IsArea}
@@ -91,14 +91,6 @@ follow_areas-has split caps functions [] a x closed is member = member
 follow_areas-has split caps functions (n ∷ numbers) a x closed is member =
     step-has split caps (slice_index_or functions n (λ y. y)) (follow_areas split functions numbers a) (follow_numbers functions numbers x)
     (number-closed caps functions n closed) (follow_areas-area split caps functions numbers a closed is) (follow_areas-has split caps functions numbers a x closed is member)
-
--- an ascending list whose members are all one has that one alone
-pub rising-same_each : (xs : List (List ℕ)) (x s : List ℕ) → IsRising xs → In x xs → ((y : List ℕ) → In y xs → y ≡ s) → xs ≡ s ∷ []
-rising-same_each [] x s rising member each = absurd member
-rising-same_each (y ∷ []) x s rising member each = ap (λ (z : List ℕ). z ∷ []) (each y (inl refl))
-rising-same_each (y ∷ z ∷ ys) x s rising member each =
-    let same : y ≡ z = each y (inl refl) ∙ sym (each z (inr (inl refl))) in
-    absurd ((rising-distinct (y ∷ z ∷ ys) rising).0 (inl same))
 
 -- under a monotone event a region stays between what the event makes of two corners
 next-between : (caps : List ℕ) (f : List ℕ → List ℕ) (xs : List (List ℕ)) (z l h : List ℕ) (b : Bool) → IsClosed caps f → IsMonotone caps f → In z xs

@@ -131,6 +131,14 @@ pub rising-distinct : (xs : List (List ℕ)) → IsRising xs → IsDistinct xs
 rising-distinct [] rising = tt
 rising-distinct (x ∷ xs) rising = (λ member. cmp-never_itself x x refl (rising.0 x member), rising-distinct xs rising.1)
 
+-- an ascending list whose members are all one has that one alone
+pub rising-same_each : (xs : List (List ℕ)) (x s : List ℕ) → IsRising xs → In x xs → ((y : List ℕ) → In y xs → y ≡ s) → xs ≡ s ∷ []
+rising-same_each [] x s rising member each = absurd member
+rising-same_each (y ∷ []) x s rising member each = ap (λ (z : List ℕ). z ∷ []) (each y (inl refl))
+rising-same_each (y ∷ z ∷ ys) x s rising member each =
+    let same : y ≡ z = each y (inl refl) ∙ sym (each z (inr (inl refl))) in
+    absurd ((rising-distinct (y ∷ z ∷ ys) rising).0 (inl same))
+
 length-match : (x y : List ℕ) (ys more : List (List ℕ)) (o : Ordering) → (o ≡ Equal → ⊥) → length more ≡ suc (length ys)
     → length (match_ordering o (x ∷ y ∷ ys) (y ∷ ys) (y ∷ more)) ≡ suc (suc (length ys))
 length-match x y ys more Less apart rest = refl
