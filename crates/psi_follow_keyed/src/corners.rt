@@ -1,10 +1,9 @@
 //! Runs of monotone networks by their keys.
 
 ghost use Rattle.std.specs.Prelude.{◌≡◌, All, length, map, IfOk, IfSome};
-ghost use Rattle.psi_state.specs.State.{zeros};
-ghost use Rattle.psi_event.specs.Law.{IsClosed, IsMonotone};
-ghost use Rattle.psi_event.specs.Numbers.{follow_numbers, AreEvents};
-ghost use Rattle.psi_region.specs.Followed.{followed, AreEnds, states_of, ending_of};
+ghost use Rattle.psi_event.specs.Law.{IsMonotone};
+ghost use Rattle.psi_event.specs.Numbers.{AreEvents};
+ghost use Rattle.psi_region.specs.Followed.{followed, AreEnds, AreMoved, states_of, ending_of};
 ghost use Rattle.psi_follow_keyed.specs.Keyed.{IsKeyed};
 
 use crate::keyed::Keyed;
@@ -26,7 +25,7 @@ pub struct KeyedCorners<'n, E: EventLaw> {
 
 impl<'n, E: EventLaw> Model for KeyedCorners<'n, E> {
     ghost use Rattle.std.specs.Prelude.{All, map};
-    ghost use Rattle.psi_event.specs.Law.{IsClosed, IsMonotone};
+    ghost use Rattle.psi_event.specs.Law.{IsMonotone};
     ghost use Rattle.psi_region.specs.Followed.{Network};
     ghost use Rattle.psi_follow_keyed.specs.Keyed.{IsKeyed};
 
@@ -94,9 +93,7 @@ fn moved_corners<E: EventLaw>(
 ) -> (State, State)
     requires keyed { IsKeyed course.now.caps (map E.function course.now.events) keyed.now }
     requires numbers { AreEvents (length (map E.function course.now.events)) numbers.now }
-    ensures closed { All (λ f. IsClosed course.now.caps f) (map E.function course.now.events) }
-    ensures least { result.0 ≡ follow_numbers (map E.function course.now.events) numbers.now (zeros course.now.caps) }
-    ensures greatest { result.1 ≡ follow_numbers (map E.function course.now.events) numbers.now course.now.caps }
+    ensures { AreMoved (followed E.function course.now) numbers.now result.0 result.1 }
 {
     let mut greatest = course.caps();
     let mut least = State::zero(greatest.len());

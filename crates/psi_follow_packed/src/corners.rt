@@ -1,11 +1,10 @@
 //! Runs of monotone networks on packed states.
 
 ghost use Rattle.std.specs.Prelude.{◌≡◌, All, length, map, IfOk, IfSome};
-ghost use Rattle.psi_state.specs.State.{zeros};
-ghost use Rattle.psi_event.specs.Law.{IsClosed, IsMonotone};
-ghost use Rattle.psi_event.specs.Numbers.{follow_numbers, AreEvents};
+ghost use Rattle.psi_event.specs.Law.{IsMonotone};
+ghost use Rattle.psi_event.specs.Numbers.{AreEvents};
 ghost use Rattle.psi_follow_packed.specs.Programs.{Prepares};
-ghost use Rattle.psi_region.specs.Followed.{followed, AreEnds, states_of, ending_of};
+ghost use Rattle.psi_region.specs.Followed.{followed, AreEnds, AreMoved, states_of, ending_of};
 
 use crate::layout::Layout;
 use crate::program::MaskProgram;
@@ -96,9 +95,7 @@ fn moved_corners<const K: usize, E: EventLaw>(
 ) -> (State, State)
     requires program { Prepares K course.now.caps (map E.function course.now.events) program.now }
     requires numbers { AreEvents (length (map E.function course.now.events)) numbers.now }
-    ensures closed { All (λ f. IsClosed course.now.caps f) (map E.function course.now.events) }
-    ensures least { result.0 ≡ follow_numbers (map E.function course.now.events) numbers.now (zeros course.now.caps) }
-    ensures greatest { result.1 ≡ follow_numbers (map E.function course.now.events) numbers.now course.now.caps }
+    ensures { AreMoved (followed E.function course.now) numbers.now result.0 result.1 }
 {
     let caps = course.caps();
     let mut corners = program.pack(&State::zero(caps.len()), &caps);

@@ -5,7 +5,7 @@ use Rattle.std.proofs.lemmas.Bool.{cases_lt}
 use Rattle.std.proofs.lemmas.List.{get_or_past, get_or_append_left, get_or_push}
 use Rattle.std.proofs.lemmas.List.Elements.{All-map}
 use Rattle.std.proofs.Math.Seq.{take-suc}
-use Rattle.psi_state.specs.State.{IsBelow, zeros}
+use Rattle.psi_state.specs.State.{IsBelow, Corners, zeros}
 use Rattle.psi_state.specs.Members.{In}
 use Rattle.psi_state.specs.Boxes.{IsBetween}
 use Rattle.psi_state.proofs.BoxesLemmas.{In-of_all_states, In-all_states, same-from_below, zeros-below, below-itself}
@@ -17,7 +17,7 @@ use Rattle.psi_state.proofs.AscendingLemmas.{rising-same_each}
 use Rattle.psi_event.specs.Law.{Function, IsClosed, IsMonotone}
 use Rattle.psi_event.specs.Numbers.{follow_numbers}
 use Rattle.psi_region.specs.Region.{Area, start, splits, next, step, IsArea}
-use Rattle.psi_region.specs.Followed.{follow_areas, Followed, AreEnds, states_of, ending_of, IsOne}
+use Rattle.psi_region.specs.Followed.{follow_areas, Followed, AreEnds, AreMoved, Network, followed, states_of, ending_of, IsOne}
 use Rattle.psi_region.proofs.RegionLemmas.{start-area, step-area, step-has, hull-between, image-length}
 
 pub follow_areas-append : (split : ℕ) (functions : List Function) (xs ys : List ℕ) (a : Area)
@@ -129,46 +129,50 @@ follow_areas-between split caps functions (n ∷ numbers) a l h closed mono is t
 
 -- under monotone events what the events make of the least and of the greatest state are the least and the greatest state of the
 -- region of all states (Propp and Wilson 1996)
-pub corners-ends : (n : Followed) (numbers : List ℕ) (l h : List ℕ) → All (λ f. IsClosed n.caps f) n.functions → All (λ f. IsMonotone n.caps f) n.functions
-    → l ≡ follow_numbers n.functions numbers (zeros n.caps) → h ≡ follow_numbers n.functions numbers n.caps
+pub corners-ends : (n : Followed) (numbers l h : List ℕ) → AreMoved n numbers l h → All (λ f. IsMonotone n.caps f) n.functions
     → AreEnds (record { lo = l; hi = h }) (states_of n numbers)
-corners-ends n numbers l h closed mono low high =
+corners-ends n numbers l h moved mono =
     let begin : IsArea n.caps (start n.caps) = start-area n.caps in
-    let least = follow_areas-has n.split n.caps n.functions numbers (start n.caps) (zeros n.caps) closed begin (In-zeros n.caps) in
-    let greatest = follow_areas-has n.split n.caps n.functions numbers (start n.caps) n.caps closed begin (In-all_states n.caps n.caps (below-itself n.caps)) in
-    let inside = follow_areas-between n.split n.caps n.functions numbers (start n.caps) (zeros n.caps) n.caps closed mono begin (below-itself n.caps)
+    let least = follow_areas-has n.split n.caps n.functions numbers (start n.caps) (zeros n.caps) moved.closed begin (In-zeros n.caps) in
+    let greatest = follow_areas-has n.split n.caps n.functions numbers (start n.caps) n.caps moved.closed begin (In-all_states n.caps n.caps (below-itself n.caps)) in
+    let inside = follow_areas-between n.split n.caps n.functions numbers (start n.caps) (zeros n.caps) n.caps moved.closed mono begin (below-itself n.caps)
     (λ x member. (let within = In-of_all_states n.caps x member in record { low = zeros-below n.caps x within.same_length; high = within })) in
     record {
-      low = subst (λ (x : List ℕ). In x (states_of n numbers)) (sym low) least;
-      high = subst (λ (x : List ℕ). In x (states_of n numbers)) (sym high) greatest;
+      low = subst (λ (x : List ℕ). In x (states_of n numbers)) (sym moved.least) least;
+      high = subst (λ (x : List ℕ). In x (states_of n numbers)) (sym moved.greatest) greatest;
       between = λ x member.
           (let here = inside x member in record {
-            low = subst (λ (y : List ℕ). IsBelow y x) (sym low) here.low;
-            high = subst (λ (y : List ℕ). IsBelow x y) (sym high) here.high;
+            low = subst (λ (y : List ℕ). IsBelow y x) (sym moved.least) here.low;
+            high = subst (λ (y : List ℕ). IsBelow x y) (sym moved.greatest) here.high;
           });
     }
 
+-- so they are of what the corners and the network are seen as
+pub seen-ends : {E : Type 0} (function : E → Function) (own seen : Network E) (numbers l h : List ℕ) (b : Corners) → AreMoved (followed function own) numbers l h
+    → All (λ f. IsMonotone own.caps f) (map function own.events) → b ≡ record { lo = l; hi = h } → own ≡ seen → AreEnds b (states_of (followed function seen) numbers)
+seen-ends {E} function own seen numbers l h b moved mono corners is =
+    subst (λ (n : Network E). AreEnds b (states_of (followed function n) numbers)) is
+    (subst (λ (c : Corners). AreEnds c (states_of (followed function own) numbers)) (sym corners) (corners-ends (followed function own) numbers l h moved mono))
+
 -- so the one is below the other
-pub corners-ordered : (n : Followed) (numbers : List ℕ) (l h : List ℕ) → All (λ f. IsClosed n.caps f) n.functions → All (λ f. IsMonotone n.caps f) n.functions
-    → l ≡ follow_numbers n.functions numbers (zeros n.caps) → h ≡ follow_numbers n.functions numbers n.caps → IsBelow l h
-corners-ordered n numbers l h closed mono low high =
-    let ends : AreEnds (record { lo = l; hi = h }) (states_of n numbers) = corners-ends n numbers l h closed mono low high in
+pub corners-ordered : (n : Followed) (numbers l h : List ℕ) → AreMoved n numbers l h → All (λ f. IsMonotone n.caps f) n.functions → IsBelow l h
+corners-ordered n numbers l h moved mono =
+    let ends : AreEnds (record { lo = l; hi = h }) (states_of n numbers) = corners-ends n numbers l h moved mono in
     (ends.between h ends.high).low
 
 -- and the region ends with the state in which the two have met, and with more where they haven't
-pub corners-ending : (n : Followed) (numbers : List ℕ) (l h : List ℕ) (o : Option (List ℕ)) → All (λ f. IsClosed n.caps f) n.functions
-    → All (λ f. IsMonotone n.caps f) n.functions → l ≡ follow_numbers n.functions numbers (zeros n.caps) → h ≡ follow_numbers n.functions numbers n.caps
+pub corners-ending : (n : Followed) (numbers l h : List ℕ) (o : Option (List ℕ)) → AreMoved n numbers l h → All (λ f. IsMonotone n.caps f) n.functions
     → IsOne l h o → o ≡ ending_of n numbers
-corners-ending n numbers l h o closed mono low high one = last o one
+corners-ending n numbers l h o moved mono one = last o one
   where
     end : Area
     end = follow_areas n.split n.functions numbers (start n.caps)
 
     ends : AreEnds (record { lo = l; hi = h }) end.states
-    ends = corners-ends n numbers l h closed mono low high
+    ends = corners-ends n numbers l h moved mono
 
     rising : IsRising end.states
-    rising = (follow_areas-area n.split n.caps n.functions numbers (start n.caps) closed (start-area n.caps)).rising
+    rising = (follow_areas-area n.split n.caps n.functions numbers (start n.caps) moved.closed (start-area n.caps)).rising
 
     last : (o : Option (List ℕ)) → IsOne l h o → o ≡ ending_of n numbers
     last None apart = sym (single-apart end.states l h ends.low ends.high apart)

@@ -1,10 +1,11 @@
 -- Regions that are followed through the events of numbers, and the networks that followers stand for.
 use Rattle.std.specs.Prelude.{◌≡◌, ℕ, ◌≤◌, List, [], ◌∷◌, map, slice_index_or, All, Option, Some, None, false}
-use Rattle.psi_state.specs.State.{AreCapacities, Corners, box}
+use Rattle.psi_state.specs.State.{AreCapacities, Corners, zeros, box}
 use Rattle.psi_state.specs.Members.{In}
 use Rattle.psi_state.specs.Boxes.{IsBetween}
 use Rattle.psi_state.specs.Sets.{single}
-use Rattle.psi_event.specs.Law.{Function}
+use Rattle.psi_event.specs.Law.{Function, IsClosed}
+use Rattle.psi_event.specs.Numbers.{follow_numbers}
 use Rattle.psi_region.specs.Region.{Area, start, step}
 
 -- what the events of these numbers make of a region: that of the last number comes first
@@ -36,6 +37,12 @@ pub record AreEnds (b : Corners) (xs : List (List ℕ)) : Type 0 where
   pub low : In b.lo xs
   pub high : In b.hi xs
   pub between : (x : List ℕ) → In x xs → IsBetween b.lo b.hi x
+
+-- these are what the events of the numbers make of the least and of the greatest state, where each event makes states of states
+pub record AreMoved (n : Followed) (numbers l h : List ℕ) : Type 0 where
+  pub closed : All (λ f. IsClosed n.caps f) n.functions
+  pub least : l ≡ follow_numbers n.functions numbers (zeros n.caps)
+  pub greatest : h ≡ follow_numbers n.functions numbers n.caps
 
 -- the one state that two states are, and none where they are apart
 abbrev pub IsOne : List ℕ → List ℕ → Option (List ℕ) → Type 0

@@ -2,10 +2,9 @@
 //! between the two (Propp and Wilson 1996).
 
 ghost use Rattle.std.specs.Prelude.{◌≡◌, All, length, map, IfSome};
-ghost use Rattle.psi_state.specs.State.{zeros};
-ghost use Rattle.psi_event.specs.Law.{IsClosed, IsMonotone};
-ghost use Rattle.psi_event.specs.Numbers.{follow_numbers, AreEvents};
-ghost use Rattle.psi_region.specs.Followed.{followed, AreEnds, states_of, ending_of};
+ghost use Rattle.psi_event.specs.Law.{IsMonotone};
+ghost use Rattle.psi_event.specs.Numbers.{AreEvents};
+ghost use Rattle.psi_region.specs.Followed.{followed, AreEnds, AreMoved, states_of, ending_of};
 
 use crate::course::Course;
 use crate::follower::{Follower, one_of};
@@ -60,9 +59,7 @@ impl<'n, E: EventLaw> Follower for Corners<'n, E> {
 // What the events of the numbers, the last first, make of the least and of the greatest state.
 fn moved_corners<E: EventLaw>(course: &Course<'_, E>, numbers: &[u16]) -> (State, State)
     requires { AreEvents (length (map E.function course.now.events)) numbers.now }
-    ensures closed { All (λ f. IsClosed course.now.caps f) (map E.function course.now.events) }
-    ensures least { result.0 ≡ follow_numbers (map E.function course.now.events) numbers.now (zeros course.now.caps) }
-    ensures greatest { result.1 ≡ follow_numbers (map E.function course.now.events) numbers.now course.now.caps }
+    ensures { AreMoved (followed E.function course.now) numbers.now result.0 result.1 }
 {
     let mut greatest = course.caps();
     let mut least = State::zero(greatest.len());

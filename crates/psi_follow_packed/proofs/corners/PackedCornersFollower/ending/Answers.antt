@@ -1,9 +1,6 @@
 -- Answers in the proof of `PackedCorners::ending`.
-use Rattle.psi_region.specs.Followed.{followed}
 use Rattle.psi_region.proofs.FollowedLemmas.{corners-ending}
 use Rattle.psi_follow_packed.proofs.corners.PackedCornersFollower.ending.Goals as goal
 
 pub returns-clause-ending : goal.returns-clause-ending
-returns-clause-ending g c =
-    let made = c.moved_corners-least in
-    rw (← c.self.view_is) (corners-ending (followed g.E.EventLaw.function c.self.inside.course) _ _ _ c.one_of.result made.ensures.closed c.self.invariant.1 made.ensures.least made.ensures.greatest c.one_of.ensures)
+returns-clause-ending g c = rw (← c.self.view_is) (corners-ending _ _ _ _ _ c.moved_corners-least.ensures c.self.invariant.1 c.one_of.ensures)
