@@ -21,6 +21,13 @@ use psi_past::Past;
 use psi_rate::System;
 use psi_state::State;
 
+// A system, and what its first events make of all states, as far as that is known.
+#[derive(Drop)]
+struct Learned<'s, 'n, E: EventLaw> {
+    system: &'s System<'n, E>,
+    images: &'s LearnedImages,
+}
+
 /// Follows all states through the last 2 to the power `h` steps, with `h` from 0 to 12: the number of
 /// states that are left at each power of two, and the least horizon of any length at which one is left,
 /// with that state (Propp and Wilson 1996). `NotConstant` comes exactly where there is no such horizon,
@@ -53,7 +60,11 @@ pub fn survey<E: EventLaw, P: Past>(
     // Called for its clause: the events are of the system's capacities.
     let _caps = system.caps();
     learn(system, &mut table.table, &mut table.images, 1 << h);
-    follow_all(system, past, &mut table.table, &table.images, h)
+    let learned = Learned {
+        system,
+        images: &table.images,
+    };
+    follow_all(&learned, past, &mut table.table, h)
 }
 
 // Learns the first events of the system, at most `most`, as far as there is space.
@@ -79,28 +90,27 @@ fn learn<E: EventLaw>(
 
 // The survey, where the first events are learned.
 fn follow_all<E: EventLaw, P: Past>(
-    system: &System<'_, E>,
+    learned: &Learned<'_, '_, E>,
     past: &mut P,
     table: &mut RankTable,
-    images: &LearnedImages,
     h: u8,
 ) -> Survey
-    requires fit { IsSystem E.capacities system.now }
-    requires same_caps { table.old.caps ≡ system.now.caps }
+    requires fit { IsSystem E.capacities learned.now.system.now }
+    requires same_caps { table.old.caps ≡ learned.now.system.now.caps }
     requires most { h ≤ 12 }
-    requires known { AreKnown system.now.caps (map E.function system.now.events) images.now }
-    ensures sizes { result.sizes ≡ image_sizes (system_functions E.function system.now (P.words past.old)) system.now.caps h }
-    ensures least { let f = system_functions E.function system.now (P.words past.old) in
-        IsMeeting (meeting_at f system.now.caps) h result.meeting }
-    ensures map { table.new ≡ map_of system.now.caps (compose (system_functions E.function system.now (P.words past.old)) (2 ^ h)) }
+    requires known { AreKnown learned.now.system.now.caps (map E.function learned.now.system.now.events) learned.now.images.now }
+    ensures sizes { result.sizes ≡ image_sizes (system_functions E.function learned.now.system.now (P.words past.old)) learned.now.system.now.caps h }
+    ensures least { let f = system_functions E.function learned.now.system.now (P.words past.old) in
+        IsMeeting (meeting_at f learned.now.system.now.caps) h result.meeting }
+    ensures map { table.new ≡ map_of learned.now.system.now.caps (compose (system_functions E.function learned.now.system.now (P.words past.old)) (2 ^ h)) }
     ensures words { P.words past.new ≡ P.words past.old }
 {
     table.reset();
-    let mut found = follow(system, past, table, images, 0, 1, None);
+    let mut found = follow(learned, past, table, 0, 1, None);
     let mut sizes = Sizes::one(table.image_size());
     for exponent in 1..h + 1 {
         let horizon = 1 << exponent;
-        found = follow(system, past, table, images, horizon / 2, horizon, found);
+        found = follow(learned, past, table, horizon / 2, horizon, found);
         sizes.push(table.image_size());
     }
     Survey {
@@ -122,49 +132,47 @@ fn told(found: Option<(u32, State)>, exponent: u8) -> Meeting
 // Goes on from the map of the last `from` steps to that of the last `to`, and returns the least horizon at
 // which it is constant, if it was found.
 fn follow<E: EventLaw, P: Past>(
-    system: &System<'_, E>,
+    learned: &Learned<'_, '_, E>,
     past: &mut P,
     table: &mut RankTable,
-    images: &LearnedImages,
     from: u32,
     to: u32,
     found: Option<(u32, State)>,
 ) -> Option<(u32, State)>
-    requires fit { IsSystem E.capacities system.now }
+    requires fit { IsSystem E.capacities learned.now.system.now }
     requires order { from ≤ to }
-    requires known { AreKnown system.now.caps (map E.function system.now.events) images.now }
-    requires followed { IsFollowed (system_functions E.function system.now (P.words past.old)) system.now.caps from table.old found }
-    ensures followed { IsFollowed (system_functions E.function system.now (P.words past.new)) system.now.caps to table.new result }
+    requires known { AreKnown learned.now.system.now.caps (map E.function learned.now.system.now.events) learned.now.images.now }
+    requires followed { IsFollowed (system_functions E.function learned.now.system.now (P.words past.old)) learned.now.system.now.caps from table.old found }
+    ensures followed { IsFollowed (system_functions E.function learned.now.system.now (P.words past.new)) learned.now.system.now.caps to table.new result }
     ensures words { P.words past.new ≡ P.words past.old }
 {
     let mut least = found;
     for place in from..to {
-        least = step(system, past, table, images, place, least);
+        least = step(learned, past, table, place, least);
     }
     least
 }
 
 // Goes on from the map of the last `place` steps to that of one step more, whose word stands at that place.
 fn step<E: EventLaw, P: Past>(
-    system: &System<'_, E>,
+    learned: &Learned<'_, '_, E>,
     past: &mut P,
     table: &mut RankTable,
-    images: &LearnedImages,
     place: u32,
     found: Option<(u32, State)>,
 ) -> Option<(u32, State)>
-    requires fit { IsSystem E.capacities system.now }
+    requires fit { IsSystem E.capacities learned.now.system.now }
     requires few { place < 4294967295 }
-    requires known { AreKnown system.now.caps (map E.function system.now.events) images.now }
-    requires followed { IsFollowed (system_functions E.function system.now (P.words past.old)) system.now.caps place table.old found }
-    ensures followed { IsFollowed (system_functions E.function system.now (P.words past.new)) system.now.caps (place + 1) table.new result }
+    requires known { AreKnown learned.now.system.now.caps (map E.function learned.now.system.now.events) learned.now.images.now }
+    requires followed { IsFollowed (system_functions E.function learned.now.system.now (P.words past.old)) learned.now.system.now.caps place table.old found }
+    ensures followed { IsFollowed (system_functions E.function learned.now.system.now (P.words past.new)) learned.now.system.now.caps (place + 1) table.new result }
     ensures words { P.words past.new ≡ P.words past.old }
 {
     if found.is_some() {
         return found;
     }
     let word = past.word(place);
-    put_before(system, word, table, images);
+    put_before(learned, word, table);
     match table.constant() {
         Some(state) => Some((place + 1, state)),
         None => None,
@@ -172,21 +180,16 @@ fn step<E: EventLaw, P: Past>(
 }
 
 // Puts the event of a word before the map of the table; an idle word changes nothing.
-fn put_before<E: EventLaw>(
-    system: &System<'_, E>,
-    word: u32,
-    table: &mut RankTable,
-    images: &LearnedImages,
-)
-    requires fit { IsSystem E.capacities system.now }
-    requires same_caps { table.old.caps ≡ system.now.caps }
-    requires known { AreKnown system.now.caps (map E.function system.now.events) images.now }
-    ensures { (f : List ℕ → List ℕ) → table.old ≡ map_of system.now.caps f
-        → table.new ≡ map_of system.now.caps (λ x. f (picked (map E.function system.now.events) system.now.rates word x)) }
+fn put_before<E: EventLaw>(learned: &Learned<'_, '_, E>, word: u32, table: &mut RankTable)
+    requires fit { IsSystem E.capacities learned.now.system.now }
+    requires same_caps { table.old.caps ≡ learned.now.system.now.caps }
+    requires known { AreKnown learned.now.system.now.caps (map E.function learned.now.system.now.events) learned.now.images.now }
+    ensures { (f : List ℕ → List ℕ) → table.old ≡ map_of learned.now.system.now.caps f
+        → table.new ≡ map_of learned.now.system.now.caps (λ x. f (picked (map E.function learned.now.system.now.events) learned.now.system.now.rates word x)) }
 {
-    let (number, event) = system.pick(word);
-    if number < images.known {
-        table.follow(images.of(number));
+    let (number, event) = learned.system.pick(word);
+    if number < learned.images.known {
+        table.follow(learned.images.of(number));
         return;
     }
     match event {

@@ -9,7 +9,7 @@ loop-place-preserved g c = record { within = omega arith; followed = c.step-leas
 
 pub returns-clause-followed : goal.returns-clause-followed
 returns-clause-followed g c =
-    let system = c.args.system.now in
+    let system = c.args.learned.now.system.now in
     let end : c.loop-place.place ≡ c.args.to = omega arith in
     subst (λ n. IsFollowed (system_functions g.E.EventLaw.function system (g.P.Past.words c.loop-place.past)) system.caps n c.loop-place.table c.loop-place.least) end
     c.loop-place.invariant.followed

@@ -8,6 +8,6 @@ use Rattle.psi_exact.proofs.following.follow.Given as goal
 abbrev pub invariant-loop-place : goal.invariant-loop-place
 invariant-loop-place g l = record {
   within : l.place ≤ l.to;
-  followed : IsFollowed (system_functions g.E.EventLaw.function l.system (g.P.Past.words l.past)) l.system.caps l.place l.table l.least;
+  followed : IsFollowed (system_functions g.E.EventLaw.function l.learned.system.now (g.P.Past.words l.past)) l.learned.system.now.caps l.place l.table l.least;
   words : g.P.Past.words l.past ≡ g.P.Past.words l.fn.past;
 }

@@ -15,7 +15,7 @@ use Rattle.psi_exact.proofs.following.follow_all.Goals as goal
 
 pub follow-found-requires-clause-followed : goal.follow-found-requires-clause-followed
 follow-found-requires-clause-followed g c =
-    let system = c.args.system.now in
+    let system = c.args.learned.now.system.now in
     record {
       map = c.reset.ensures ∙ ap (λ (caps : List ℕ). map_of caps (λ x. x)) c.requires.same_caps;
       found = has_none_below-one (meeting_at (system_functions g.E.EventLaw.function system (g.P.Past.words c.args.past.now)) system.caps);
@@ -23,7 +23,7 @@ follow-found-requires-clause-followed g c =
 
 pub loop-exponent-init : goal.loop-exponent-init
 loop-exponent-init g c =
-    let system = c.args.system.now in
+    let system = c.args.learned.now.system.now in
     let after = c.follow-found in
     let map = after.ensures.followed.map ∙ ap (λ (w : ℕ → ℕ). map_of system.caps (compose (system_functions g.E.EventLaw.function system w) 1)) after.ensures.words in
     record {
@@ -35,7 +35,7 @@ loop-exponent-init g c =
 
 pub follow-found-requires-in-loop-exponent-clause-followed : goal.follow-found-requires-in-loop-exponent-clause-followed
 follow-found-requires-in-loop-exponent-clause-followed g c =
-    let system = c.args.system.now in
+    let system = c.args.learned.now.system.now in
     let test = c.loop-exponent-test.true in
     let most = c.requires.most in
     subst (λ n. IsFollowed (system_functions g.E.EventLaw.function system (g.P.Past.words c.loop-exponent.past)) system.caps n c.loop-exponent.table c.loop-exponent.found)
@@ -43,7 +43,7 @@ follow-found-requires-in-loop-exponent-clause-followed g c =
 
 pub push-requires : goal.push-requires
 push-requires g c =
-    let system = c.args.system.now in
+    let system = c.args.learned.now.system.now in
     let test = c.loop-exponent-test.true in
     let most = c.requires.most in
     let count : length c.loop-exponent.sizes ≡ c.loop-exponent.exponent =
@@ -53,7 +53,7 @@ push-requires g c =
 
 pub loop-exponent-preserved : goal.loop-exponent-preserved
 loop-exponent-preserved g c =
-    let system = c.args.system.now in
+    let system = c.args.learned.now.system.now in
     let f = system_functions g.E.EventLaw.function system (g.P.Past.words c.args.past.now) in
     let k = c.loop-exponent.exponent in
     let test = c.loop-exponent-test.true in
@@ -76,14 +76,14 @@ loop-exponent-preserved g c =
 
 pub returns-clause-sizes : goal.returns-clause-sizes
 returns-clause-sizes g c =
-    let system = c.args.system.now in
+    let system = c.args.learned.now.system.now in
     let end : c.loop-exponent.exponent ≡ suc c.args.h = omega arith in
     c.loop-exponent.invariant.sizes
     ∙ ap (λ n. sizes_before (system_functions g.E.EventLaw.function system (g.P.Past.words c.args.past.now)) system.caps n) end
 
 pub returns-clause-least : goal.returns-clause-least
 returns-clause-least g c =
-    let system = c.args.system.now in
+    let system = c.args.learned.now.system.now in
     let run = meeting_at (system_functions g.E.EventLaw.function system (g.P.Past.words c.args.past.now)) system.caps in
     let end : c.loop-exponent.exponent ≡ c.args.h + 1 = omega arith in
     let followed = subst (λ n. IsFollowed (system_functions g.E.EventLaw.function system (g.P.Past.words c.loop-exponent.past)) system.caps n c.loop-exponent.table c.loop-exponent.found)
@@ -94,7 +94,7 @@ returns-clause-least g c =
 
 pub returns-clause-map : goal.returns-clause-map
 returns-clause-map g c =
-    let system = c.args.system.now in
+    let system = c.args.learned.now.system.now in
     let end : c.loop-exponent.exponent ≡ c.args.h + 1 = omega arith in
     c.loop-exponent.invariant.followed.map
     ∙ (ap (λ n. map_of system.caps (compose (system_functions g.E.EventLaw.function system (g.P.Past.words c.loop-exponent.past)) n)) (ap (λ n. 2 ^ n / 2) end ∙ half-next c.args.h)
