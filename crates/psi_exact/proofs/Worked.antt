@@ -1,9 +1,10 @@
 -- The definitions on a small network, worked out by hand and computed by the checker.
-use Rattle.std.proofs.Common.{◌≡◌, ℕ, ◌+◌, ◌-◌, min, List, [], ◌∷◌, slice_index, refl}
+use Rattle.std.proofs.Common.{◌≡◌, ℕ, List, [], ◌∷◌, refl}
 use Rattle.psi_rate.specs.Rates.{least_power, event_of}
-use Rattle.psi_rate.specs.Composition.{function_at, compose}
+use Rattle.psi_rate.specs.Composition.{compose}
 use Rattle.psi_rate.specs.Least.{least_answer}
 use Rattle.psi_rate.specs.Outcomes.{meeting_at}
+use Rattle.psi_rate.proofs.Worked.{caps, f}
 use Rattle.psi_exact.specs.Ranks.{rank_of, state_at}
 use Rattle.psi_exact.specs.declared.answers.Meeting.TheVariants.{Constant, NotConstant}
 use Rattle.psi_exact.specs.Mapping.{Mapped, map_of, sends}
@@ -11,34 +12,14 @@ use Rattle.psi_exact.specs.Distinct.{distinct_count}
 use Rattle.psi_exact.specs.Sizes.{image_sizes}
 use Rattle.psi_exact.specs.Surveys.{meeting_within}
 
--- one queue with room for two, which one joins at the rate 1 and one leaves at the rate 2
-abbrev caps : List ℕ
-caps = 2 ∷ []
-
-abbrev joined : List ℕ → List ℕ
-joined [] = []
-joined (v ∷ x) = min 2 (v + 1) ∷ x
-
-abbrev left : List ℕ → List ℕ
-left [] = []
-left (v ∷ x) = (v - 1) ∷ x
-
--- backwards in time: out, in, in, idle
-abbrev f : ℕ → List ℕ → List ℕ
-f = function_at (joined ∷ left ∷ []) (1 ∷ 2 ∷ []) (slice_index (2 ∷ 0 ∷ 0 ∷ 3 ∷ []))
-
 -- two steps leave two states, and the map of three is constant
 sizes : image_sizes f caps 2 ≡ 2 ∷ 2 ∷ 1 ∷ []
 unfolding event_of least_power
 sizes = refl
 
-constant_at_three : meeting_within (meeting_at f caps) 2 ≡ Constant 3 (1 ∷ [])
+meetings : meeting_within (meeting_at f caps) 2 ∷ meeting_within (meeting_at f caps) 1 ∷ [] ≡ Constant 3 (1 ∷ []) ∷ NotConstant 1 ∷ []
 unfolding meeting_within least_answer event_of least_power
-constant_at_three = refl
-
-not_constant_within_two : meeting_within (meeting_at f caps) 1 ≡ NotConstant 1
-unfolding meeting_within least_answer event_of least_power
-not_constant_within_two = refl
+meetings = refl
 
 -- the maps of two and of three steps
 abbrev images_of : List (List ℕ) → Mapped

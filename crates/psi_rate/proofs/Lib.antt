@@ -11,4 +11,4 @@ pub mod EventTableLemmas
 mod MarksLemmas
 pub mod NumbersLemmas
 mod DealtLemmas
-mod Worked
+pub mod Worked

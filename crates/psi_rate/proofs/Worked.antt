@@ -17,20 +17,21 @@ unfolding event_of least_power
 events = refl
 
 -- one queue with room for two, which one joins at the rate 1 and one leaves at the rate 2
-abbrev caps : List ℕ
+abbrev pub caps : List ℕ
 caps = 2 ∷ []
 
-abbrev joined : List ℕ → List ℕ
-joined [] = []
-joined (v ∷ x) = (min 2 (v + 1)) ∷ x
+-- one customer joins a queue with room for so many, and one leaves it
+abbrev pub joined : ℕ → List ℕ → List ℕ
+joined cap [] = []
+joined cap (v ∷ x) = min cap (v + 1) ∷ x
 
-abbrev left : List ℕ → List ℕ
+abbrev pub left : List ℕ → List ℕ
 left [] = []
 left (v ∷ x) = (v - 1) ∷ x
 
 -- backwards in time: out, in, in, idle
-abbrev f : ℕ → List ℕ → List ℕ
-f = function_at (joined ∷ left ∷ []) (1 ∷ 2 ∷ []) (slice_index (2 ∷ 0 ∷ 0 ∷ 3 ∷ []))
+abbrev pub f : ℕ → List ℕ → List ℕ
+f = function_at (joined 2 ∷ left ∷ []) (1 ∷ 2 ∷ []) (slice_index (2 ∷ 0 ∷ 0 ∷ 3 ∷ []))
 
 -- the oldest event comes first: from none, idle, in, in and out leave one
 from_none : compose f 4 (0 ∷ []) ≡ 1 ∷ []
@@ -42,13 +43,10 @@ images : image_at f caps 1 ∷ image_at f caps 2 ∷ image_at f caps 4 ∷ []
 unfolding event_of least_power
 images = refl
 
-met_at_four : outcome_within (meeting_at f caps) 18 ≡ Met 4 (1 ∷ [])
+-- met at four, and not within two
+outcomes : outcome_within (meeting_at f caps) 18 ∷ outcome_within (meeting_at f caps) 1 ∷ [] ≡ Met 4 (1 ∷ []) ∷ NotMet 1 ∷ []
 unfolding outcome_within first_answer event_of least_power
-met_at_four = refl
-
-not_met_within_two : outcome_within (meeting_at f caps) 1 ≡ NotMet 1
-unfolding outcome_within first_answer event_of least_power
-not_met_within_two = refl
+outcomes = refl
 
 -- the first of 1, 2, 4 and 8 that is above 3
 first_above : first_answer (λ t. if nat_lt 3 t then Some (10 * t) else None) 3 ≡ Some (4, 40)
