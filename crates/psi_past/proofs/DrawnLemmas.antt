@@ -23,13 +23,18 @@ draws-more some more both at next g h k xs ys zs first second place sum = record
   moved = grind (arith, common_steps);
 }
 
--- four lots of equal size
-pub draws-four : (some all at : ℕ) (g h i j k : ChaCha) (vs ws xs ys zs : List ℕ) → Draws some at g h vs ws → Draws some (at + some) h i ws xs
-    → Draws some (at + 2 * some) i j xs ys → Draws some (at + 3 * some) j k ys zs → all ≡ 4 * some → Draws all at g k vs zs
-draws-four some all at g h i j k vs ws xs ys zs a b c d sum =
-    let two = draws-more some some (2 * some) at (at + some) g h i vs ws xs a b refl (omega arith) in
-    let three = draws-more (2 * some) some (3 * some) at (at + 2 * some) g i j vs xs ys two c refl (omega arith) in
-    draws-more (3 * some) some all at (at + 3 * some) g j k vs ys zs three d refl (omega arith)
+-- eight lots of equal size
+pub draws-eight : (some all at : ℕ) (a b c d e f g h i : ChaCha) (r s t u v w x y z : List ℕ) → Draws some at a b r s → Draws some (at + some) b c s t
+    → Draws some (at + 2 * some) c d t u → Draws some (at + 3 * some) d e u v → Draws some (at + 4 * some) e f v w → Draws some (at + 5 * some) f g w x
+    → Draws some (at + 6 * some) g h x y → Draws some (at + 7 * some) h i y z → all ≡ 8 * some → Draws all at a i r z
+draws-eight some all at a b c d e f g h i r s t u v w x y z one two three four five six seven eight sum =
+    let twice = draws-more some some (2 * some) at (at + some) a b c r s t one two refl (omega arith) in
+    let thrice = draws-more (2 * some) some (3 * some) at (at + 2 * some) a c d r t u twice three refl (omega arith) in
+    let half = draws-more (3 * some) some (4 * some) at (at + 3 * some) a d e r u v thrice four refl (omega arith) in
+    let to_five = draws-more (4 * some) some (5 * some) at (at + 4 * some) a e f r v w half five refl (omega arith) in
+    let to_six = draws-more (5 * some) some (6 * some) at (at + 5 * some) a f g r w x to_five six refl (omega arith) in
+    let to_seven = draws-more (6 * some) some (7 * some) at (at + 6 * some) a g h r x y to_six seven refl (omega arith) in
+    draws-more (7 * some) some all at (at + 7 * some) a h i r y z to_seven eight refl (omega arith)
 
 -- a block more, of a generator that is set again to the place where it stands
 pub draws-block : (block first pos : ℕ) (g h set k : ChaCha) (xs ys zs : List ℕ) → Draws (64 * block) 0 g h xs ys → g.word_pos ≡ 64 * first

@@ -52,10 +52,14 @@ fn draw_block(generator: &mut ChaCha20Rng, out: &mut [u32], at: usize)
     ensures { Draws 64 at generator.old generator.new out.old out.new }
 {
     let mut words = [0; BLOCK];
-    draw_sixteen(generator, &mut words, 0);
-    draw_sixteen(generator, &mut words, 16);
-    draw_sixteen(generator, &mut words, 32);
-    draw_sixteen(generator, &mut words, 48);
+    draw_eight(generator, &mut words, 0);
+    draw_eight(generator, &mut words, 8);
+    draw_eight(generator, &mut words, 16);
+    draw_eight(generator, &mut words, 24);
+    draw_eight(generator, &mut words, 32);
+    draw_eight(generator, &mut words, 40);
+    draw_eight(generator, &mut words, 48);
+    draw_eight(generator, &mut words, 56);
     put_block(out, at, &words);
 }
 
@@ -70,30 +74,21 @@ fn put_block(out: &mut [u32], at: usize, words: &[u32; 64])
     out[at..at + BLOCK].copy_from_slice(words);
 }
 
-// Draws the next 16 words.
+// Draws the next eight words.
 #[inline(always)]
-fn draw_sixteen(generator: &mut ChaCha20Rng, out: &mut [u32], at: usize)
-    requires fits { at + 16 ≤ length out.old }
-    requires near { generator.old.word_pos + 16 ≤ 2 ^ 36 }
-    ensures { Draws 16 at generator.old generator.new out.old out.new }
-{
-    draw_four(generator, out, at);
-    draw_four(generator, out, at + 4);
-    draw_four(generator, out, at + 8);
-    draw_four(generator, out, at + 12);
-}
-
-// Draws the next four words.
-#[inline(always)]
-fn draw_four(generator: &mut ChaCha20Rng, out: &mut [u32], at: usize)
-    requires fits { at + 4 ≤ length out.old }
-    requires near { generator.old.word_pos + 4 ≤ 2 ^ 36 }
-    ensures { Draws 4 at generator.old generator.new out.old out.new }
+fn draw_eight(generator: &mut ChaCha20Rng, out: &mut [u32], at: usize)
+    requires fits { at + 8 ≤ length out.old }
+    requires near { generator.old.word_pos + 8 ≤ 2 ^ 36 }
+    ensures { Draws 8 at generator.old generator.new out.old out.new }
 {
     draw_one(generator, out, at);
     draw_one(generator, out, at + 1);
     draw_one(generator, out, at + 2);
     draw_one(generator, out, at + 3);
+    draw_one(generator, out, at + 4);
+    draw_one(generator, out, at + 5);
+    draw_one(generator, out, at + 6);
+    draw_one(generator, out, at + 7);
 }
 
 // Draws the next word.
