@@ -1,4 +1,5 @@
 -- The lemmas of this crate.
+pub mod ApartLemmas
 pub mod ArraysLemmas
 pub mod AscendingLemmas
 pub mod BoxesLemmas
@@ -11,7 +12,6 @@ pub mod SameLemmas
 pub mod SetsLemmas
 pub mod StatesLemmas
 pub mod VolumeLemmas
-mod ApartLemmas
 mod QuadsLemmas
 mod CountingLemmas
 mod OdometerLemmas
