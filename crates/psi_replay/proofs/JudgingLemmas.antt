@@ -6,13 +6,13 @@ use Rattle.std.proofs.lemmas.Option.{get_or_from_slice_get, slice_get-map}
 use Rattle.psi_state.specs.declared.outcome.Step.{Step}
 use Rattle.psi_event.specs.Idle.{unchanged}
 use Rattle.psi_rate.specs.Rates.{event_of}
-use Rattle.psi_rate.specs.Composition.{Functions, picked}
+use Rattle.psi_rate.specs.Composition.{Functions, SystemParts, picked, system_functions}
 use Rattle.psi_log_format.specs.Log.{LogRegion, Entry, Certificate, IsRegion}
 use Rattle.psi_log_words.specs.Refusal.{Refusal, holds_or}
 use Rattle.psi_log_words.proofs.WordLemmas.{held}
 use Rattle.psi_log.specs.Told.{region_at, step_at}
 use Rattle.psi_log.proofs.ToldLemmas.{same_region}
-use Rattle.psi_replay.specs.Verdict.{rejected, covers, is_within, is_small, judge_step, judge_steps}
+use Rattle.psi_replay.specs.Verdict.{rejected, covers, is_within, is_small, judge_step, judge_steps, event_numbers}
 use Rattle.psi_replay.specs.Judging.{Gives}
 use Rattle.psi_replay.specs.Passes.{told, and_then}
 use Rattle.psi_replay.specs.declared.causes.Rejection.{Rejection}
@@ -63,12 +63,12 @@ slice_get_none (x ∷ xs) zero none = absurd cc
 slice_get_none (x ∷ xs) (suc i) none = (let rest = slice_get_none xs i none in omega arith)
 
 -- two rules hold where both do
-pub both_hold : (a b : Result (Unit {0}) Refusal) → and_then a b ≡ Ok tt → (a ≡ Ok tt) × (b ≡ Ok tt)
+both_hold : (a b : Result (Unit {0}) Refusal) → and_then a b ≡ Ok tt → (a ≡ Ok tt) × (b ≡ Ok tt)
 both_hold (Ok x) b is = (refl, is)
 both_hold (Err refusal) b is = absurd cc
 
 -- where the rules before it hold, the last rule of a step's line is left
-pub step_judged : (caps : List ℕ) (limit : ℕ) (events : ℕ → ℕ) (f : Functions) (n t : ℕ) (before : LogRegion) (e : Entry) (numbered drawn within small covered : Bool) (result : Result (Unit {0}) Rejection)
+step_judged : (caps : List ℕ) (limit : ℕ) (events : ℕ → ℕ) (f : Functions) (n t : ℕ) (before : LogRegion) (e : Entry) (numbered drawn within small covered : Bool) (result : Result (Unit {0}) Rejection)
     → numbered ≡ (e.step.number == t) → drawn ≡ (e.step.event == events t) → within ≡ is_within caps e.region → small ≡ is_small before e.region → covered ≡ covers (f t) before e.region
     → holds_or (rejected n StepNumber) numbered ≡ Ok tt → holds_or (rejected n WrongEvent) drawn ≡ Ok tt → holds_or (rejected n OutsideBox) within ≡ Ok tt → holds_or (rejected n SplitTooLarge) small ≡ Ok tt
     → Gives (λ _. tt) result (holds_or (rejected n NotCovered) covered) → Gives (λ _. tt) result (judge_step caps limit events f n t before e)
@@ -84,7 +84,7 @@ step_judged caps limit events f n t before e numbered drawn within small covered
     subst (λ (rules : Result (Unit {0}) Refusal). Gives (λ _. tt) result rules) (ap (λ (b : Bool). holds_or (rejected n NotCovered) b) fifth ∙ sym rule) last
 
 -- the test of the event of a word is that of the word's function
-pub picked_covers : {E : Type 0} (function : E → List ℕ → List ℕ) (events : List E) (rates : List ℕ) (word : ℕ) (event : Option (Bor E)) (r : Bool) (before after : LogRegion)
+picked_covers : {E : Type 0} (function : E → List ℕ → List ℕ) (events : List E) (rates : List ℕ) (word : ℕ) (event : Option (Bor E)) (r : Bool) (before after : LogRegion)
     → option_map (λ (e : Bor E). e.now) event ≡ slice_get events (event_of rates word)
     → MatchOption event (r ≡ covers unchanged before after) (λ e. r ≡ covers (function e.now) before after) → r ≡ covers (picked (map function events) rates word) before after
 picked_covers function events rates word None r before after is tells =
@@ -96,3 +96,18 @@ picked_covers function events rates word (Some e) r before after is tells =
     tells ∙ ap (λ (f : List ℕ → List ℕ). covers f before after)
     (sym (get_or_from_slice_get (map function events) (event_of rates word) (function e.now) (λ x. x)
     (slice_get-map function events (event_of rates word) ∙ ap (λ o. option_map function o) (sym is))))
+
+-- where the rules before it hold, the last rule of the line of a step is left, by what a word draws
+pub drawn_judged : {E : Type 0} (function : E → List ℕ → List ℕ) (system : SystemParts E) (words : ℕ → ℕ) (n t number : ℕ) (event : Option (Bor E)) (before : LogRegion) (e : Entry)
+    (within small covered : Bool) (result : Result (Unit {0}) Rejection)
+    → number ≡ event_numbers system words t → option_map (λ (e : Bor E). e.now) event ≡ slice_get system.events (event_of system.rates (words (t - 1)))
+    → and_then (holds_or (rejected n StepNumber) (e.step.number == t)) (holds_or (rejected n WrongEvent) (e.step.event == number)) ≡ Ok tt
+    → within ≡ is_within system.caps e.region → small ≡ is_small before e.region
+    → MatchOption event (covered ≡ covers unchanged before e.region) (λ f. covered ≡ covers (function f.now) before e.region)
+    → holds_or (rejected n OutsideBox) within ≡ Ok tt → holds_or (rejected n SplitTooLarge) small ≡ Ok tt → Gives (λ _. tt) result (holds_or (rejected n NotCovered) covered)
+    → Gives (λ _. tt) result (judge_step system.caps system.limit (event_numbers system words) (system_functions function system words) n t before e)
+drawn_judged function system words n t number event before e within small covered result drawn picks numbers inside few tells three four last =
+    let kept = both_hold _ _ numbers in
+    let covering = picked_covers function system.events system.rates (words (t - 1)) event covered before e.region picks tells in
+    step_judged system.caps system.limit (event_numbers system words) (system_functions function system words) n t before e _ _ within small covered result
+    refl (ap (λ (k : ℕ). e.step.event == k) drawn) inside few covering kept.0 kept.1 three four last
