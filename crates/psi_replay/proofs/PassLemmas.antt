@@ -1,7 +1,7 @@
 -- The reading and the judging of a log side by side.
-use Rattle.std.specs.Prelude.{◌≡◌, ℕ, suc, ◌+◌, ◌-◌, ◌<◌, ◌^◌, List, [], ◌∷◌, ◌++◌, length, min, false, ◌==◌, nat_le, Some, Result, Ok, Err, refl}
+use Rattle.std.specs.Prelude.{◌≡◌, ℕ, suc, ◌+◌, ◌-◌, ◌<◌, ◌^◌, List, [], ◌∷◌, ◌++◌, length, min, false, ◌==◌, nat_le, Some, Result, Ok, Err, IfErr, OnOk, refl}
 use Rattle.std.proofs.Common.{ap, sym, ◌∙◌, subst, arith, append-nil}
-use Rattle.psi_rate.specs.Composition.{Functions}
+use Rattle.psi_rate.specs.Composition.{Functions, SystemParts, system_functions}
 use Rattle.psi_log_format.specs.declared.header.Header.{Header as LogHeader}
 use Rattle.psi_log_format.specs.Log.{LogRegion, Entry, Certificate}
 use Rattle.std.proofs.lemmas.Bool.{lt-leb}
@@ -18,7 +18,7 @@ use Rattle.psi_log.specs.Cursor.{Cursor, next_of, begun, log_of, left_of}
 use Rattle.psi_log.proofs.PassLemmas.{read_begun}
 use Rattle.psi_log.proofs.FrontLemmas.{next_front}
 use Rattle.psi_log.proofs.ToldLemmas.{same_region}
-use Rattle.psi_replay.specs.Verdict.{rejected, is_within, holds_all, judge_step, judge_steps, judge_end, judged, verdict_of}
+use Rattle.psi_replay.specs.Verdict.{rejected, is_within, holds_all, judge_step, judge_steps, judge_end, judged, event_numbers, verdict_of}
 use Rattle.psi_replay.specs.declared.answers.Verdict.{Verdict}
 use Rattle.psi_replay.specs.declared.answers.Verdict.TheVariants.{Accepted}
 use Rattle.psi_replay.specs.declared.causes.RuleCause.TheVariants.{Header, OutsideBox, NotCovered}
@@ -26,7 +26,7 @@ use Rattle.psi_replay.specs.declared.causes.Rejection.{Rejection}
 use Rattle.psi_log_format.specs.Listed.{shown}
 use Rattle.psi_replay.specs.Judging.{Gives, region_before}
 use Rattle.psi_replay.specs.declared.judging.StepLine.{StepLine}
-use Rattle.psi_replay.specs.Passes.{told, and_then, lines_end, judge_begin, lines_left, told_log, verdict_left, replayed}
+use Rattle.psi_replay.specs.Passes.{told, and_then, lines_end, judge_begin, lines_left, told_log, left_with, verdict_left, replayed}
 
 -- what is told of a judging is what it gives
 pub told_is : {X : Type 0} (result : Result X Rejection) (rules : Result (Unit {0}) Refusal) → Gives (λ (x : X). tt) result rules → rules ≡ told result
@@ -188,13 +188,13 @@ module _ (caps : List ℕ) (limit : ℕ) (events : ℕ → ℕ) (f : Functions) 
   unfolding verdict_left
   left_over done region text before all = rw (lines_over caps limit events f h (h.horizon - done) (7 + done) region text before (omega arith)) refl
 
-  pub left_ends : (done : ℕ) (region : LogRegion) (text final : List ℕ) (before result : Result (Unit {0}) Refusal) → done ≡ h.horizon → ended h text ≡ Ok final
+  left_ends : (done : ℕ) (region : LogRegion) (text final : List ℕ) (before result : Result (Unit {0}) Refusal) → done ≡ h.horizon → ended h text ≡ Ok final
       → and_then before (judge_end (7 + h.horizon) region final) ≡ result → verdict_left caps limit events f h done region text before ≡ Ok (verdict_of (told_log h final) result)
   left_ends done region text final before result all end judges =
       left_over done region text before all ∙ rw end (ap (λ (r : Result (Unit {0}) Refusal). Ok (verdict_of (told_log h final) r))
       (bind_bind before (λ _. Ok region) (λ (last : LogRegion). judge_end (7 + h.horizon) last final) ∙ judges))
 
-  pub left_end_fails : (done : ℕ) (region : LogRegion) (text : List ℕ) (before : Result (Unit {0}) Refusal) (error : LogError) → done ≡ h.horizon → IsLogError error (ended h text)
+  left_end_fails : (done : ℕ) (region : LogRegion) (text : List ℕ) (before : Result (Unit {0}) Refusal) (error : LogError) → done ≡ h.horizon → IsLogError error (ended h text)
       → IsLogError error (verdict_left caps limit events f h done region text before)
   left_end_fails done region text before OutOfMemory all fails = tt
   left_end_fails done region text before (Refused l cause) all fails = left_over done region text before all ∙ rw fails refl
@@ -233,10 +233,39 @@ module _ (caps : List ℕ) (limit : ℕ) (events : ℕ → ℕ) (f : Functions) 
       (next_is (Err (record { line = l; cause = cause })) header place fails) (omega arith)) refl
 
 -- where no more text comes
-pub with_none : {A : Type 0} (old new : List ℕ → A) (from to : List ℕ) → ((more : List ℕ) → old (from ++ more) ≡ new (to ++ more)) → old from ≡ new to
+with_none : {A : Type 0} (old new : List ℕ → A) (from to : List ℕ) → ((more : List ℕ) → old (from ++ more) ≡ new (to ++ more)) → old from ≡ new to
 with_none old new from to same = ap old (sym (append-nil from)) ∙ same [] ∙ ap new (append-nil to)
 
 -- what is refused is refused by another name
-pub refused_as : {A : Type 0} (error : LogError) (whole r : Result A Refusal) → whole ≡ r → IsLogError error r → IsLogError error whole
+refused_as : {A : Type 0} (error : LogError) (whole r : Result A Refusal) → whole ≡ r → IsLogError error r → IsLogError error whole
 refused_as (Refused l cause) whole r same fails = same ∙ fails
 refused_as OutOfMemory whole r same fails = tt
+
+-- lines that were read and judged, whatever text comes after them: what is left after them says what was left before
+module _ {E : Type 0} (function : E → List ℕ → List ℕ) (system : SystemParts E) (words : ℕ → ℕ) (old new : Cursor) (before judged : Result (Unit {0}) Rejection)
+    (left : (more : List ℕ) → left_with function system words old (old.rest ++ more) before ≡ left_with function system words new (new.rest ++ more) judged) where
+  left_same : left_with function system words old old.rest before ≡ left_with function system words new new.rest judged
+  left_same =
+      with_none (λ (t : List ℕ). left_with function system words old t before) (λ (t : List ℕ). left_with function system words new t judged) old.rest new.rest left
+
+  pub left_refused : (read : Result (Unit {0}) LogError) (error : LogError) → read ≡ Err error
+      → IfErr read (λ why. IsLogError why (left_with function system words new new.rest judged)) → IsLogError error (left_with function system words old old.rest before)
+  left_refused read error is refused =
+      refused_as error _ _ left_same (subst (λ (r : Result (Unit {0}) LogError). IfErr r (λ why. IsLogError why (left_with function system words new new.rest judged))) is refused)
+
+  -- after the last step, where its line is the next one
+  module _ (read : Result (Unit {0}) LogError) (is : read ≡ Ok tt) (whole : OnOk read (new.done ≡ new.header.horizon)) where
+    all_done : new.done ≡ new.header.horizon
+    all_done = subst (λ (r : Result (Unit {0}) LogError). OnOk r (new.done ≡ new.header.horizon)) is whole
+
+    pub end_refused : (error : LogError) → IsLogError error (ended new.header new.rest) → IsLogError error (left_with function system words old old.rest before)
+    end_refused error fails =
+        refused_as error _ _ left_same (left_end_fails system.caps system.limit (event_numbers system words) (system_functions function system words) new.header new.done new.region new.rest
+        (told judged) error all_done fails)
+
+    pub end_judged : (final : List ℕ) (result : Result (Unit {0}) Refusal) → ended new.header new.rest ≡ Ok final
+        → and_then (told judged) (judge_end (7 + new.header.horizon) new.region final) ≡ result
+        → left_with function system words old old.rest before ≡ Ok (verdict_of (told_log new.header final) result)
+    end_judged final result end judges =
+        left_same ∙ left_ends system.caps system.limit (event_numbers system words) (system_functions function system words) new.header new.done new.region new.rest final (told judged) result
+        all_done end judges
