@@ -31,22 +31,6 @@ fn holds_image<E: EventLaw>(
     holds(after, x, next)
 }
 
-// As `holds_image`, of a set.
-#[inline]
-fn set_holds_image<E: EventLaw>(
-    event: &E,
-    x: &mut State,
-    after: &Rows<'_>,
-    next: &mut usize,
-) -> bool
-    requires state { IsBelow x.old (E.capacities event.now) }
-    requires after { IsSet (length (E.capacities event.now)) after.now.states }
-    ensures { result ≡ has after.now.states (E.function event.now x.old) }
-{
-    event.apply(x);
-    set_holds(after, x, next)
-}
-
 // Whether a region holds what the event makes of each state of a box.
 fn covers_box<E: EventLaw>(event: &E, before: &Bounds, after: &BorrowedRegion<'_>) -> bool
     requires before { IsBelow before.now.hi (E.capacities event.now) }
@@ -114,7 +98,8 @@ fn set_covers_set<E: EventLaw>(event: &E, before: &Rows<'_>, after: &Rows<'_>) -
     let mut x = State::zero(1);
     for place in 0..from.len() {
         from.get_onto(place, &mut x);
-        if !set_holds_image(event, &mut x, &to, &mut next) {
+        event.apply(&mut x);
+        if !set_holds(&to, &x, &mut next) {
             return false;
         }
     }
