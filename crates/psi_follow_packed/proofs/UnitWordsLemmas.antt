@@ -1,8 +1,8 @@
 -- The words of the corners of the tight box around what an event of single customers makes of a box.
-use Rattle.std.specs.Prelude.{◌≡◌, ℕ, ◌+◌, ◌-◌, ◌*◌, ◌/◌, ◌%◌, ◌^◌, ◌<◌, ◌≤◌, min, ◌⊎◌, List, length, map, replicate, slice_index, slice_index_or, bit_and, refl}
+use Rattle.std.specs.Prelude.{◌≡◌, ℕ, ◌+◌, ◌-◌, ◌*◌, ◌/◌, ◌%◌, ◌^◌, ◌<◌, ◌≤◌, min, ◌⊎◌, ◌↔◌, Bool, true, false, IsTrue, List, length, map, replicate, slice_index, slice_index_or, bit_and, refl}
 use Rattle.std.proofs.Common.{inl, inr, ap, ap₂, sym, subst, ◌∙◌, arith, pow_pos}
 use Rattle.std.proofs.Math.Nat.{mod-eq_of_lt}
-use Rattle.std.proofs.lemmas.Bool.{cases_lt, cases_eq}
+use Rattle.std.proofs.lemmas.Bool.{cases_lt, cases_eq, true≢false}
 use Rattle.std.proofs.lemmas.List.{get_or_past, get_or-replicate, length-replicate}
 use Rattle.std.proofs.lemmas.Grind.{same_number_lists}
 use Rattle.std.specs.Int.Bits.{and_zero_r}
@@ -165,7 +165,7 @@ module _ (count : ℕ) (p : Packing) (f : Function) (m : UnitMasks) (unit : IsUn
     step-at q small =
         (corners.ordered.each q (omega (arith, small, lower.same_length)), corners.within.each q (omega (arith, small, corners.within.same_length)))
 
-    pub can-or_misses : CanMoveAll (unit_rule p.caps unit.pieces) lo hi ⊎ MissesSome (unit_rule p.caps unit.pieces) lo hi
+    can-or_misses : CanMoveAll (unit_rule p.caps unit.pieces) lo hi ⊎ MissesSome (unit_rule p.caps unit.pieces) lo hi
     can-or_misses =
         let found = all_or_some (λ q. (slice_index lo q ≤ c q - u q) × (d q ≤ slice_index hi q)) (λ q. (slice_index hi q < d q) ⊎ (c q - u q < slice_index lo q)) (length p.caps) can-at in
         elim found [
@@ -190,7 +190,7 @@ module _ (count : ℕ) (p : Packing) (f : Function) (m : UnitMasks) (unit : IsUn
     long-downs : length m.downs ≡ count
     long-downs = ap (λ (l : List ℕ). length l) unit.downs ∙ length-packed count p unit.pieces.first.downs
 
-    pub can-passes : CanMoveAll (unit_rule p.caps unit.pieces) lo hi → Passes
+    can-passes : CanMoveAll (unit_rule p.caps unit.pieces) lo hi → Passes
     can-passes can = (
       same_number_lists full_words (replicate count 0) (long ∙ sym (length-replicate {A = ℕ} count 0))
           (λ w small. (let within : w < count = omega (arith, small, long) in
@@ -216,7 +216,7 @@ module _ (count : ℕ) (p : Packing) (f : Function) (m : UnitMasks) (unit : IsUn
           | inr past ↦ omega (arith, past-down q past)
         ]
 
-    pub misses-not : MissesSome (unit_rule p.caps unit.pieces) lo hi → Passes → ⊥
+    misses-not : MissesSome (unit_rule p.caps unit.pieces) lo hi → Passes → ⊥
     misses-not missed passes = elim missed.out [
       | inl empty ↦
           (let q = missed.queue in
@@ -236,6 +236,31 @@ module _ (count : ℕ) (p : Packing) (f : Function) (m : UnitMasks) (unit : IsUn
           let nothing : full lo q ≡ 0 = fields-none count p unit.packing (full lo) full_words (full-units lo lower) (full-fields lo lower low full_words corners.low ups)
           (λ w within. ap (λ (l : List ℕ). slice_index l w) passes.0 ∙ get_or-replicate count w 0 0 within) q missed.place in
           omega (arith, nothing, filled, step.0, step.1))
+    ]
+
+  -- so the test of the words of the corners tells which of the two it is
+  module _ (lo hi low high low_words high_words full_words busy_words : List ℕ) (corners : AreCorners count p low high lo hi) (low_is : low_words ≡ low) (high_is : high_words ≡ high)
+      (long : length full_words ≡ count) (longer : length busy_words ≡ count) (ups : AreUps count m low_words m.ups full_words) (downs : AreUps count m high_words m.downs busy_words)
+      (b : Bool) (tells : IsTrue b ↔ ((full_words ≡ replicate count 0) × (busy_words ≡ m.downs) → ⊥)) where
+    low-ups : AreUps count m low m.ups full_words
+    low-ups = subst (λ (l : List ℕ). AreUps count m l m.ups full_words) low_is ups
+
+    high-downs : AreUps count m high m.downs busy_words
+    high-downs = subst (λ (l : List ℕ). AreUps count m l m.downs busy_words) high_is downs
+
+    found : CanMoveAll (unit_rule p.caps unit.pieces) lo hi ⊎ MissesSome (unit_rule p.caps unit.pieces) lo hi
+    found = can-or_misses lo hi low high full_words busy_words corners long longer low-ups high-downs
+
+    pub told-misses : b ≡ true → MissesSome (unit_rule p.caps unit.pieces) lo hi
+    told-misses is = elim found [
+      | inl can ↦ absurd (tells.0 is (can-passes lo hi low high full_words busy_words corners long longer low-ups high-downs can))
+      | inr missed ↦ missed
+    ]
+
+    pub told-can : b ≡ false → CanMoveAll (unit_rule p.caps unit.pieces) lo hi
+    told-can is = elim found [
+      | inl can ↦ can
+      | inr missed ↦ absurd (true≢false (sym (tells.1 (misses-not lo hi low high full_words busy_words corners long longer low-ups high-downs missed)) ∙ is))
     ]
 
   -- ---- the corners of the tight box

@@ -1,5 +1,4 @@
-use Rattle.std.proofs.Common.{ℕ, List, inl, inr, ◌∙◌, sym, subst}
-use Rattle.std.proofs.lemmas.Bool.{true≢false}
+use Rattle.std.proofs.Common.{ℕ, List, sym, subst}
 use Rattle.psi_state.specs.State.{box}
 use Rattle.psi_state.specs.Sets.{image}
 use Rattle.psi_state.specs.Hull.{corners}
@@ -7,40 +6,23 @@ use Rattle.psi_follow_packed.specs.UnitEvents.{unit_masks}
 use Rattle.psi_follow_packed.specs.Views.{low_words, high_words}
 use Rattle.psi_follow_packed.specs.Boxes.{AreCorners}
 use Rattle.psi_follow_packed.specs.Inner.FillingKept.{AreSums}
-use Rattle.psi_guard.specs.Envelope.{CanMoveAll}
-use Rattle.psi_follow_packed.proofs.UnitRulesLemmas.{unit_rule}
-use Rattle.psi_follow_packed.proofs.UnitWordsLemmas.{AreUps, can-or_misses, can-passes, misses-not, stays, passes}
+use Rattle.psi_follow_packed.proofs.UnitWordsLemmas.{AreUps, told-misses, told-can, stays, passes}
 use Rattle.psi_follow_packed.proofs.unit_events.UnitEvent.enclose.Goals as goal
 
 pub returns-then-misses : goal.returns-then-misses
 returns-then-misses g c = λ p f unit lo hi begun.
     let m = unit_masks {K = g.row.K} c.args.self.now in
-    let low = low_words c.args.x.now in
-    let high = high_words c.args.x.now in
-    let full = c.up_in.result.words in
-    let busy = c.up_in-2.result.words in
-    let ups = subst (λ (l : List ℕ). AreUps g.row.K m l m.ups full) c.low-low.ensures c.up_in.ensures.each in
-    let downs = subst (λ (l : List ℕ). AreUps g.row.K m l m.downs busy) c.high-high.ensures c.up_in-2.ensures.each in
-    stays g.row.K p f m unit lo hi low high begun
-    (elim (can-or_misses g.row.K p f m unit lo hi low high full busy begun c.up_in.ensures.long c.up_in-2.ensures.long ups downs) [
-      | inl can ↦ absurd (c.misses.ensures.0 c.if-misses.true (can-passes g.row.K p f m unit lo hi low high full busy begun c.up_in.ensures.long c.up_in-2.ensures.long ups downs can))
-      | inr missed ↦ missed
-    ])
+    stays g.row.K p f m unit lo hi (low_words c.args.x.now) (high_words c.args.x.now) begun
+    (told-misses g.row.K p f m unit lo hi (low_words c.args.x.now) (high_words c.args.x.now) _ _ c.up_in.result.words c.up_in-2.result.words begun c.low-low.ensures c.high-high.ensures
+    c.up_in.ensures.long c.up_in-2.ensures.long c.up_in.ensures.each c.up_in-2.ensures.each c.misses.result c.misses.ensures c.if-misses.true)
 
 pub returns : goal.returns
 returns g c = λ p f unit lo hi begun.
     let m = unit_masks {K = g.row.K} c.args.self.now in
     let low = low_words c.args.x.now in
     let high = high_words c.args.x.now in
-    let full = c.up_in.result.words in
-    let busy = c.up_in-2.result.words in
-    let ups = subst (λ (l : List ℕ). AreUps g.row.K m l m.ups full) c.low-low.ensures c.up_in.ensures.each in
-    let downs = subst (λ (l : List ℕ). AreUps g.row.K m l m.downs busy) c.high-high.ensures c.up_in-2.ensures.each in
-    let can : CanMoveAll (unit_rule p.caps unit.pieces) lo hi = elim (can-or_misses g.row.K p f m unit lo hi low high full busy begun c.up_in.ensures.long c.up_in-2.ensures.long ups downs) [
-      | inl can ↦ can
-      | inr missed ↦ absurd (true≢false (sym (c.misses.ensures.1 (misses-not g.row.K p f m unit lo hi low high full busy begun c.up_in.ensures.long c.up_in-2.ensures.long ups downs missed))
-          ∙ c.if-misses.false))
-    ] in
+    let can = told-can g.row.K p f m unit lo hi low high _ _ c.up_in.result.words c.up_in-2.result.words begun c.low-low.ensures c.high-high.ensures
+    c.up_in.ensures.long c.up_in-2.ensures.long c.up_in.ensures.each c.up_in-2.ensures.each c.misses.result c.misses.ensures c.if-misses.false in
     let b = corners (image f (box lo hi)) in
     subst (λ (l : List ℕ). AreCorners g.row.K p l (high_words c.of.result) b.lo b.hi) (sym c.of.ensures.low)
     (subst (λ (h : List ℕ). AreCorners g.row.K p c.difference-low_after.result.words h b.lo b.hi) (sym c.of.ensures.high)
