@@ -210,22 +210,10 @@ module _ (caps : List ℕ) (p : Piecewise) (f : List ℕ → List ℕ) (does : D
       -- where no other queue stops it
       module _ (alone : OtherLeaves (unit_rule caps p) lo hi q → ⊥) where
         pub low-alone : IsLow (unit_rule caps p) lo hi q (l q + u q - min (d q) (l q))
-        low-alone =
-            let is = open-at in
-            record {
-              moved = λ _. omega arith;
-              kept = λ v from to keep. elim keep [ inl other ↦ absurd (alone other) | inr out ↦ elim out [ inl under ↦ omega arith | inr over ↦ omega arith ] ];
-              reached = inl (can, omega arith);
-            }
+        low-alone = (let is = open-at in grind (arith, alone, can))
 
         pub high-alone : IsHigh (unit_rule caps p) lo hi q (h q + u q - (u q - (c q - h q) + d q))
-        high-alone =
-            let is = open-at in
-            record {
-              moved = λ _. omega arith;
-              kept = λ v from to keep. elim keep [ inl other ↦ absurd (alone other) | inr out ↦ elim out [ inl under ↦ omega arith | inr over ↦ omega arith ] ];
-              reached = inl (can, omega arith);
-            }
+        high-alone = (let is = open-at in grind (arith, alone, can))
 
       -- where another one may
       module _ (other : OtherLeaves (unit_rule caps p) lo hi q) where
