@@ -1,4 +1,4 @@
-use Rattle.std.proofs.Common.{rules, ◌-◌, arith, ap, pow_pos, ◌∙◌}
+use Rattle.std.proofs.Common.{rules, ℕ, ◌-◌, ◌<◌, ◌^◌, length, slice_index, arith, ap, pow_pos, ◌∙◌}
 use Rattle.psi_follow_packed.specs.Packed.{packed}
 use Rattle.psi_follow_packed.specs.Moves.{guard}
 use Rattle.psi_follow_packed.proofs.WordsLemmas.{below-guard, twice-guard}
@@ -10,22 +10,11 @@ overflow_sub-guard g c =
     omega (arith, c.get.ensures, c.guard-guard.ensures.value, below-guard g.row.K c.args.self.now c.args.bounds.now c.guard-guard.ensures.valid c.requires c.loop-queue.queue)
 
 pub pack_numbers-requires : goal.pack_numbers-requires
-pack_numbers-requires g c = (
-  search rules,
-  (
-    search rules,
-    (
-      omega (arith, c.loop-queue.invariant.long, c.requires.same_length),
-      λ q small.
-          omega (
-            arith,
-            c.loop-queue.invariant.each q (omega (arith, c.loop-queue.invariant.long, c.len-queue-end.ensures.value)),
-            twice-guard c.args.self.now.bits (omega (arith, c.guard-guard.ensures.valid.least)),
-            pow_pos (c.args.self.now.bits - 1),
-          ),
-    ),
-  ),
-)
+pack_numbers-requires g c =
+    let some = twice-guard c.args.self.now.bits (omega (arith, c.guard-guard.ensures.valid.least)) in
+    let fit : (q : ℕ) → q < length c.loop-queue.offsets → slice_index c.loop-queue.offsets q < 2 ^ c.args.self.now.bits = λ q small.
+    omega (arith, c.loop-queue.invariant.each q (omega (arith, c.loop-queue.invariant.long, c.len-queue-end.ensures.value)), some, pow_pos (c.args.self.now.bits - 1)) in
+    (search rules, (search rules, (omega (arith, c.loop-queue.invariant.long, c.requires.same_length), fit)))
 
 pub returns : goal.returns
 returns g c =
