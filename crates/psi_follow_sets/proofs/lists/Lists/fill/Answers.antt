@@ -1,6 +1,4 @@
-use Rattle.std.specs.Vec.{with_items}
-use Rattle.std.proofs.Common.{◌≡◌, List, ℕ, length, map, take, ap, sym, subst, ◌∙◌, arith, rules}
-use Rattle.std.proofs.lemmas.List.{with_items_is, length-take-le}
+use Rattle.std.proofs.Common.{List, ℕ, length, map, take, ap, sym, subst, ◌∙◌, arith, rules}
 use Rattle.psi_state.specs.State.{box}
 use Rattle.psi_state.specs.Ascending.{HaveSame}
 use Rattle.psi_state.proofs.BoxesLemmas.{In-of_box, below-through}
@@ -9,6 +7,7 @@ use Rattle.psi_follow_packed.specs.declared.layout.Packed.{Packed}
 use Rattle.psi_follow_packed.specs.declared.pairs.PackedPair.{PackedPair}
 use Rattle.psi_follow_sets.specs.Inner.HalvesKept.{halves, words_of_first}
 use Rattle.psi_follow_sets.proofs.HalvingLemmas.{same-again}
+use Rattle.psi_follow_sets.proofs.RoomLemmas.{made-items, made-count, made-front}
 use Rattle.psi_follow_sets.proofs.lists.Lists.fill.Goals as goal
 
 pub pack_box-count-requires : goal.pack_box-count-requires
@@ -18,14 +17,9 @@ pack_box-count-requires g c =
 
 pub pair_up-self-requires : goal.pair_up-self-requires
 pair_up-self-requires g c =
-    let own = c.args.self.now in
-    let out = c.pack_box-count.new.out in
-    let n = c.pack_box-count.result in
-    let states = c.deref.ensures.value ∙ with_items_is own.states out (c.pack_box-count.auto.out ∙ c.as_mut_slice.ensures.len) in
-    let long = ap (λ (xs : List (Packed g.row.K)). length xs) states in
-    let outs = ap (λ (xs : List (Packed g.row.K)). length xs) c.as_mut_slice.ensures.value in
     let pairs = ap (λ (ps : List (PackedPair g.row.K)). length ps) c.as_mut_slice-2.ensures.value in
-    let front = length-take-le n c.deref.result.now (omega (arith, long, outs, c.pack_box-count.ensures.room, c.pack_box-count.ensures.count, c.requires.room)) in (
+    let front = made-front c.args.self.now.states c.pack_box-count.new.out c.as_mut_slice.result.now c.pack_box-count.auto.out c.as_mut_slice.ensures.len c.as_mut_slice.ensures.value
+    c.deref.result.now c.pack_box-count.result c.deref.ensures.value (omega (arith, c.pack_box-count.ensures.count, c.requires.room)) in (
       let words = c.requires.lists.words in search rules,
       (
         let words = c.requires.lists.words in search rules,
@@ -40,44 +34,33 @@ returns-clause-holds g c =
     let list = c.pair_up-self.new.list in
     let out = c.pack_box-count.new.out in
     let n = c.pack_box-count.result in
-    let states = c.deref.ensures.value ∙ with_items_is own.states out (c.pack_box-count.auto.out ∙ c.as_mut_slice.ensures.len) in
+    let states = c.deref.ensures.value ∙ made-items own.states out c.as_mut_slice.result.now c.pack_box-count.auto.out c.as_mut_slice.ensures.len c.as_mut_slice.ensures.value in
     let whole = map (packed g.row.K c.args.program.now.packing) (box bounds.lo bounds.hi) in
     let paired : HaveSame (halves (take c.pair_up-self.result list)) (words_of_first n out) =
     same-again out c.deref.result.now n (halves (take c.pair_up-self.result list)) states c.pair_up-self.ensures.members in
     record {
       same = subst (λ (ps : List (PackedPair g.row.K)). HaveSame (halves (take c.pair_up-self.result ps)) whole)
-          (sym (with_items_is own.pairs list (c.pair_up-self.auto.list ∙ c.as_mut_slice-2.ensures.len)))
+          (sym (made-items own.pairs list c.as_mut_slice-2.result.now c.pair_up-self.auto.list c.as_mut_slice-2.ensures.len c.as_mut_slice-2.ensures.value))
           (subst (λ (ws : List (List ℕ)). HaveSame (halves (take c.pair_up-self.result list)) ws) c.pack_box-count.ensures.words paired);
       below = λ x member. below-through x bounds.hi c.args.program.now.packing.caps (In-of_box bounds.lo bounds.hi x member).high c.requires.within;
     }
 
 pub returns-clause-some : goal.returns-clause-some
 returns-clause-some g c =
-    let own = c.args.self.now in
-    let out = c.pack_box-count.new.out in
-    let n = c.pack_box-count.result in
-    let states = c.deref.ensures.value ∙ with_items_is own.states out (c.pack_box-count.auto.out ∙ c.as_mut_slice.ensures.len) in
-    let long = ap (λ (xs : List (Packed g.row.K)). length xs) states in
-    let outs = ap (λ (xs : List (Packed g.row.K)). length xs) c.as_mut_slice.ensures.value in
-    let front = length-take-le n c.deref.result.now (omega (arith, long, outs, c.pack_box-count.ensures.room, c.pack_box-count.ensures.count, c.requires.room)) in
+    let front = made-front c.args.self.now.states c.pack_box-count.new.out c.as_mut_slice.result.now c.pack_box-count.auto.out c.as_mut_slice.ensures.len c.as_mut_slice.ensures.value
+    c.deref.result.now c.pack_box-count.result c.deref.ensures.value (omega (arith, c.pack_box-count.ensures.count, c.requires.room)) in
     omega (arith, front, c.pack_box-count.ensures.some, c.pair_up-self.ensures.count)
 
 pub returns-clause-lists : goal.returns-clause-lists
 returns-clause-lists g c =
     let own = c.args.self.now in
     let before = c.requires.lists in
-    let list = c.pair_up-self.new.list in
     let out = c.pack_box-count.new.out in
-    let pairs_of = λ (ps : List (PackedPair g.row.K)). length ps in
-    let states_of = λ (xs : List (Packed g.row.K)). length xs in
-    let pairs : length (with_items own.pairs list).items ≡ length own.pairs.items =
-    ap pairs_of (with_items_is own.pairs list (c.pair_up-self.auto.list ∙ c.as_mut_slice-2.ensures.len)) ∙ c.pair_up-self.auto.list ∙ ap pairs_of c.as_mut_slice-2.ensures.value in
-    let states : length (with_items own.states out).items ≡ length own.states.items =
-    ap states_of (with_items_is own.states out (c.pack_box-count.auto.out ∙ c.as_mut_slice.ensures.len)) ∙ c.pack_box-count.auto.out ∙ ap states_of c.as_mut_slice.ensures.value in
-    let n = c.pack_box-count.result in
-    let long = ap states_of (c.deref.ensures.value ∙ with_items_is own.states out (c.pack_box-count.auto.out ∙ c.as_mut_slice.ensures.len)) in
-    let outs = ap states_of c.as_mut_slice.ensures.value in
-    let front = length-take-le n c.deref.result.now (omega (arith, long, outs, c.pack_box-count.ensures.room, c.pack_box-count.ensures.count, c.requires.room)) in
+    let given = c.as_mut_slice.result.now in
+    let pairs = made-count own.pairs c.pair_up-self.new.list c.as_mut_slice-2.result.now c.pair_up-self.auto.list c.as_mut_slice-2.ensures.len c.as_mut_slice-2.ensures.value in
+    let states = made-count own.states out given c.pack_box-count.auto.out c.as_mut_slice.ensures.len c.as_mut_slice.ensures.value in
+    let front = made-front own.states out given c.pack_box-count.auto.out c.as_mut_slice.ensures.len c.as_mut_slice.ensures.value
+    c.deref.result.now c.pack_box-count.result c.deref.ensures.value (omega (arith, c.pack_box-count.ensures.count, c.requires.room)) in
     record {
       words = before.words;
       small = omega (arith, before.small, states);
