@@ -129,12 +129,13 @@ runs-over count p functions numbers split from low high low_after high_after lef
     }
 
 -- a run through the first numbers is one of their events
-pub left-run : (count : ℕ) (p : Prepared) (caps : List ℕ) (functions : List Function) (numbers : List ℕ) (halts : List Bool) (split : ℕ) (low high low_after high_after : List ℕ)
-    (left place : ℕ) → Prepares count caps functions p → AreMonotoneUnhalted caps functions halts → AreEvents (length functions) numbers → left ≤ length numbers
-    → place ≤ length (take left numbers) → FollowsBox count p (take left numbers) halts split low high low_after high_after place
+pub left-run : (count : ℕ) (p : Prepared) (caps : List ℕ) (functions : List Function) (numbers : List ℕ) (halts given : List Bool) (split : ℕ) (low high low_after high_after : List ℕ)
+    (left place : ℕ) → Prepares count caps functions p → AreMonotoneUnhalted caps functions halts → given ≡ halts → AreEvents (length functions) numbers → left ≤ length numbers
+    → place ≤ length (take left numbers) → FollowsBox count p (take left numbers) given split low high low_after high_after place
     → RunsCorners count p.packing functions (take left numbers) split low high low_after high_after place
-left-run count p caps functions numbers halts split low high low_after high_after left place prepared monotone events few within follows =
-    boxes-run count p caps functions (take left numbers) halts split low high low_after high_after place prepared monotone
+left-run count p caps functions numbers halts given split low high low_after high_after left place prepared monotone same events few within follows =
+    boxes-run count p caps functions (take left numbers) given split low high low_after high_after place prepared
+    (subst (λ (hs : List Bool). AreMonotoneUnhalted caps functions hs) (sym same) monotone)
     (events-left (length functions) (length functions) left numbers events few refl) within follows
 
 -- and leads to a box

@@ -1,10 +1,9 @@
 -- Answers in the proof of `follow_until_few`.
-use Rattle.std.proofs.Common.{◌≡◌, ◌≤◌, ◌<◌, ◌-◌, List, Bool, map, take, length, slice_index, slice_index_or, rules, sym, subst, arith}
+use Rattle.std.proofs.Common.{◌≡◌, ◌≤◌, ◌<◌, ◌-◌, map, take, length, slice_index, slice_index_or, rules, subst, arith}
 use Rattle.std.proofs.lemmas.List.{length-take-le}
 use Rattle.psi_state.specs.State.{box}
 use Rattle.psi_state.specs.Sets.{image}
 use Rattle.psi_state.specs.Hull.{corners}
-use Rattle.psi_follow_packed.specs.Boxes.{AreMonotoneUnhalted}
 use Rattle.psi_follow_packed.specs.Views.{low_words, high_words}
 use Rattle.psi_follow_packed.proofs.DescendingLemmas.{many-told}
 use Rattle.psi_follow_sets.specs.Sets.{RunsCorners}
@@ -22,40 +21,27 @@ pub returns-then-left-eq0-clause-run : goal.returns-then-left-eq0-clause-run
 returns-then-left-eq0-clause-run g c = λ lo hi begun.
     let p = c.args.machine.now.program in
     let functions = map g.E.EventLaw.function c.args.course.now.events in
-    let numbers = c.args.numbers.now in
     let after = c.follow_while_many-left in
     let x = c.loop-left.x in
-    let machine = c.requires.machine in
-    let monotone = subst (λ (halts : List Bool). AreMonotoneUnhalted c.args.course.now.caps functions halts) (sym c.as_slice-halts.ensures.value) machine.monotone in
-    runs-through g.row.K p.packing functions numbers c.args.split (record { lo = lo; hi = hi }) (low_words x) (high_words x) (low_words after.new.x) (high_words after.new.x) c.loop-left.left after.result
-    (c.loop-left.invariant.run lo hi begun)
-    (left-run g.row.K p c.args.course.now.caps functions numbers c.as_slice-halts.result.now c.args.split (low_words x) (high_words x) (low_words after.new.x) (high_words after.new.x)
-    c.loop-left.left after.result machine.program monotone c.requires.numbers c.loop-left.invariant.few after.ensures.left after.ensures.run)
+    runs-through g.row.K p.packing functions c.args.numbers.now c.args.split (record { lo = lo; hi = hi }) (low_words x) (high_words x) (low_words after.new.x) (high_words after.new.x)
+    c.loop-left.left after.result (c.loop-left.invariant.run lo hi begun)
+    (left-run g.row.K p c.args.course.now.caps functions c.args.numbers.now c.args.machine.now.halts.items c.as_slice-halts.result.now c.args.split (low_words x) (high_words x)
+    (low_words after.new.x) (high_words after.new.x) c.loop-left.left after.result c.requires.machine.program c.requires.machine.monotone c.as_slice-halts.ensures.value c.requires.numbers
+    c.loop-left.invariant.few after.ensures.left after.ensures.run)
 
 pub enclose_event-requires : goal.enclose_event-requires
 enclose_event-requires g c =
     let p = c.args.machine.now.program in
     let functions = map g.E.EventLaw.function c.args.course.now.events in
-    let numbers = c.args.numbers.now in
     let after = c.follow_while_many-left in
     let x = c.loop-left.x in
-    let machine = c.requires.machine in
-    let monotone = subst (λ (halts : List Bool). AreMonotoneUnhalted c.args.course.now.caps functions halts) (sym c.as_slice-halts.ensures.value) machine.monotone in
-    let small : after.result ≤ length numbers = omega (arith, after.ensures.left, length-take-le c.loop-left.left numbers c.loop-left.invariant.few, c.loop-left.invariant.few) in (
-      search rules,
-      (
-        search rules,
-        (
-          machine,
-          (
-            c.requires.numbers.each (after.result - 1) (omega (arith, small, c.if-left-eq0.false)),
-            run-box g.row.K p.packing functions (take c.loop-left.left numbers) c.args.split (low_words x) (high_words x) (low_words after.new.x) (high_words after.new.x) after.result
-                (left-run g.row.K p c.args.course.now.caps functions numbers c.as_slice-halts.result.now c.args.split (low_words x) (high_words x) (low_words after.new.x) (high_words after.new.x)
-                c.loop-left.left after.result machine.program monotone c.requires.numbers c.loop-left.invariant.few after.ensures.left after.ensures.run) c.loop-left.invariant.corners,
-          ),
-        ),
-      ),
-    )
+    let small : after.result ≤ length c.args.numbers.now = omega (arith, after.ensures.left, length-take-le c.loop-left.left c.args.numbers.now c.loop-left.invariant.few, c.loop-left.invariant.few) in
+    let number = c.requires.numbers.each (after.result - 1) (omega (arith, small, c.if-left-eq0.false)) in
+    let boxed = run-box g.row.K p.packing functions (take c.loop-left.left c.args.numbers.now) c.args.split (low_words x) (high_words x) (low_words after.new.x) (high_words after.new.x) after.result
+    (left-run g.row.K p c.args.course.now.caps functions c.args.numbers.now c.args.machine.now.halts.items c.as_slice-halts.result.now c.args.split (low_words x) (high_words x)
+    (low_words after.new.x) (high_words after.new.x) c.loop-left.left after.result c.requires.machine.program c.requires.machine.monotone c.as_slice-halts.ensures.value c.requires.numbers
+    c.loop-left.invariant.few after.ensures.left after.ensures.run) c.loop-left.invariant.corners in
+    (search rules, (search rules, (c.requires.machine, (number, boxed))))
 
 pub loop-left-preserved : goal.loop-left-preserved
 loop-left-preserved g c =
@@ -68,10 +54,9 @@ loop-left-preserved g c =
     let low = low_words after.new.x in
     let high = high_words after.new.x in
     let machine = c.requires.machine in
-    let monotone = subst (λ (halts : List Bool). AreMonotoneUnhalted c.args.course.now.caps functions halts) (sym c.as_slice-halts.ensures.value) machine.monotone in
     let small : after.result ≤ length numbers = omega (arith, after.ensures.left, length-take-le c.loop-left.left numbers c.loop-left.invariant.few, c.loop-left.invariant.few) in
-    let run = left-run g.row.K p c.args.course.now.caps functions numbers c.as_slice-halts.result.now split (low_words x) (high_words x) low high
-    c.loop-left.left after.result machine.program monotone c.requires.numbers c.loop-left.invariant.few after.ensures.left after.ensures.run in
+    let run = left-run g.row.K p c.args.course.now.caps functions numbers c.args.machine.now.halts.items c.as_slice-halts.result.now split (low_words x) (high_words x) low high
+    c.loop-left.left after.result machine.program machine.monotone c.as_slice-halts.ensures.value c.requires.numbers c.loop-left.invariant.few after.ensures.left after.ensures.run in
     let b = run-box g.row.K p.packing functions (take c.loop-left.left numbers) split (low_words x) (high_words x) low high after.result run c.loop-left.invariant.corners in
     let f = slice_index_or functions (slice_index numbers (after.result - 1)) (λ z. z) in
     record {
