@@ -1,8 +1,8 @@
 -- A region that is followed through the events of the numbers that are kept ends with the states of the run over all places.
-use Rattle.std.specs.Prelude.{◌≡◌, ℕ, zero, suc, ◌-◌, ◌≤◌, List, [], ◌∷◌, ◌++◌, length, slice_index_or, map, ◌||◌, Bool, true, false, nat_le, if◌then◌else◌, refl}
-use Rattle.std.proofs.Common.{inl, inr, ap, sym, ◌∙◌, subst, arith}
-use Rattle.std.proofs.lemmas.Bool.{cases_lt, lt-ltb, le-ltb, true≢false}
-use Rattle.std.proofs.lemmas.List.{get_or_past, append-nil, length-map}
+use Rattle.std.specs.Prelude.{◌≡◌, ℕ, zero, suc, ◌-◌, ◌≤◌, List, [], ◌∷◌, length, map, ◌||◌, Bool, true, false, nat_le, refl}
+use Rattle.std.proofs.Common.{inl, inr, ap, sym, ◌∙◌, subst}
+use Rattle.std.proofs.lemmas.Bool.{true≢false}
+use Rattle.std.proofs.lemmas.List.{length-map}
 use Rattle.psi_state.specs.State.{zeros}
 use Rattle.psi_state.specs.Sets.{image}
 use Rattle.psi_state.specs.Hull.{lows, highs, hull}
@@ -13,20 +13,20 @@ use Rattle.psi_state.proofs.BoxesLemmas.{zeros-below, below-through}
 use Rattle.psi_event.specs.Law.{Function, IsClosed}
 use Rattle.psi_event.specs.Numbers.{AreEvents}
 use Rattle.psi_rate.specs.Rates.{event_of}
-use Rattle.psi_rate.specs.Composition.{SystemParts, function_at, picked, system_functions, AreClosed}
+use Rattle.psi_rate.specs.Composition.{SystemParts, function_at, AreClosed}
 use Rattle.psi_rate.specs.System.{IsSystem}
 use Rattle.psi_rate.proofs.FunctionsLemmas.{functions-closed}
 use Rattle.psi_region.specs.Region.{Area, start, splits, settled, next, step, IsArea}
 use Rattle.psi_region.specs.Followed.{Followed, follow_areas, states_of}
 use Rattle.psi_region.proofs.FollowedLemmas.{follow_areas-append}
 use Rattle.psi_region.proofs.RegionLemmas.{start-area, step-area, image-length, rested}
-use Rattle.psi_horizon.specs.Runs.{follow, region_at}
+use Rattle.psi_horizon.specs.Runs.{follow}
 use Rattle.psi_horizon.specs.Planned.{network_of}
 use Rattle.psi_horizon.specs.Inner.PlanKept.{IsRun}
 use Rattle.psi_rate.specs.Numbers.{numbers_below}
 use Rattle.psi_rate.specs.Keeping.{KeepsNumbers}
 use Rattle.psi_rate.specs.declared.numbers.EventNumbers.{EventNumbers}
-use Rattle.psi_rate.proofs.NumbersLemmas.{numbers-all, keeps-fewer}
+use Rattle.psi_rate.proofs.NumbersLemmas.{numbers-all, numbers-next, keeps-fewer}
 
 -- an unsplit region is its own hull
 abbrev IsOwnHull : Area → Type 0
@@ -69,26 +69,20 @@ numbers-follow : (split : ℕ) (caps : List ℕ) (functions : List Function) (ra
 numbers-follow split caps functions rates words zero a same closed is own = refl
 numbers-follow split caps functions rates words (suc t) a same closed is own =
     let f = function_at functions rates words in
-    let number = event_of rates (words t) in
     let before = numbers_below rates words t in
-    let place : suc t - 1 ≡ t = omega arith in
-    let now : f (suc t) ≡ slice_index_or functions number (λ x. x) = ap (λ n. picked functions rates (words n)) place in
-    elim (cases_lt number (length rates)) [
-      | inl small ↦
+    elim (numbers-next functions rates words t same) [
+      | inl taken ↦
           (let keeps = closed.each (suc t) in
           numbers-follow split caps functions rates words t (step split (f (suc t)) a) same closed (step-area split caps (f (suc t)) a keeps is)
           (step-own split caps (f (suc t)) a keeps is)
-          ∙ ap (λ (g : Function). (follow_areas split functions before (step split g a)).states) now
-          ∙ ap (λ (b : Area). b.states) (sym (follow_areas-append split functions before (number ∷ []) a))
-          ∙ ap (λ (b : Bool). (follow_areas split functions (before ++ (if b then number ∷ [] else [])) a).states) (sym (lt-ltb number (length rates) small)))
-      | inr past ↦
-          (let idle : slice_index_or functions number (λ x. x) ≡ (λ x. x) = get_or_past functions number (λ x. x) (omega (arith, same, past)) in
-          ap (λ (g : Function). (follow split f t (step split g a)).states) (now ∙ idle)
+          ∙ ap (λ (g : Function). (follow_areas split functions before (step split g a)).states) taken.1
+          ∙ ap (λ (b : Area). b.states) (sym (follow_areas-append split functions before (event_of rates (words t) ∷ []) a))
+          ∙ ap (λ (ns : List ℕ). (follow_areas split functions ns a).states) (sym taken.0))
+      | inr idle ↦ ap (λ (g : Function). (follow split f t (step split g a)).states) idle.1
           ∙ ap (λ (b : Area). (follow split f t b).states) (rested split a is.rising own)
           ∙ follow-settled split f t a
           ∙ numbers-follow split caps functions rates words t a same closed is own
-          ∙ ap (λ (ns : List ℕ). (follow_areas split functions ns a).states) (sym (append-nil before))
-          ∙ ap (λ (b : Bool). (follow_areas split functions (before ++ (if b then number ∷ [] else [])) a).states) (sym (le-ltb number (length rates) past)))
+          ∙ ap (λ (ns : List ℕ). (follow_areas split functions ns a).states) (sym idle.0)
     ]
 
 -- numbers that are kept are so by the same rates and words, and those of fewer places

@@ -1,12 +1,13 @@
 -- The numbers that are kept are those of the places, and how many there are.
-use Rattle.std.specs.Prelude.{◌≡◌, ℕ, zero, suc, ◌-◌, ◌+◌, ◌<◌, ◌≤◌, List, [], ◌∷◌, ◌++◌, length, slice_index, All, Bool, true, false, nat_lt, if◌then◌else◌}
-use Rattle.std.proofs.Common.{rules, ap, ap₂, sym, ◌∙◌, subst, take, arith}
-use Rattle.std.proofs.lemmas.Bool.{ltb-true}
-use Rattle.std.proofs.lemmas.List.{length-append, append_assoc, take-append-le}
+use Rattle.std.specs.Prelude.{◌≡◌, ℕ, zero, suc, ◌-◌, ◌+◌, ◌<◌, ◌≤◌, List, [], ◌∷◌, ◌++◌, length, slice_index, slice_index_or, ◌⊎◌, All, Bool, true, false, nat_lt, if◌then◌else◌}
+use Rattle.std.proofs.Common.{rules, inl, inr, ap, ap₂, sym, ◌∙◌, subst, take, arith}
+use Rattle.std.proofs.lemmas.Bool.{cases_lt, lt-ltb, le-ltb, ltb-true}
+use Rattle.std.proofs.lemmas.List.{length-append, append_assoc, append-nil, take-append-le, get_or_past}
 use Rattle.std.proofs.lemmas.List.Elements.{All-nil, All-cons, All-append}
 use Rattle.std.proofs.lemmas.Grind.{common_steps}
 use Rattle.psi_past.specs.Filled.{AreWordsFrom}
 use Rattle.psi_rate.specs.Rates.{event_of}
+use Rattle.psi_rate.specs.Composition.{function_at, picked}
 use Rattle.psi_rate.specs.declared.numbers.EventNumbers.{EventNumbers}
 use Rattle.psi_rate.specs.Numbers.{unless_idle, numbers_below}
 use Rattle.psi_rate.specs.Keeping.{KeepsNumbers}
@@ -83,3 +84,21 @@ numbers-prefix rates words horizon reached count items order kept counted =
 -- numbers with room for more places have room for fewer
 pub keeps-fewer : (rates : List ℕ) (words : ℕ → ℕ) (most few : ℕ) (numbers : EventNumbers) → KeepsNumbers rates words most numbers → few ≤ most → KeepsNumbers rates words few numbers
 keeps-fewer rates words most few numbers keeps less = search rules
+
+-- the number of a place stands after those before it, and the function is that of the number; or the place is idle: it has no number, and its function changes nothing
+pub numbers-next : (functions : List (List ℕ → List ℕ)) (rates : List ℕ) (words : ℕ → ℕ) (t : ℕ) → length rates ≡ length functions
+    → ((numbers_below rates words (suc t) ≡ numbers_below rates words t ++ event_of rates (words t) ∷ [])
+    × (function_at functions rates words (suc t) ≡ slice_index_or functions (event_of rates (words t)) (λ x. x)))
+    ⊎ ((numbers_below rates words (suc t) ≡ numbers_below rates words t) × (function_at functions rates words (suc t) ≡ (λ x. x)))
+numbers-next functions rates words t same =
+    let number = event_of rates (words t) in
+    let before = numbers_below rates words t in
+    let place : suc t - 1 ≡ t = omega arith in
+    let now : function_at functions rates words (suc t) ≡ slice_index_or functions number (λ x. x) = ap (λ n. picked functions rates (words n)) place in
+    elim (cases_lt number (length rates)) [
+      | inl small ↦ inl (ap (λ (b : Bool). before ++ (if b then number ∷ [] else [])) (lt-ltb number (length rates) small), now)
+      | inr past ↦ inr (
+        ap (λ (b : Bool). before ++ (if b then number ∷ [] else [])) (le-ltb number (length rates) past) ∙ append-nil before,
+        now ∙ get_or_past functions number (λ x. x) (omega (arith, same, past)),
+      )
+    ]
