@@ -130,21 +130,13 @@ fn fill(marks: &mut [Sums], first: u8, last: u8, sums: Sums)
 }
 
 // Marks the ends that are reached from the first queue over arcs that the rule allows, of the queues of the stretch: those
-// of its queues up to `start` are given.
-fn mark_before(
-    of: &Arcs,
-    spans: &[Span],
-    rule: &Rule,
-    stretch: Stretch,
-    first: Sums,
-    marks: &mut [Sums],
-)
+// of its queues up to `start` are marked.
+fn mark_before(of: &Arcs, spans: &[Span], rule: &Rule, stretch: Stretch, marks: &mut [Sums])
     requires room { length marks.old ≡ 33 }
     requires stretch { IsStretch of.now spans.now stretch }
-    requires begin { (l s v : ℕ) → stretch.low ≤ l → l ≤ stretch.start → Listed of.now.arcs l s v → (has first s ≡ true) ↔ Before (Only (Listed of.now.arcs) (Allows rule.now)) l s }
+    requires begin { MarkBefore (Listed of.now.arcs) (Only (Listed of.now.arcs) (Allows rule.now)) stretch.low stretch.start marks.old }
     ensures { MarkBefore (Listed of.now.arcs) (Only (Listed of.now.arcs) (Allows rule.now)) stretch.low stretch.high marks.new }
 {
-    fill(marks, stretch.low, stretch.start, first);
     for level in stretch.start..stretch.high {
         let own = marks[level as usize];
         let past = marks_past(of, level, spans[level as usize], rule.window(level), &own);
@@ -153,22 +145,13 @@ fn mark_before(
 }
 
 // Marks the ends from which the end past the last queue, with all customers, is reached over arcs that the rule
-// allows, past the queues of the stretch: those past its queues from `stop` on are given.
-fn mark_after(
-    of: &Arcs,
-    spans: &[Span],
-    rule: &Rule,
-    stretch: Stretch,
-    last: Sums,
-    marks: &mut [Sums],
-)
+// allows, past the queues of the stretch: those past its queues from `stop` on are marked.
+fn mark_after(of: &Arcs, spans: &[Span], rule: &Rule, stretch: Stretch, marks: &mut [Sums])
     requires room { length marks.old ≡ 33 }
     requires stretch { IsStretch of.now spans.now stretch }
-    requires begin { (l s v : ℕ) → stretch.stop ≤ l → l ≤ stretch.high → Listed of.now.arcs l s v
-        → (has last (s + v) ≡ true) ↔ After (Only (Listed of.now.arcs) (Allows rule.now)) of.now.levels of.now.total (suc l) (s + v) }
+    requires begin { MarkAfter (Listed of.now.arcs) (Only (Listed of.now.arcs) (Allows rule.now)) of.now.levels of.now.total stretch.stop stretch.high marks.old }
     ensures { MarkAfter (Listed of.now.arcs) (Only (Listed of.now.arcs) (Allows rule.now)) of.now.levels of.now.total stretch.low stretch.high marks.new }
 {
-    fill(marks, stretch.stop + 1, stretch.high + 1, last);
     let mut level = stretch.stop;
     while level > stretch.low {
         let own = marks[level as usize + 1];
@@ -207,8 +190,12 @@ impl Marks {
         ensures rule { self.new.rule ≡ rule }
         ensures marked { AreMarked (Listed of.now.arcs) of.now.levels of.now.total stretch.low stretch.high self.new }
     {
-        mark_before(of, spans, &rule, stretch, first, self.before.as_mut_slice());
-        mark_after(of, spans, &rule, stretch, last, self.after.as_mut_slice());
+        let before = self.before.as_mut_slice();
+        fill(before, stretch.low, stretch.start, first);
+        mark_before(of, spans, &rule, stretch, before);
+        let after = self.after.as_mut_slice();
+        fill(after, stretch.stop + 1, stretch.high + 1, last);
+        mark_after(of, spans, &rule, stretch, after);
         self.rule = rule;
     }
 

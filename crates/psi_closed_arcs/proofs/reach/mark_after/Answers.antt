@@ -1,18 +1,12 @@
 -- Answers in the proof of `mark_after`.
 use Rattle.std.proofs.Common.{◌+◌, [], arith}
 use Rattle.psi_closed_arcs.proofs.RowsLemmas.{read-default}
-use Rattle.psi_closed_arcs.proofs.MarkedLemmas.{ahead-begun, ahead-previous}
+use Rattle.psi_closed_arcs.proofs.MarkedLemmas.{ahead-previous}
 use Rattle.psi_closed_arcs.proofs.reach.mark_after.Goals as goal
 
 pub loop-level-init : goal.loop-level-init
 loop-level-init c =
-    let of = c.args.of.now in
-    record {
-      low = c.requires.stretch.low_stop;
-      high = c.requires.stretch.stop_high;
-      marked = ahead-begun of.arcs c.args.rule.now of.levels of.total c.requires.stretch.sized.ranged c.requires.stretch.sized.small c.args.stretch.stop c.args.stretch.high c.fill.new.marks c.args.last
-          c.fill.ensures c.requires.begin;
-    }
+    record { low = c.requires.stretch.low_stop; high = c.requires.stretch.stop_high; marked = c.requires.begin }
 
 pub loop-level-preserved : goal.loop-level-preserved
 loop-level-preserved c =

@@ -4,14 +4,8 @@ use Rattle.psi_closed_arcs.specs.Held.{Listed}
 use Rattle.psi_closed_arcs.specs.Joining.{Only}
 use Rattle.psi_closed_arcs.specs.Windows.{Allows, MarkBefore}
 use Rattle.psi_closed_arcs.proofs.RowsLemmas.{read-default}
-use Rattle.psi_closed_arcs.proofs.MarkedLemmas.{behind-begun, behind-next}
+use Rattle.psi_closed_arcs.proofs.MarkedLemmas.{behind-next}
 use Rattle.psi_closed_arcs.proofs.reach.mark_before.Goals as goal
-
-pub loop-level-init : goal.loop-level-init
-loop-level-init c =
-    let of = c.args.of.now in
-    behind-begun of.arcs c.args.rule.now of.levels of.total c.requires.stretch.sized.ranged c.requires.stretch.sized.small c.args.stretch.low c.args.stretch.start c.fill.new.marks c.args.first
-    c.fill.ensures c.requires.begin
 
 pub loop-level-preserved : goal.loop-level-preserved
 loop-level-preserved c =
