@@ -1,16 +1,15 @@
 -- A run over the numbers of the events, without those that are idle, is the closed run over all places.
-use Rattle.std.specs.Prelude.{◌≡◌, ℕ, zero, suc, ◌-◌, ◌≤◌, ◌<◌, List, [], ◌∷◌, ◌++◌, length, slice_index, slice_index_or, map, Bool, if◌then◌else◌, refl}
+use Rattle.std.specs.Prelude.{◌≡◌, ℕ, zero, suc, ◌-◌, ◌≤◌, ◌<◌, List, [], ◌∷◌, ◌++◌, length, slice_index, slice_index_or, map, refl}
 use Rattle.std.proofs.Common.{inl, inr, ap, sym, ◌∙◌, take, arith}
-use Rattle.std.proofs.lemmas.Bool.{cases_lt, lt-ltb, le-ltb}
-use Rattle.std.proofs.lemmas.List.{get_or_past, append-nil}
 use Rattle.std.proofs.Math.Seq.{take-suc}
 use Rattle.std.proofs.lemmas.Grind.{common_steps}
 use Rattle.psi_state.specs.Sets.{image, single}
 use Rattle.psi_kinds.specs.declared.moves.Move.{Move}
 use Rattle.psi_kinds.specs.Moves.{moved}
 use Rattle.psi_rate.specs.Rates.{event_of}
-use Rattle.psi_rate.specs.Composition.{function_at, picked}
+use Rattle.psi_rate.specs.Composition.{function_at}
 use Rattle.psi_rate.specs.Numbers.{numbers_below}
+use Rattle.psi_rate.proofs.NumbersLemmas.{numbers-next}
 use Rattle.psi_closed.specs.Closed.{total_states, arc_hull, IsHull, closed_after, closed_ending, follow_closed}
 use Rattle.psi_closed.proofs.HullLemmas.{total-hull, hull-hull, hull-rests}
 use Rattle.psi_closed.proofs.RunsLemmas.{run-begins}
@@ -32,24 +31,15 @@ module _ (caps : List ℕ) (k : ℕ) (functions : List (List ℕ → List ℕ)) 
   numbers-after rates words zero xs same hull = refl
   numbers-after rates words (suc t) xs same hull =
       let f = function_at functions rates words in
-      let number = event_of rates (words t) in
       let before = numbers_below rates words t in
-      let place : suc t - 1 ≡ t = omega arith in
-      let now : f (suc t) ≡ slice_index_or functions number (λ x. x) = ap (λ n. picked functions rates (words n)) place in
-      elim (cases_lt number (length rates)) [
-        | inl small ↦
-            (let next = arc_hull caps k (image (f (suc t)) xs) in
-            ap (λ (b : Bool). follow_closed caps k functions (before ++ (if b then number ∷ [] else [])) xs) (lt-ltb number (length rates) small)
-            ∙ follow_closed-append before (number ∷ []) xs
-            ∙ ap (λ (g : List ℕ → List ℕ). follow_closed caps k functions before (arc_hull caps k (image g xs))) (sym now)
-            ∙ numbers-after rates words t next same (hull-hull caps k (image (f (suc t)) xs)))
-        | inr past ↦
-            (let idle : slice_index_or functions number (λ x. x) ≡ (λ x. x) = get_or_past functions number (λ x. x) (omega (arith, same, past)) in
-            ap (λ (b : Bool). follow_closed caps k functions (before ++ (if b then number ∷ [] else [])) xs) (le-ltb number (length rates) past)
-            ∙ ap (λ (ns : List ℕ). follow_closed caps k functions ns xs) (append-nil before)
+      elim (numbers-next functions rates words t same) [
+        | inl taken ↦ ap (λ (ns : List ℕ). follow_closed caps k functions ns xs) taken.0
+            ∙ follow_closed-append before (event_of rates (words t) ∷ []) xs
+            ∙ ap (λ (g : List ℕ → List ℕ). follow_closed caps k functions before (arc_hull caps k (image g xs))) (sym taken.1)
+            ∙ numbers-after rates words t (arc_hull caps k (image (f (suc t)) xs)) same (hull-hull caps k (image (f (suc t)) xs))
+        | inr idle ↦ ap (λ (ns : List ℕ). follow_closed caps k functions ns xs) idle.0
             ∙ numbers-after rates words t xs same hull
-            ∙ ap (λ (ys : List (List ℕ)). closed_after caps k f t ys)
-            (sym (ap (λ (g : List ℕ → List ℕ). arc_hull caps k (image g xs)) (now ∙ idle) ∙ hull-rests caps k xs hull)))
+            ∙ ap (λ (ys : List (List ℕ)). closed_after caps k f t ys) (sym (ap (λ (g : List ℕ → List ℕ). arc_hull caps k (image g xs)) idle.1 ∙ hull-rests caps k xs hull))
       ]
 
   -- so it ends with one state exactly where that run does
