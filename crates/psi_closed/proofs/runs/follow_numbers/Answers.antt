@@ -30,14 +30,12 @@ loop-place-preserved c =
 pub returns-in-Some-clause-ending : goal.returns-in-Some-clause-ending
 returns-in-Some-clause-ending c =
     let d = c.args.diagram.now in
-    let moves = c.args.moves.now in
-    let numbers = c.args.numbers.now in
     let kept = c.loop-place.invariant in
     let place = c.loop-place.place in
-    let some : 1 ≤ place = c.loop-place-test.true in
     let caps_is : c.caps.result ≡ d.caps = c.caps.ensures ∙ kept.caps in
     let of : IsOfTotal d.caps d.total c.in-Some.state =
     subst (λ k. IsOfTotal d.caps k c.in-Some.state) kept.total (subst (λ (cs : List ℕ). IsOfTotal cs c.loop-place.diagram.total c.in-Some.state) kept.caps c.in-Some.ensures.within) in
-    walk-ending d.caps d.total moves numbers c.in-Some.state c.walk.result place (place - 1 + 1) c.loop-place.diagram.states
-    (follow_closed d.caps d.total (map (λ m. moved d.caps m) moves) numbers (total_states d.caps d.total)) c.requires.moves of c.in-Some.ensures.one kept.left (omega arith)
-    (c.walk.ensures ∙ ap (λ (cs : List ℕ). walk_of (map (λ m. moved cs m) moves) (take (place - 1 + 1) numbers) c.in-Some.state) caps_is)
+    walk-ending d.caps d.total c.args.moves.now c.args.numbers.now c.in-Some.state c.walk.result place (place - 1 + 1) c.loop-place.diagram.states
+    (follow_closed d.caps d.total (map (λ m. moved d.caps m) c.args.moves.now) c.args.numbers.now (total_states d.caps d.total)) c.requires.moves of c.in-Some.ensures.one kept.left
+    (omega (arith, c.loop-place-test.true))
+    (c.walk.ensures ∙ ap (λ (cs : List ℕ). walk_of (map (λ m. moved cs m) c.args.moves.now) (take (place - 1 + 1) c.args.numbers.now) c.in-Some.state) caps_is)
