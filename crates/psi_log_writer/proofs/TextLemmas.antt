@@ -2,13 +2,15 @@
 use Rattle.std.proofs.Common.{◌≡◌, ℕ, zero, suc, ◌+◌, ◌-◌, ◌<◌, ◌≤◌, List, [], ◌∷◌, ◌++◌, length, Bool, map, if◌then◌else◌, refl, sym, ◌∙◌, ap, subst, append_assoc, append-nil, arith}
 use Rattle.std.proofs.lemmas.Bool.{lt-ltb, le-ltb}
 use Rattle.psi_state.specs.State.{numbers_from}
-use Rattle.psi_rate.specs.Composition.{SystemParts}
+use Rattle.psi_rate.specs.Composition.{SystemParts, system_functions}
 use Rattle.psi_region.specs.Region.{start}
+use Rattle.psi_horizon.specs.Planned.{Planned}
 use Rattle.psi_horizon.specs.Runs.{region_after}
 use Rattle.psi_log_format.specs.declared.header.Header.{Header}
 use Rattle.psi_log_format.specs.Text.{header_text, begin_text, end_text, entries_text, log_text}
-use Rattle.psi_log_writer.specs.Recorded.{region_of, entry_after, recorded}
-use Rattle.psi_log_writer.specs.Walking.{step_line, front_text, most_held, line_at, text_before, line_in}
+use Rattle.psi_replay.specs.Verdict.{event_numbers}
+use Rattle.psi_log_writer.specs.Recorded.{region_of, entry_after, recorded, log_of}
+use Rattle.psi_log_writer.specs.Walking.{step_line, front_text, most_held, line_at, text_before, line_in, text_in}
 
 module _ (split : ℕ) (f : ℕ → List ℕ → List ℕ) (caps : List ℕ) (events : ℕ → ℕ) where
   -- the lines of n steps from one on, and then of the next
@@ -64,11 +66,11 @@ module _ (split : ℕ) (f : ℕ → List ℕ → List ℕ) (caps : List ℕ) (ev
   unfolding line_at
   line_at-begin h state = refl
 
-  pub text_before-none : (h : Header) (state : List ℕ) → text_before split f caps events h state 0 ≡ []
+  text_before-none : (h : Header) (state : List ℕ) → text_before split f caps events h state 0 ≡ []
   unfolding text_before
   text_before-none h state = refl
 
-  pub text_before-more : (h : Header) (state : List ℕ) (place : ℕ)
+  text_before-more : (h : Header) (state : List ℕ) (place : ℕ)
       → text_before split f caps events h state (suc place) ≡ text_before split f caps events h state place ++ line_at split f caps events h state place
   unfolding text_before
   text_before-more h state place = refl
@@ -83,7 +85,7 @@ module _ (split : ℕ) (f : ℕ → List ℕ → List ℕ) (caps : List ℕ) (ev
       ∙ (ap (λ (xs : List ℕ). front_text split f caps events h done ++ xs) (line_at-step h state done (omega arith)) ∙ sym (front_text-more h done version))
 
   -- all of it
-  pub text_before-whole : (h : Header) (state : List ℕ) (place : ℕ) → h.version ≡ 2 → place ≡ h.horizon + 3
+  text_before-whole : (h : Header) (state : List ℕ) (place : ℕ) → h.version ≡ 2 → place ≡ h.horizon + 3
       → text_before split f caps events h state place ≡ log_text (recorded split f caps events h state)
   text_before-whole h state place version last =
       let e : place ≡ suc (suc (suc h.horizon)) = omega arith in
@@ -106,7 +108,7 @@ module _ (split : ℕ) (f : ℕ → List ℕ → List ℕ) (caps : List ℕ) (ev
             ∙ (sym (text_before-more h state (more + place)) ∙ ap (λ n. text_before split f caps events h state n) e)),
       )
 
-  pub text_before-rest : (h : Header) (state : List ℕ) (place : ℕ) → h.version ≡ 2 → place ≤ h.horizon + 3
+  text_before-rest : (h : Header) (state : List ℕ) (place : ℕ) → h.version ≡ 2 → place ≤ h.horizon + 3
       → (rest : List ℕ) × (text_before split f caps events h state place ++ rest ≡ log_text (recorded split f caps events h state))
   text_before-rest h state place version order =
       let later = text_before-later h state place (h.horizon + 3 - place) in
@@ -143,9 +145,26 @@ module _ (split : ℕ) (f : ℕ → List ℕ → List ℕ) (caps : List ℕ) (ev
 pub same-both : {A B : Type 0} (P : A → B → Type 0) (s t : A) (v w : B) → s ≡ t → v ≡ w → P s v → P t w
 same-both P s t v w first second is = subst (λ a. P a w) first (subst (λ b. P s b) second is)
 
--- the line that is held, where nothing was held before it
-pub line-only : {E : Type 0} (function : E → List ℕ → List ℕ) (s t : SystemParts E) (v w : ℕ → ℕ) (h : Header) (state : List ℕ) (place : ℕ) (old new bytes : List ℕ) → s ≡ t → v ≡ w → old ≡ []
-    → new ≡ old ++ line_in function s v h state place → bytes ≡ new → bytes ≡ line_in function t w h state place
-line-only {E} function s t v w h state place old new bytes first second none is held =
-    same-both (λ (p : SystemParts E) (x : ℕ → ℕ). bytes ≡ line_in function p x h state place) s t v w first second
-    (held ∙ is ∙ ap (λ (xs : List ℕ). xs ++ line_in function s v h state place) none)
+-- the line that is held, where nothing was held before it, of a plan that has the system and the words of the first one
+pub line-only : {E P : Type 0} (function : E → List ℕ → List ℕ) (words : P → ℕ → ℕ) (first before now : Planned E P) (h : Header) (state : List ℕ) (place : ℕ) (old new bytes : List ℕ)
+    → now ≡ before → before.system ≡ first.system → words before.past ≡ words first.past → old ≡ [] → new ≡ old ++ line_in function now.system (words now.past) h state place → bytes ≡ new
+    → bytes ≡ line_in function first.system (words first.past) h state place
+line-only {E} {P} function words first before now h state place old new bytes same system past none held is =
+    same-both (λ (p : SystemParts E) (x : ℕ → ℕ). bytes ≡ line_in function p x h state place) now.system first.system (words now.past) (words first.past)
+    (ap (λ (p : Planned E P). p.system) same ∙ system) (ap (λ (p : Planned E P). words p.past) same ∙ past)
+    (is ∙ held ∙ ap (λ (xs : List ℕ). xs ++ line_in function now.system (words now.past) h state place) none)
+
+-- the text up to a place, of a network's run under these words
+module _ {E : Type 0} (function : E → List ℕ → List ℕ) (system : SystemParts E) (words : ℕ → ℕ) (h : Header) (state : List ℕ) where
+  pub text-none : text_in function system words h state 0 ≡ []
+  text-none = text_before-none system.split (system_functions function system words) system.caps (event_numbers system words) h state
+
+  pub text-more : (place : ℕ) → text_in function system words h state (suc place) ≡ text_in function system words h state place ++ line_in function system words h state place
+  text-more place = text_before-more system.split (system_functions function system words) system.caps (event_numbers system words) h state place
+
+  pub text-whole : (place : ℕ) → h.version ≡ 2 → place ≡ h.horizon + 3 → text_in function system words h state place ≡ log_text (log_of function system words h state)
+  text-whole place version last = text_before-whole system.split (system_functions function system words) system.caps (event_numbers system words) h state place version last
+
+  pub text-rest : (place : ℕ) → h.version ≡ 2 → place ≤ h.horizon + 3
+      → (rest : List ℕ) × (text_in function system words h state place ++ rest ≡ log_text (log_of function system words h state))
+  text-rest place version order = text_before-rest system.split (system_functions function system words) system.caps (event_numbers system words) h state place version order
