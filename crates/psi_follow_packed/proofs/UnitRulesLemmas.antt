@@ -1,7 +1,7 @@
 -- The tight box around what an event of single customers makes of a box.
 use Rattle.std.specs.Prelude.{◌≡◌, ℕ, zero, suc, ◌+◌, ◌-◌, ◌<◌, ◌≤◌, min, Bool, true, false, ◌⊎◌, List, length, slice_index, slice_index_or, refl}
 use Rattle.std.proofs.Common.{inl, inr, sym, ◌∙◌, subst, arith}
-use Rattle.std.proofs.lemmas.Bool.{cases_Bool, cases_lt, cases_eq, and_parts, and_cases, leb-true, leb-false, ltb-true, ltb-false, true≢false}
+use Rattle.std.proofs.lemmas.Bool.{cases_Bool, cases_eq, and_parts, and_cases, leb-true, leb-false, ltb-true, ltb-false, true≢false}
 use Rattle.psi_state.specs.State.{IsBelow}
 use Rattle.psi_event.specs.declared.sides.Side.{Side}
 use Rattle.psi_event.specs.declared.sides.Side.TheVariants.{Any, AtLeast, Below}
@@ -218,19 +218,7 @@ module _ (caps : List ℕ) (p : Piecewise) (f : List ℕ → List ℕ) (does : D
       -- where another one may
       module _ (other : OtherLeaves (unit_rule caps p) lo hi q) where
         pub low-kept : IsLow (unit_rule caps p) lo hi q (l q - min (d q) (l q))
-        low-kept =
-            let is = open-at in
-            record {
-              moved = λ _. omega arith;
-              kept = λ v from to keep. omega arith;
-              reached = elim (cases_lt 0 (d q)) [ inl some ↦ inl (can, omega arith) | inr none ↦ inr (inl other, (omega arith, omega arith)) ];
-            }
+        low-kept = (let is = open-at in grind (arith, other, can))
 
         pub high-kept : IsHigh (unit_rule caps p) lo hi q (h q + u q - (u q - (c q - h q)))
-        high-kept =
-            let is = open-at in
-            record {
-              moved = λ _. omega arith;
-              kept = λ v from to keep. omega arith;
-              reached = elim (cases_lt 0 (u q)) [ inl some ↦ inl (can, omega arith) | inr none ↦ inr (inl other, (omega arith, omega arith)) ];
-            }
+        high-kept = (let is = open-at in grind (arith, other, can))
