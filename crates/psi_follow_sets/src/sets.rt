@@ -11,7 +11,7 @@ ghost use Rattle.psi_follow_packed.specs.Views.{low_words, high_words};
 ghost use Rattle.psi_follow_packed.specs.UnitEvents.{Encloses};
 ghost use Rattle.psi_region.specs.Followed.{followed, ending_of};
 ghost use Rattle.psi_follow_sets.specs.Sets.{IsPackedBox, RunsCorners, MeetsAt};
-ghost use Rattle.psi_follow_sets.specs.Inner.MachinesKept.{IsMachine};
+ghost use Rattle.psi_follow_sets.specs.Inner.MachinesKept.{IsMachine, IsBegun};
 
 use crate::boxes::{are_units, bounds_of, enclose_by, halts_of, units_of};
 use crate::packed_set::PackedSet;
@@ -168,9 +168,7 @@ fn coalescence_of_few<const K: usize, E: EventLaw>(
     x: &PackedPair<K>,
 ) -> Option<State>
     requires closed { All (λ f. IsClosed course.now.caps f) (map E.function course.now.events) }
-    requires machine { IsMachine K course.now.caps (map E.function course.now.events) course.now.split machine.old }
-    requires numbers { AreEvents (length (map E.function course.now.events)) numbers.now }
-    requires corners { IsPackedBox K machine.old.program.packing (low_words x.now) (high_words x.now) }
+    requires begun { IsBegun K course.now.caps (map E.function course.now.events) course.now.split machine.old numbers.now (low_words x.now) (high_words x.now) }
     ensures few { (lo hi : List ℕ) → AreCorners K machine.old.program.packing (low_words x.now) (high_words x.now) lo hi → length (box lo hi) ≤ course.now.split
         → result ≡ single (image (follow_numbers (map E.function course.now.events) numbers.now) (box lo hi)) }
     ensures many { (lo hi : List ℕ) → AreCorners K machine.old.program.packing (low_words x.now) (high_words x.now) lo hi → course.now.split < length (box lo hi) → result ≡ None }
@@ -218,9 +216,7 @@ fn meeting_of_box<const K: usize, E: EventLaw>(
     x: &PackedPair<K>,
 ) -> Option<State>
     requires closed { All (λ f. IsClosed course.now.caps f) (map E.function course.now.events) }
-    requires machine { IsMachine K course.now.caps (map E.function course.now.events) course.now.split machine.now }
-    requires numbers { AreEvents (length (map E.function course.now.events)) numbers.now }
-    requires corners { IsPackedBox K machine.now.program.packing (low_words x.now) (high_words x.now) }
+    requires begun { IsBegun K course.now.caps (map E.function course.now.events) course.now.split machine.now numbers.now (low_words x.now) (high_words x.now) }
     ensures { IfSome result (λ s. MeetsAt K machine.now.program.packing (map E.function course.now.events) numbers.now (low_words x.now) (high_words x.now) s) }
 {
     let mut own = *x;
@@ -242,9 +238,7 @@ fn follow_until_few<const K: usize, E: EventLaw>(
     split: u32,
     x: &mut PackedPair<K>,
 ) -> usize
-    requires machine { IsMachine K course.now.caps (map E.function course.now.events) course.now.split machine.now }
-    requires numbers { AreEvents (length (map E.function course.now.events)) numbers.now }
-    requires corners { IsPackedBox K machine.now.program.packing (low_words x.old) (high_words x.old) }
+    requires { IsBegun K course.now.caps (map E.function course.now.events) course.now.split machine.now numbers.now (low_words x.old) (high_words x.old) }
     ensures run { RunsCorners K machine.now.program.packing (map E.function course.now.events) numbers.now split (low_words x.old) (high_words x.old) (low_words x.new) (high_words x.new) result }
     ensures all { (lo hi : List ℕ) → AreCorners K machine.now.program.packing (low_words x.new) (high_words x.new) lo hi → split < length (box lo hi) → result ≡ 0 }
 {

@@ -18,11 +18,11 @@ returns-in-Some-clause-many g c = λ lo hi begun many.
 pub returns-clause-few : goal.returns-clause-few
 returns-clause-few g c = λ lo hi begun few.
     let functions = map g.E.EventLaw.function c.args.course.now.events in
-    c.meeting.ensures.meeting c.args.course.now.caps functions c.requires.machine.program
+    c.meeting.ensures.meeting c.args.course.now.caps functions c.requires.begun.machine.program
     ∙ ap (λ (b : Corners). single (image (follow_numbers functions c.args.numbers.now) (box b.lo b.hi))) (c.bounds_of-bounds.ensures lo hi begun)
 
 pub returns-then-have_corners_parted-clause-few : goal.returns-then-have_corners_parted-clause-few
 returns-then-have_corners_parted-clause-few g c = λ lo hi begun few.
     let functions = map g.E.EventLaw.function c.args.course.now.events in
     sym (part-none (follow_numbers functions c.args.numbers.now) lo hi begun.ordered
-    (c.have_corners_parted.ensures c.args.course.now.caps functions lo hi c.requires.machine.program begun c.if-have_corners_parted.true))
+    (c.have_corners_parted.ensures c.args.course.now.caps functions lo hi c.requires.begun.machine.program begun c.if-have_corners_parted.true))

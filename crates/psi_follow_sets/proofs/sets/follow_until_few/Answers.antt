@@ -26,7 +26,7 @@ returns-then-left-eq0-clause-run g c = λ lo hi begun.
     runs-through g.row.K p.packing functions c.args.numbers.now c.args.split (record { lo = lo; hi = hi }) (low_words x) (high_words x) (low_words after.new.x) (high_words after.new.x)
     c.loop-left.left after.result (c.loop-left.invariant.run lo hi begun)
     (left-run g.row.K p c.args.course.now.caps functions c.args.numbers.now c.args.machine.now.halts.items c.as_slice-halts.result.now c.args.split (low_words x) (high_words x)
-    (low_words after.new.x) (high_words after.new.x) c.loop-left.left after.result c.requires.machine.program c.requires.machine.monotone c.as_slice-halts.ensures.value c.requires.numbers
+    (low_words after.new.x) (high_words after.new.x) c.loop-left.left after.result c.requires.machine.program c.requires.machine.monotone c.as_slice-halts.ensures.value c.requires.events
     c.loop-left.invariant.few after.ensures.left after.ensures.run)
 
 pub enclose_event-requires : goal.enclose_event-requires
@@ -36,10 +36,10 @@ enclose_event-requires g c =
     let after = c.follow_while_many-left in
     let x = c.loop-left.x in
     let small : after.result ≤ length c.args.numbers.now = omega (arith, after.ensures.left, length-take-le c.loop-left.left c.args.numbers.now c.loop-left.invariant.few, c.loop-left.invariant.few) in
-    let number = c.requires.numbers.each (after.result - 1) (omega (arith, small, c.if-left-eq0.false)) in
+    let number = c.requires.events.each (after.result - 1) (omega (arith, small, c.if-left-eq0.false)) in
     let boxed = run-box g.row.K p.packing functions (take c.loop-left.left c.args.numbers.now) c.args.split (low_words x) (high_words x) (low_words after.new.x) (high_words after.new.x) after.result
     (left-run g.row.K p c.args.course.now.caps functions c.args.numbers.now c.args.machine.now.halts.items c.as_slice-halts.result.now c.args.split (low_words x) (high_words x)
-    (low_words after.new.x) (high_words after.new.x) c.loop-left.left after.result c.requires.machine.program c.requires.machine.monotone c.as_slice-halts.ensures.value c.requires.numbers
+    (low_words after.new.x) (high_words after.new.x) c.loop-left.left after.result c.requires.machine.program c.requires.machine.monotone c.as_slice-halts.ensures.value c.requires.events
     c.loop-left.invariant.few after.ensures.left after.ensures.run) c.loop-left.invariant.corners in
     (search rules, (search rules, (c.requires.machine, (number, boxed))))
 
@@ -56,7 +56,7 @@ loop-left-preserved g c =
     let machine = c.requires.machine in
     let small : after.result ≤ length numbers = omega (arith, after.ensures.left, length-take-le c.loop-left.left numbers c.loop-left.invariant.few, c.loop-left.invariant.few) in
     let run = left-run g.row.K p c.args.course.now.caps functions numbers c.args.machine.now.halts.items c.as_slice-halts.result.now split (low_words x) (high_words x) low high
-    c.loop-left.left after.result machine.program machine.monotone c.as_slice-halts.ensures.value c.requires.numbers c.loop-left.invariant.few after.ensures.left after.ensures.run in
+    c.loop-left.left after.result machine.program machine.monotone c.as_slice-halts.ensures.value c.requires.events c.loop-left.invariant.few after.ensures.left after.ensures.run in
     let b = run-box g.row.K p.packing functions (take c.loop-left.left numbers) split (low_words x) (high_words x) low high after.result run c.loop-left.invariant.corners in
     let f = slice_index_or functions (slice_index numbers (after.result - 1)) (λ z. z) in
     record {

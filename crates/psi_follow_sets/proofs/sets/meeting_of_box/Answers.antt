@@ -11,7 +11,7 @@ pub overflow_add-left : goal.overflow_add-left
 overflow_add-left g c =
     let numbers = c.args.numbers.now in
     let stop = c.saturating_sub-stop.result in
-    let run = c.follow_until_few.ensures.run c.requires.corners.of.lo c.requires.corners.of.hi c.requires.corners.corners in
+    let run = c.follow_until_few.ensures.run c.requires.begun.corners.of.lo c.requires.begun.corners.of.hi c.requires.begun.corners.corners in
     let few : stop + c.follow_until_few.result ≤ length numbers = behind-few numbers stop c.follow_until_few.result (omega (arith, c.saturating_sub-stop.ensures)) run.left in
     search rules
 
@@ -19,7 +19,7 @@ pub slice_bounds-follow-end : goal.slice_bounds-follow-end
 slice_bounds-follow-end g c =
     let numbers = c.args.numbers.now in
     let stop = c.saturating_sub-stop.result in
-    let run = c.follow_until_few.ensures.run c.requires.corners.of.lo c.requires.corners.of.hi c.requires.corners.corners in
+    let run = c.follow_until_few.ensures.run c.requires.begun.corners.of.lo c.requires.begun.corners.of.hi c.requires.begun.corners.corners in
     sym (length-take-le (stop + c.follow_until_few.result) numbers (behind-few numbers stop c.follow_until_few.result (omega (arith, c.saturating_sub-stop.ensures)) run.left))
 
 pub returns : goal.returns
@@ -29,7 +29,7 @@ returns g c = λ lo hi begun.
     let functions = map g.E.EventLaw.function course.events in
     let numbers = c.args.numbers.now in
     let stop = c.saturating_sub-stop.result in
-    let prepared = c.requires.machine.program in
+    let prepared = c.requires.begun.machine.program in
     let low = low_words c.follow_until_few.new.x in
     let high = high_words c.follow_until_few.new.x in
     let run = subst (λ (ns : List ℕ). IsCornersRun g.row.K p.packing functions ns 1 (record { lo = lo; hi = hi }) low high c.follow_until_few.result) (behind-all numbers stop) (c.follow_until_few.ensures.run lo hi begun) in
