@@ -28,6 +28,19 @@ macro_rules! return_found {
     };
 }
 
+// Returns the follower of this kind on states of the fewest words that the network's fit, where one was made.
+macro_rules! return_packed {
+    ($kind:ident, $alloc:ident, $course:ident) => {
+        match words_needed($course.caps()) {
+            1 => return_found!(One, $kind::new($alloc, $course)),
+            2 => return_found!(Two, $kind::new($alloc, $course)),
+            3 => return_found!(Three, $kind::new($alloc, $course)),
+            4 => return_found!(Four, $kind::new($alloc, $course)),
+            _ => {}
+        }
+    };
+}
+
 /// Returns the plan to sample the network from this past. It allocates room for the numbers of the events of the 2 to
 /// the power `limit` steps of the greatest horizon, of 2 bytes each, for a region of `split` states, and for the events
 /// on packed states; where some event isn't monotone, also for `split` packed states. In a network whose customers join
@@ -91,13 +104,7 @@ fn packed_corners<'n, E: PiecewiseLaw>(
     requires { All (λ f. IsMonotone course.now.caps f) (map E.function course.now.events) }
     ensures { IfOk result (λ found. IfSome found (λ corners. ⟦<CornersByWords<'n, E> as Follower>⟧.stands_for corners ≡ followed E.function course.now)) }
 {
-    match words_needed(course.caps()) {
-        1 => return_found!(One, PackedCorners::new(alloc, course)),
-        2 => return_found!(Two, PackedCorners::new(alloc, course)),
-        3 => return_found!(Three, PackedCorners::new(alloc, course)),
-        4 => return_found!(Four, PackedCorners::new(alloc, course)),
-        _ => {}
-    }
+    return_packed!(PackedCorners, alloc, course);
     Ok(None)
 }
 
@@ -121,12 +128,6 @@ fn packed_sets<'n, E: PiecewiseLaw>(
 ) -> Result<Option<SetsByWords<'n, E>>, OutOfMemory>
     ensures { IfOk result (λ found. IfSome found (λ sets. ⟦<SetsByWords<'n, E> as Follower>⟧.stands_for sets ≡ followed E.function course.now)) }
 {
-    match words_needed(course.caps()) {
-        1 => return_found!(One, PackedSets::new(alloc, course)),
-        2 => return_found!(Two, PackedSets::new(alloc, course)),
-        3 => return_found!(Three, PackedSets::new(alloc, course)),
-        4 => return_found!(Four, PackedSets::new(alloc, course)),
-        _ => {}
-    }
+    return_packed!(PackedSets, alloc, course);
     Ok(None)
 }
