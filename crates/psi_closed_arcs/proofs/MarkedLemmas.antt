@@ -65,10 +65,6 @@ exits-some arcs l s window marks row both leads ranged joined t small given =
     let arc = (leads (t - s)).0 (record { small = omega arith; there = subst (λ k. has row k ≡ true) (sym sum) parts.0 }) in
     record { value = t - s; listed = arc.0; within = arc.1; marked = subst (λ k. has marks k ≡ true) (sym sum) parts.1 }
 
-pub exits-none : (arcs : List Arc) (l s : ℕ) (window : Window) (marks row both : Sums) → ((v : ℕ) → Leads row s v ↔ (Listed arcs l s v × IsWithin window v))
-    → ((t : ℕ) → t < 320 → (has both t ≡ true) ↔ ((has row t ≡ true) × (has marks t ≡ true))) → ((t : ℕ) → t < 320 → has both t ≡ false) → Exits arcs l s window marks → ⊥
-exits-none arcs l s window marks row both leads joined bare exits = search rules
-
 -- a walk whose arcs are of another set
 walk-only : (A B : ℕ → ℕ → ℕ → Type 0) (i s : ℕ) (xs : List ℕ) (t : ℕ) → ((l r v : ℕ) → i ≤ l → l < i + length xs → A l r v → B l r v) → Walk A i s xs t → Walk B i s xs t
 walk-only A B i s [] t each walk = walk

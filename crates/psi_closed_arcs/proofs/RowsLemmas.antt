@@ -196,17 +196,6 @@ unfolding arcs_of
 empty-arcs rows levels total small count empty =
     no-members (arcs_below rows total (levels * 66049)) (empty-below rows total (levels * 66049) small (omega arith) empty)
 
-pub empty-rows : (rows : List Sums) (levels total : ℕ) → 1 ≤ levels → levels ≤ 32 → total ≤ 256 → length rows ≡ levels * 257 → AreEmpty rows → AreRows rows levels total
-empty-rows rows levels total some few small count empty = search rules
-
--- the count of the arcs with the first numbers
-count-cond : (b : Bool) (x : Arc) (xs : List Arc) → length (cond b (x ∷ xs) xs) ≡ length xs + cond b 1 0
-count-cond true x xs = omega arith
-count-cond false x xs = omega arith
-
-pub count-more : (rows : List Sums) (total n : ℕ) → length (arcs_below rows total (n + 1)) ≡ length (arcs_below rows total n) + cond (keeps rows total (arc_number n)) 1 0
-count-more rows total n = search rules
-
 -- a row that is read
 pub read-row : (rows : List Sums) (i : ℕ) (w : Sums) → i < length rows → w ≡ get_or rows i w → w ≡ sums_at rows i
 read-row rows i w within read = read ∙ get_or_default rows i w none within
