@@ -1,6 +1,6 @@
 //! The command of the program's words.
 
-ghost use Rattle.std.specs.Prelude.{◌≡◌, ◌+◌, ◌<◌, map, string_bytes, IfOk};
+ghost use Rattle.std.specs.Prelude.{◌≡◌, ◌+◌, ◌<◌, ◌∷◌, map, string_bytes, IfOk};
 ghost use Rattle.psi_command.specs.Words.{sample_words, check_words, report_words, trial_words, couple_words, reward_words, exact_words, closed_words, replay_words, command_of};
 ghost use Rattle.psi_command.specs.Request.{GivesCommand, AsksInRange};
 
@@ -232,6 +232,27 @@ fn replay_of<'w>(words: &mut Cursor<'w>) -> Result<Request<'w>, u8>
     Ok(Request::About { net, question })
 }
 
+// What the words after this first one ask for, or the place of the word that offends.
+#[tactic(auto, unfolding(crate::specs::Words::command_of))]
+fn request_of<'w>(command: &str, words: &mut Cursor<'w>) -> Result<Request<'w>, u8>
+    requires { words.now.place ≡ 2 }
+    ensures command { GivesCommand result (command_of (command.now ∷ map string_bytes words.old.left.now)) }
+    ensures ranges { IfOk result AsksInRange }
+{
+    match command {
+        "sample" => sample_of(words),
+        "check" => check_of(words),
+        "report" => report_of(words),
+        "trial" => trial_of(words),
+        "couple" => couple_of(words),
+        "reward" => reward_of(words),
+        "exact" => exact_of(words),
+        "closed" => closed_of(words),
+        "replay" => replay_of(words),
+        _ => Err(1),
+    }
+}
+
 /// The command of the words, or the place of the word that offends, counted from 1. It takes no memory.
 #[tactic(auto, unfolding(crate::specs::Words::command_of))]
 pub fn command_of(words: &[String]) -> Result<Request<'_>, u8>
@@ -240,32 +261,5 @@ pub fn command_of(words: &[String]) -> Result<Request<'_>, u8>
 {
     let mut words = Cursor::new(words);
     let command = words.next_text()?;
-    if command == "sample" {
-        return sample_of(&mut words);
-    }
-    if command == "check" {
-        return check_of(&mut words);
-    }
-    if command == "report" {
-        return report_of(&mut words);
-    }
-    if command == "trial" {
-        return trial_of(&mut words);
-    }
-    if command == "couple" {
-        return couple_of(&mut words);
-    }
-    if command == "reward" {
-        return reward_of(&mut words);
-    }
-    if command == "exact" {
-        return exact_of(&mut words);
-    }
-    if command == "closed" {
-        return closed_of(&mut words);
-    }
-    if command == "replay" {
-        return replay_of(&mut words);
-    }
-    Err(1)
+    request_of(command, &mut words)
 }
