@@ -1,7 +1,7 @@
 -- The paths that words ask for.
-use Rattle.std.specs.Prelude.{◌≡◌, ℕ, ◌≤◌, List, codes, Bool, true, false, Some, None, Result, Ok, Err, MatchResult}
-use Rattle.psi_command.specs.Words.{greatest_number, text_word, number_word, count_word, last_word, no_word}
-use Rattle.psi_command.specs.Tables.{Table, table_asked, IsTableInRange}
+use Rattle.std.specs.Prelude.{◌≡◌, ℕ, ◌≤◌, List, drop, Result, Ok, Err, MatchResult}
+use Rattle.psi_command.specs.Words.{number_word}
+use Rattle.psi_command.specs.Tables.{Table, then_read, first_words, last_words, table_asked, IsTableInRange}
 use Rattle.psi_command.specs.declared.paths.Paths.{Paths as Own}
 
 -- paths of so many steps, which begin in the samples of a table
@@ -13,18 +13,11 @@ pub record Paths : Type 0 where
 abbrev pub most_steps : ℕ
 most_steps = 4290772992
 
--- what may stand behind the number of steps: nothing, or after `closed` the number of customers
-abbrev pub paths_words : (net : List ℕ) (seed first count steps : ℕ) → Bool → ℕ → List (List ℕ) → Result Paths ℕ
-paths_words net seed first count steps false =
-    no_word (record { table = record { net = net; seed = seed; first = first; count = count; total = None }; steps = steps })
-paths_words net seed first count steps true =
-    number_word 256 (λ total. no_word (record { table = record { net = net; seed = seed; first = first; count = count; total = Some total }; steps = steps }))
-
--- the words of paths: those of a table, with STEPS, at most 2^32 - 2^22, behind COUNT; or the place of the word that offends
+-- the words of paths: those with which a table begins, STEPS, at most 2^32 - 2^22, and of a closed network `closed` and TOTAL; or the place
+-- of the word that offends
 unfoldable pub paths_of : List (List ℕ) → Result Paths ℕ
-paths_of =
-    text_word (λ net. number_word greatest_number (λ seed. number_word greatest_number (λ first. count_word 4294967295 first
-    (λ count. number_word most_steps (λ steps. last_word (codes "closed") (paths_words net seed first count steps)))))) 1
+paths_of words = then_read (λ table. number_word most_steps (λ steps place rest.
+    then_read (λ total. Ok (record { table = record table { total = total }; steps = steps })) (last_words place rest)) 5 (drop 4 words)) (first_words words)
 
 -- the program's own paths, as the definition's
 abbrev pub paths_asked : Own → Paths

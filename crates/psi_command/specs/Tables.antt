@@ -1,5 +1,5 @@
 -- The table of samples that words ask for.
-use Rattle.std.specs.Prelude.{◌≡◌, ℕ, ◌+◌, ◌^◌, ◌≤◌, List, codes, Bool, true, false, Option, Some, None, IfSome, Result, Ok, Err, MatchResult}
+use Rattle.std.specs.Prelude.{◌≡◌, ℕ, ◌+◌, ◌^◌, ◌≤◌, List, codes, drop, Bool, true, false, Option, Some, None, IfSome, Result, Ok, Err, MatchResult}
 use Rattle.psi_command.specs.Words.{greatest_number, text_word, number_word, count_word, last_word, no_word}
 use Rattle.psi_command.specs.declared.table.Table.{Table as Own}
 
@@ -12,18 +12,30 @@ pub record Table : Type 0 where
   pub count : ℕ
   pub total : Option ℕ
 
--- what may stand behind the number of streams: nothing, or after `closed` the number of customers
-abbrev pub total_words : (net : List ℕ) (seed first count : ℕ) → Bool → ℕ → List (List ℕ) → Result Table ℕ
-total_words net seed first count false = no_word (record { net = net; seed = seed; first = first; count = count; total = None })
-total_words net seed first count true =
-    number_word 256 (λ total. no_word (record { net = net; seed = seed; first = first; count = count; total = Some total }))
+-- what follows, once words before it are read; or the place of the word that offends among these
+abbrev pub then_read : {A B : Type 0} → (A → Result B ℕ) → Result A ℕ → Result B ℕ
+then_read next (Ok asked) = next asked
+then_read next (Err place) = Err place
 
--- the words of a table: NET, SEED, FIRST and COUNT, at most 2^32 - 1, and of a closed network `closed` and TOTAL; or the place of the word
--- that offends
-unfoldable pub table_of : List (List ℕ) → Result Table ℕ
-table_of =
+-- the words with which a table begins: NET, SEED, FIRST and COUNT, at most 2^32 - 1
+unfoldable pub first_words : List (List ℕ) → Result Table ℕ
+first_words =
     text_word (λ net. number_word greatest_number (λ seed. number_word greatest_number (λ first. count_word 4294967295 first
-    (λ count. last_word (codes "closed") (total_words net seed first count))))) 1
+    (λ count place words. Ok (record { net = net; seed = seed; first = first; count = count; total = None }))))) 1
+
+-- what stands behind the numbers: nothing, or after `closed` the number of customers
+abbrev pub closing : Bool → ℕ → List (List ℕ) → Result (Option ℕ) ℕ
+closing false = no_word None
+closing true = number_word 256 (λ total. no_word (Some total))
+
+-- the words that may stand there, from this place on, or the place of the one that offends
+unfoldable pub last_words : ℕ → List (List ℕ) → Result (Option ℕ) ℕ
+last_words = last_word (codes "closed") closing
+
+-- the words of a table: those with which it begins, and of a closed network `closed` and TOTAL; or the place of the word that offends
+unfoldable pub table_of : List (List ℕ) → Result Table ℕ
+table_of words =
+    then_read (λ table. then_read (λ total. Ok (record table { total = total })) (last_words 5 (drop 4 words))) (first_words words)
 
 -- the program's own table, as the definition's
 abbrev pub table_asked : Own → Table

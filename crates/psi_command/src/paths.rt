@@ -3,8 +3,7 @@
 ghost use Rattle.std.specs.Prelude.{◌≡◌, ◌≤◌, map, string_bytes, IfOk};
 ghost use Rattle.psi_command.specs.Paths.{paths_of, GivesPaths, ArePathsInRange};
 
-use crate::table::Table;
-use crate::words::cursor::Cursor;
+use crate::table::{Table, first_words};
 
 /// The most steps that a path may have: its random words stand at places from 2 to the power 22 on, and below 2 to the
 /// power 32.
@@ -26,31 +25,9 @@ pub fn paths_of(words: &[String]) -> Result<Paths<'_>, u8>
     ensures paths { GivesPaths result (paths_of (map string_bytes words.now)) }
     ensures ranges { IfOk result ArePathsInRange }
 {
-    let mut words = Cursor::new(words);
-    let net = words.next_text()?;
-    let seed = words.next_number(u64::MAX)?;
-    let first = words.next_number(u64::MAX)?;
-    let count = words.next_count(u32::MAX, first)?;
+    let (table, mut words) = first_words(words)?;
     let steps = words.next_number(MOST_STEPS)? as u32;
-    if !words.next_last("closed")? {
-        words.finish()?;
-        let table = Table {
-            net,
-            seed,
-            first,
-            count,
-            total: None,
-        };
-        return Ok(Paths { table, steps });
-    }
-    let total = words.next_number(256)? as u16;
-    words.finish()?;
-    let table = Table {
-        net,
-        seed,
-        first,
-        count,
-        total: Some(total),
-    };
+    let total = words.last_total()?;
+    let table = Table { total, ..table };
     Ok(Paths { table, steps })
 }

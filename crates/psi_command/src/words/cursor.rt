@@ -1,6 +1,7 @@
 //! The words that are left, read one after another.
 
-ghost use Rattle.std.specs.Prelude.{◌≡◌, ◌+◌, ◌^◌, ◌<◌, ◌≤◌, Some, None, true, false, drop, map, string_bytes, IfOk, IfErr, OnOk, OnErr};
+ghost use Rattle.std.specs.Prelude.{◌≡◌, ◌+◌, ◌^◌, ◌<◌, ◌≤◌, Some, None, true, false, drop, map, string_bytes, IfSome, IfOk, IfErr, OnOk, OnErr};
+ghost use Rattle.psi_command.specs.Tables.{last_words};
 ghost use Rattle.psi_command.specs.Words.{greatest_number, first_text, number_in, counted, follows, is_over};
 
 use crate::words::numeral::number;
@@ -99,6 +100,23 @@ impl<'w> Cursor<'w> {
         }
         self.left = rest;
         Ok(true)
+    }
+
+    /// The number of customers that the words that are left ask for: none where no word is left, or after `closed` a number
+    /// of at most 256, the last word. Else the answer is the place of the word that offends.
+    #[tactic(auto, unfolding(crate::specs::Tables::last_words))]
+    pub(crate) fn last_total(&mut self) -> Result<Option<u16>, u8>
+        requires { self.now.place < 254 }
+        ensures total { result ≡ last_words self.old.place (map string_bytes self.old.left.now) }
+        ensures bound { IfOk result (λ total. IfSome total (λ n. n ≤ 256)) }
+    {
+        if !self.next_last("closed")? {
+            self.finish()?;
+            return Ok(None);
+        }
+        let total = self.next_number(256)? as u16;
+        self.finish()?;
+        Ok(Some(total))
     }
 
     /// Nothing, where no word is left; or the place of the first that is one too many.
