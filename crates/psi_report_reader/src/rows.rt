@@ -1,8 +1,8 @@
 //! What the rows of a report say.
 
-ghost use Rattle.std.specs.Prelude.{◌≡◌, map, IfOk};
+ghost use Rattle.std.specs.Prelude.{◌≡◌, Some, None, true, false, map, IfOk};
 ghost use Rattle.std.specs.List.{slice_split};
-ghost use Rattle.psi_report_reader.specs.Reading.{is_comma, item_of, name_in, with_samples, with_met, with_horizon, with_figure, with_fields, with_row, Took};
+ghost use Rattle.psi_report_reader.specs.Reading.{is_comma, item_of, name_in, with_horizon, with_figure, with_fields, with_row, Took};
 
 use crate::numbers::{count_in, integer_of};
 use psi_net_model::{Name, OutOfMemory, name_of};
@@ -45,26 +45,14 @@ fn name_in(word: &[u8]) -> Option<Name>
     }
 }
 
-// Takes the number of samples, where it is one.
-fn take_samples(report: &mut Report, samples: Option<u64>) -> bool
-    ensures { Took result report.new (with_samples report.old samples) }
+// Takes a number of samples, where it is one.
+fn take_count(field: &mut u64, count: Option<u64>) -> bool
+    ensures taken { result ≡ true → count ≡ Some field.new }
+    ensures none { result ≡ false → count ≡ None }
 {
-    match samples {
+    match count {
         Some(n) => {
-            report.samples = n;
-            true
-        }
-        None => false,
-    }
-}
-
-// Takes the number of samples that are met, where it is one.
-fn take_met(report: &mut Report, met: Option<u64>) -> bool
-    ensures { Took result report.new (with_met report.old met) }
-{
-    match met {
-        Some(n) => {
-            report.met = n;
+            *field = n;
             true
         }
         None => false,
@@ -120,10 +108,10 @@ fn take_fields(
         return Ok(true);
     }
     if item == b"samples".as_slice() {
-        return Ok(take_samples(report, count_in(value)));
+        return Ok(take_count(&mut report.samples, count_in(value)));
     }
     if item == b"met".as_slice() {
-        return Ok(take_met(report, count_in(value)));
+        return Ok(take_count(&mut report.met, count_in(value)));
     }
     if item == b"uncoupled".as_slice() {
         return Ok(true);
