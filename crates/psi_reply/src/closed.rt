@@ -103,26 +103,6 @@ pub fn next_closed<'n>(
     plan.sample()
 }
 
-// The sample of the closed network of these moves under the words of a past.
-fn sample_of(
-    alloc: Global,
-    net: &Net,
-    moves: &[Move],
-    seed: u64,
-    stream: u64,
-    total: u16,
-) -> Result<Outcome, OutOfMemory>
-    requires moves { AreMovesOf net.now.events moves.now }
-    requires fits { IsTotal (caps_of net.now) total }
-    ensures value { IfOk result (λ outcome. outcome ≡ closed_sampled net.now seed stream total) }
-    ensures limit { IfOk result IsWithinLimit }
-{
-    let mut plan = closed_plan(alloc, net, moves, SeedPast::new(seed, stream), total)?;
-    let outcome = next_closed(&mut plan, net, seed, stream);
-    drop(plan);
-    Ok(outcome)
-}
-
 // The work where each event is a move.
 fn work_on_moves<'w>(
     alloc: Global,
@@ -139,9 +119,12 @@ fn work_on_moves<'w>(
     if !has_room(net, total) {
         return Ending::NoSuchTotal;
     }
-    let Ok(outcome) = sample_of(alloc, net, moves, seed, stream, total) else {
+    let past = SeedPast::new(seed, stream);
+    let Ok(mut plan) = closed_plan(alloc, net, moves, past, total) else {
         return Ending::OutOfMemory;
     };
+    let outcome = next_closed(&mut plan, net, seed, stream);
+    drop(plan);
     Ending::printed(outcome_status(&outcome), outcome_text(alloc, &outcome))
 }
 
