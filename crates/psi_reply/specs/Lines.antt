@@ -1,5 +1,5 @@
 -- The lines of err, byte by byte. Each ends with one line feed.
-use Rattle.std.specs.Prelude.{ℕ, List, ◌++◌, codes, ◌==◌, Option, Some, None, if◌then◌else◌}
+use Rattle.std.specs.Prelude.{ℕ, List, ◌++◌, [], ◌∷◌, slice_index_or, codes, Option, Some, None}
 use Rattle.std.specs.Fmt.{decimal}
 use Rattle.psi_net_document.specs.declared.refusals.NetRefusal.{NetRefusal}
 use Rattle.psi_net_document.specs.declared.refusals.Section.{Section}
@@ -12,25 +12,10 @@ usage_line place = codes "psi: usage word " ++ decimal place ++ codes "\n"
 
 -- the name of a refusal's code
 abbrev pub refusal_name : ℕ → List ℕ
-refusal_name code =
-    if code == 0 then codes "TooLong"
-    else if code == 1 then codes "NotToml"
-    else if code == 2 then codes "Version"
-    else if code == 3 then codes "UnknownKey"
-    else if code == 4 then codes "MissingKey"
-    else if code == 5 then codes "WrongType"
-    else if code == 6 then codes "OutOfRange"
-    else if code == 7 then codes "TooMany"
-    else if code == 8 then codes "DuplicateName"
-    else if code == 9 then codes "UnknownQueue"
-    else if code == 10 then codes "UnknownKind"
-    else if code == 11 then codes "SelfTarget"
-    else if code == 12 then codes "RepeatedTarget"
-    else if code == 13 then codes "TableLength"
-    else if code == 14 then codes "BatchTooLarge"
-    else if code == 15 then codes "NoEvents"
-    else if code == 16 then codes "TotalTooLarge"
-    else codes "EmptyGuard"
+refusal_name code = slice_index_or (
+    codes "TooLong" ∷ codes "NotToml" ∷ codes "Version" ∷ codes "UnknownKey" ∷ codes "MissingKey" ∷ codes "WrongType" ∷
+    codes "OutOfRange" ∷ codes "TooMany" ∷ codes "DuplicateName" ∷ codes "UnknownQueue" ∷ codes "UnknownKind" ∷ codes "SelfTarget" ∷
+    codes "RepeatedTarget" ∷ codes "TableLength" ∷ codes "BatchTooLarge" ∷ codes "NoEvents" ∷ codes "TotalTooLarge" ∷ []) code (codes "EmptyGuard")
 
 -- the part of the file that a refusal names
 abbrev pub section_name : Section → List ℕ
@@ -65,26 +50,13 @@ unknown_line = codes "psi: unknown reward\n"
 
 -- the name of a cause for which a text is refused as a log
 abbrev pub grammar_name : ℕ → List ℕ
-grammar_name cause =
-    if cause == 1 then codes "NotLog"
-    else if cause == 2 then codes "Version"
-    else if cause == 3 then codes "Number"
-    else if cause == 4 then codes "Shape"
-    else if cause == 5 then codes "Truncated"
-    else if cause == 6 then codes "TrailingText"
-    else codes "TooLong"
+grammar_name cause = slice_index_or (
+    codes "TooLong" ∷ codes "NotLog" ∷ codes "Version" ∷ codes "Number" ∷ codes "Shape" ∷ codes "Truncated" ∷ codes "TrailingText" ∷ []) cause (codes "TooLong")
 
 -- the name of a cause for which a log is rejected
 abbrev pub verdict_name : ℕ → List ℕ
-verdict_name cause =
-    if cause == 1 then codes "Header"
-    else if cause == 2 then codes "StepNumber"
-    else if cause == 3 then codes "WrongEvent"
-    else if cause == 4 then codes "OutsideBox"
-    else if cause == 5 then codes "NotCovered"
-    else if cause == 6 then codes "SplitTooLarge"
-    else if cause == 7 then codes "NotSingle"
-    else codes "WrongState"
+verdict_name cause = slice_index_or (
+    codes "WrongState" ∷ codes "Header" ∷ codes "StepNumber" ∷ codes "WrongEvent" ∷ codes "OutsideBox" ∷ codes "NotCovered" ∷ codes "SplitTooLarge" ∷ codes "NotSingle" ∷ []) cause (codes "WrongState")
 
 -- what became of a log, the number and the name of the cause, and its line
 unfoldable pub log_line : (word : List ℕ) (cause : ℕ) (name : List ℕ) (line : ℕ) → List ℕ
