@@ -36,24 +36,16 @@ use toml::{Table, Value};
 fn kind_named(version: u32, text: &str) -> Option<KindWord>
     ensures { result ≡ kind_named version text.now }
 {
-    if text == "arrival" {
-        Some(KindWord::Arrival)
-    } else if text == "service" {
-        Some(KindWord::Service)
-    } else if text == "index" {
-        Some(KindWord::Index)
-    } else if text == "batch" {
-        Some(KindWord::Batch)
-    } else if text == "negative" {
-        Some(KindWord::Negative)
-    } else if text == "fork" {
-        Some(KindWord::Fork)
-    } else if text == "join" {
-        Some(KindWord::Join)
-    } else if text == "guarded" && version == 2 {
-        Some(KindWord::Guarded)
-    } else {
-        None
+    match text {
+        "arrival" => Some(KindWord::Arrival),
+        "service" => Some(KindWord::Service),
+        "index" => Some(KindWord::Index),
+        "batch" => Some(KindWord::Batch),
+        "negative" => Some(KindWord::Negative),
+        "fork" => Some(KindWord::Fork),
+        "join" => Some(KindWord::Join),
+        "guarded" if version == 2 => Some(KindWord::Guarded),
+        _ => None,
     }
 }
 
@@ -64,32 +56,25 @@ fn kind_word(place: Place, version: u32, value: Option<&Value>) -> Result<KindWo
 {
     let value = read!(present(place, "kind", value));
     let text = read!(text_in(place, "kind", value));
-    match kind_named(version, text) {
-        Some(word) => Ok(word),
-        None => Err(NetCause::UnknownKind.at_key(place, "kind")),
-    }
+    kind_named(version, text).ok_or(NetCause::UnknownKind.at_key(place, "kind"))
 }
 
-// The table of an event has no other keys than those of every event and these.
-fn no_other_key(place: Place, own: &[&str], table: &Table) -> Result<(), NetRefusal>
-    ensures { Gives (λ _. tt) result (no_unknown place (codes "kind" ∷ codes "name" ∷ codes "rate" ∷ map (λ k. k.now) own.now) (table_view table.now)) }
-{
-    no_unknown(place, &["kind", "name", "rate"], own, table)
-}
+// The keys of all events.
+const ALL: [&str; 3] = ["kind", "name", "rate"];
 
 // The table of an event of this kind has no other keys than the kind's.
 fn no_unknown_event_key(place: Place, word: KindWord, table: &Table) -> Result<(), NetRefusal>
     ensures { Gives (λ _. tt) result (no_unknown place (event_keys word) (table_view table.now)) }
 {
     match word {
-        KindWord::Arrival => no_other_key(place, &["to"], table),
-        KindWord::Service => no_other_key(place, &["from", "to", "full"], table),
-        KindWord::Index => no_other_key(place, &["from", "to", "table", "full", "size"], table),
-        KindWord::Batch => no_other_key(place, &["to", "size"], table),
-        KindWord::Negative => no_other_key(place, &["from", "on", "amount"], table),
-        KindWord::Fork => no_other_key(place, &["from", "to"], table),
-        KindWord::Join => no_other_key(place, &["from", "to"], table),
-        KindWord::Guarded => no_other_key(place, &["part"], table),
+        KindWord::Arrival => no_unknown(place, &ALL, &["to"], table),
+        KindWord::Service => no_unknown(place, &ALL, &["from", "to", "full"], table),
+        KindWord::Index => no_unknown(place, &ALL, &["from", "to", "table", "full", "size"], table),
+        KindWord::Batch => no_unknown(place, &ALL, &["to", "size"], table),
+        KindWord::Negative => no_unknown(place, &ALL, &["from", "on", "amount"], table),
+        KindWord::Fork => no_unknown(place, &ALL, &["from", "to"], table),
+        KindWord::Join => no_unknown(place, &ALL, &["from", "to"], table),
+        KindWord::Guarded => no_unknown(place, &ALL, &["part"], table),
     }
 }
 

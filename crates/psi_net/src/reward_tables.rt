@@ -32,18 +32,13 @@ use toml::{Table, Value};
 fn reward_named(text: &str) -> Option<RewardWord>
     ensures { result ≡ reward_named text.now }
 {
-    if text == "linear" {
-        Some(RewardWord::Linear)
-    } else if text == "table" {
-        Some(RewardWord::Table)
-    } else if text == "greatest" {
-        Some(RewardWord::Greatest)
-    } else if text == "least" {
-        Some(RewardWord::Least)
-    } else if text == "above" {
-        Some(RewardWord::Above)
-    } else {
-        None
+    match text {
+        "linear" => Some(RewardWord::Linear),
+        "table" => Some(RewardWord::Table),
+        "greatest" => Some(RewardWord::Greatest),
+        "least" => Some(RewardWord::Least),
+        "above" => Some(RewardWord::Above),
+        _ => None,
     }
 }
 
@@ -54,29 +49,21 @@ fn reward_word(place: Place, value: Option<&Value>) -> Result<RewardWord, NetRef
 {
     let value = read!(present(place, "kind", value));
     let text = read!(text_in(place, "kind", value));
-    match reward_named(text) {
-        Some(word) => Ok(word),
-        None => Err(NetCause::UnknownKind.at_key(place, "kind")),
-    }
+    reward_named(text).ok_or(NetCause::UnknownKind.at_key(place, "kind"))
 }
 
-// The table of a reward has no other keys than those of every reward and these.
-fn no_other_key(place: Place, own: &[&str], table: &Table) -> Result<(), NetRefusal>
-    ensures { Gives (λ _. tt) result (no_unknown place (codes "kind" ∷ codes "name" ∷ codes "queues" ∷ map (λ k. k.now) own.now) (table_view table.now)) }
-{
-    no_unknown(place, &["kind", "name", "queues"], own, table)
-}
+// The keys of all rewards.
+const ALL: [&str; 3] = ["kind", "name", "queues"];
 
 // The table of a reward of this kind has no other keys than the kind's.
 fn no_unknown_reward_key(place: Place, word: RewardWord, table: &Table) -> Result<(), NetRefusal>
     ensures { Gives (λ _. tt) result (no_unknown place (reward_keys word) (table_view table.now)) }
 {
     match word {
-        RewardWord::Linear => no_other_key(place, &["weights"], table),
-        RewardWord::Table => no_other_key(place, &["table"], table),
-        RewardWord::Greatest => no_other_key(place, &[], table),
-        RewardWord::Least => no_other_key(place, &[], table),
-        RewardWord::Above => no_other_key(place, &["level"], table),
+        RewardWord::Linear => no_unknown(place, &ALL, &["weights"], table),
+        RewardWord::Table => no_unknown(place, &ALL, &["table"], table),
+        RewardWord::Greatest | RewardWord::Least => no_unknown(place, &ALL, &[], table),
+        RewardWord::Above => no_unknown(place, &ALL, &["level"], table),
     }
 }
 
