@@ -50,9 +50,7 @@ module _ (place : Place) where
 
   -- `table` of an index: one row for each target
   unfoldable pub table_of : List ℕ → List ℕ → Data → Result (List (List ℕ)) NetRefusal
-  table_of caps to d = do
-    elements ← counted_in place (codes "table") (length to) d
-    each (row_step caps to) 1 [] elements
+  table_of caps to d = counted_in place (codes "table") (length to) d >>= each (row_step caps to) 1 []
 
   -- `size`: 1 beside a source, and at most every target's capacity
   unfoldable pub size_fits : List ℕ → Bool → List ℕ → ℕ → Result ℕ NetRefusal

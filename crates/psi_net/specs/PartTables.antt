@@ -64,9 +64,7 @@ module _ (place : Place) (names : List (List ℕ)) (caps : List ℕ) where
 
   -- `part`: an array of 1 to 32 tables
   unfoldable pub parts_in : Data → Result (List Part) NetRefusal
-  parts_in d = do
-    tables ← elements_in place (codes "part") OutOfRange 32 d
-    each part_step 1 [] tables
+  parts_in d = elements_in place (codes "part") OutOfRange 32 d >>= each part_step 1 []
 
   -- the key of a guarded event
   unfoldable pub guarded_of : Members → Result Kind NetRefusal

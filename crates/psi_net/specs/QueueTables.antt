@@ -32,9 +32,7 @@ queue_step n earlier d = do
 
 -- `queue`: an array of 1 to 32 tables
 unfoldable pub queues_in : Data → Result (List Queue) NetRefusal
-queues_in d = do
-  tables ← elements_in top (codes "queue") MissingKey 32 d
-  each queue_step 1 [] tables
+queues_in d = elements_in top (codes "queue") MissingKey 32 d >>= each queue_step 1 []
 
 -- the queues of a document, whose key `queue` is required
 abbrev pub queues_of : Option Data → Result (List Queue) NetRefusal

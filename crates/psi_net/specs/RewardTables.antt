@@ -57,9 +57,7 @@ module _ (place : Place) where
 
   -- `weights`: as many integers as queues
   unfoldable pub weights_in : ℕ → Data → Result (List ℤ) NetRefusal
-  weights_in count d = do
-    elements ← counted_in place (codes "weights") count d
-    each (integer_step (codes "weights")) 1 [] elements
+  weights_in count d = counted_in place (codes "weights") count d >>= each (integer_step (codes "weights")) 1 []
 
   -- one row of `table`, with the rows before it: an integer for 0 customers up to the next queue's capacity
   unfoldable pub grid_step : List ℕ → List ℕ → ℕ → List (List ℤ) → Data → Result (List (List ℤ)) NetRefusal
@@ -70,9 +68,7 @@ module _ (place : Place) where
 
   -- `table`: one row for each queue
   unfoldable pub grid_in : List ℕ → List ℕ → Data → Result (List (List ℤ)) NetRefusal
-  grid_in caps queues d = do
-    elements ← counted_in place (codes "table") (length queues) d
-    each (grid_step caps queues) 1 [] elements
+  grid_in caps queues d = counted_in place (codes "table") (length queues) d >>= each (grid_step caps queues) 1 []
 
   -- the key of its own that a kind has
   unfoldable pub reward_kind_of : RewardWord → List ℕ → List ℕ → Members → Result RewardKind NetRefusal
