@@ -87,14 +87,7 @@ fn try_tables(rt: &(impl Env + Files + Print + Alloc<A = Global>)) -> anyhow::Re
     Ok(all)
 }
 
-fn main(rt: HostRuntime) -> ExitCode {
-    match try_tables(&rt) {
-        Ok(true) => ExitCode::from(0),
-        Ok(false) => ExitCode::from(1),
-        Err(error) => {
-            // Where standard error is closed too, only the exit status reports it.
-            let _ = eprintln!(rt; "psi_test_sweep: {error:#}");
-            ExitCode::from(1)
-        }
-    }
+fn main(rt: HostRuntime) -> anyhow::Result<ExitCode> {
+    let all = try_tables(&rt)?;
+    Ok(ExitCode::from(if all { 0 } else { 1 }))
 }
