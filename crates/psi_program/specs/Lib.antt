@@ -5,4 +5,5 @@ pub mod Ending
 pub mod Written
 pub mod Finished
 pub mod Call
+pub mod SeenBy
 pub mod Run

@@ -1,6 +1,7 @@
 //! Writing the text with which a call ends.
 
 ghost use Rattle.std.specs.Prelude.{◌≡◌, MatchResult};
+ghost use Rattle.psi_program.specs.SeenBy.{sink_seen};
 ghost use Rattle.psi_program.specs.Written.{reply_with, IsWrittenAs, IsSpared};
 
 use psi_io::{Sink, SinkFault, write_all};
@@ -34,14 +35,10 @@ pub fn finish<S: Copy, O: Sink, E: Sink>(
     err: &mut E,
 ) -> S
     ensures written { IsWrittenAs (reply_with status text.entry) fault
-        (record { before = O.held out.old; after = O.held out.new; took_before = O.took out.old; took_after = O.took out.new; faults_before = O.faults out.old; faults_after = O.faults out.new })
-        (record { before = E.held err.old; after = E.held err.new; took_before = E.took err.old; took_after = E.took err.new; faults_before = E.faults err.old; faults_after = E.faults err.new })
-        result }
+        (sink_seen O.held O.took O.faults out.old out.new) (sink_seen E.held E.took E.faults err.old err.new) result }
     // Where each sink takes its text, the status is the call's, and no count rose.
     ensures taken { IsSpared (O.takes out.old) (E.takes err.old) (reply_with status text.entry)
-        (record { before = O.held out.old; after = O.held out.new; took_before = O.took out.old; took_after = O.took out.new; faults_before = O.faults out.old; faults_after = O.faults out.new })
-        (record { before = E.held err.old; after = E.held err.new; took_before = E.took err.old; took_after = E.took err.new; faults_before = E.faults err.old; faults_after = E.faults err.new })
-        result }
+        (sink_seen O.held O.took O.faults out.old out.new) (sink_seen E.held E.took E.faults err.old err.new) result }
 {
     match text {
         Text::Printed(text) => status_of(write_all(out, text), status, fault),
