@@ -1,6 +1,7 @@
 //! The call that does all that the program does.
 
 ghost use Rattle.std.specs.Prelude.{◌≡◌, ◌⊎◌, Some, map, string_bytes};
+ghost use Rattle.psi_program.specs.SeenBy.{shelf_seen, sink_seen, call_seen};
 ghost use Rattle.psi_program.specs.Run.{HasRun};
 ghost use Rattle.psi_merge.specs.Status.{status_code};
 ghost use Rattle.psi_merge.specs.Reply.{Reply, reply_to};
@@ -56,21 +57,13 @@ pub(crate) fn run<F: Shelf, O: Sink, E: Sink>(
     err: &mut E,
 ) -> Status
     // What each status says of the words, the shelf and the sinks.
-    ensures call { IsRun (record {
-      words = map string_bytes words.now;
-      shelf = record { told = F.told shelf.old; asked_before = F.asked shelf.old; asked_after = F.asked shelf.new; faults_before = F.faults shelf.old; faults_after = F.faults shelf.new };
-      out = record { before = O.held out.old; after = O.held out.new; took_before = O.took out.old; took_after = O.took out.new; faults_before = O.faults out.old; faults_after = O.faults out.new };
-      err = record { before = E.held err.old; after = E.held err.new; took_before = E.took err.old; took_after = E.took err.new; faults_before = E.faults err.old; faults_after = E.faults err.new };
-    }) result }
+    ensures call { IsRun (call_seen (map string_bytes words.now) (shelf_seen F.told F.asked F.faults shelf.old shelf.new)
+        (sink_seen O.held O.took O.faults out.old out.new) (sink_seen E.held E.took E.faults err.old err.new)) result }
 
     // The headline: the reports of lists of samples of one network that a file may describe are merged into the report
     // of all lists, one after another.
-    ensures headline { MergesReports (record {
-      words = map string_bytes words.now;
-      shelf = record { told = F.told shelf.old; asked_before = F.asked shelf.old; asked_after = F.asked shelf.new; faults_before = F.faults shelf.old; faults_after = F.faults shelf.new };
-      out = record { before = O.held out.old; after = O.held out.new; took_before = O.took out.old; took_after = O.took out.new; faults_before = O.faults out.old; faults_after = O.faults out.new };
-      err = record { before = E.held err.old; after = E.held err.new; took_before = E.took err.old; took_after = E.took err.new; faults_before = E.faults err.old; faults_after = E.faults err.new };
-    }) result }
+    ensures headline { MergesReports (call_seen (map string_bytes words.now) (shelf_seen F.told F.asked F.faults shelf.old shelf.new)
+        (sink_seen O.held O.took O.faults out.old out.new) (sink_seen E.held E.took E.faults err.old err.new)) result }
 
     // What crossed the edges is a run of the program: the same over the bytes that were read and accepted, whatever the
     // models of the shelf and the sinks have.
