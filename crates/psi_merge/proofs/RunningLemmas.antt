@@ -1,6 +1,6 @@
 -- What a call is seen to do, from its ending and how that was written.
 use Rattle.std.specs.Prelude.{◌≡◌, ℕ, List, false}
-use Rattle.std.proofs.Common.{inl, inr, sym, ◌∙◌, subst}
+use Rattle.std.proofs.Common.{rules, inl, inr, sym, ◌∙◌, subst}
 use Rattle.psi_program.specs.Seen.{ShelfSeen}
 use Rattle.psi_program.specs.Written.{IsWrittenAs}
 use Rattle.psi_program.specs.Ending.{ending_reply}
@@ -19,6 +19,10 @@ asked-as : (shelf : ShelfSeen) (words : List (List ℕ)) (one other : Status) �
 asked-as shelf words one other done (inl none) = inl none
 asked-as shelf words one other done (inr asked) = inr (record { files = asked.files; last = asked.last; all = λ e. asked.all (done e) })
 
+-- a call that is done has replied
+done-replied : (code : Status) → code ≡ status.Done → IsReplied code
+done-replied code done = subst IsReplied (sym done) tt
+
 module _ (call : Call) where
   abbrev IsDone : Status → Type 0
   IsDone code = code ≡ status.Done
@@ -28,17 +32,7 @@ module _ (call : Call) where
 
   is-program : IsProgram faults status.Usage IsReplied IsReported IsDone (IsReplyTo call.words) call (reply_to_call call) (unread_line_of call) (HasFiles call) HasNoFiles
   is-program = record {
-    statuses = record {
-      usage_replied = tt;
-      no_read = λ kind. kind;
-      no_write = λ kind. kind;
-      no_memory = λ kind. kind;
-      read_write = λ e. absurd cc;
-      read_memory = λ e. absurd cc;
-      write_memory = λ e. absurd cc;
-      silent = λ kind. kind;
-      printed = λ s done. subst IsReplied (sym done) tt;
-    };
+    statuses = search (rules, done-replied);
     own = λ given is. record { replied = is.replied; other = is.usage; told = is.no_files; reported = is.reported; printed = is.printed };
     asked = λ files none. absurd cc;
     read = λ cause. cause.files;
@@ -48,20 +42,8 @@ module _ (call : Call) where
   run_is ending is result written =
       let run = runs faults status.Usage IsReplied IsReported IsDone (IsReplyTo call.words) call (reply_to_call call) (unread_line_of call) (HasFiles call) HasNoFiles
       is-program ending (record { may = is.reply; cause = is.cause }) result written in
-      record {
-        status = run.status;
-        out = run.out;
-        err = run.err;
-        reads = asked-as call.shelf call.words (ending_reply faults ending).status result (done written) is.asked;
-        complete = run.complete;
-        usage = run.other;
-        no_files = run.told;
-        read_fault = run.read_fault;
-        write_fault = run.write_fault;
-        no_memory = run.no_memory;
-        silent_out = run.silent_out;
-        silent_err = run.silent_err;
-      }
+      let reads = asked-as call.shelf call.words (ending_reply faults ending).status result (done written) is.asked in
+      assumption (run, reads)
     where
       done : IsWrittenAs (ending_reply faults ending) status.WriteFault call.out call.err result → result ≡ status.Done → (ending_reply faults ending).status ≡ status.Done
       done (inl whole) e = sym whole.0 ∙ e

@@ -1,6 +1,6 @@
 -- What a shelf is asked for over a call.
-use Rattle.std.specs.Prelude.{◌≡◌, ℕ, ◌⊎◌, List, [], ◌∷◌, ◌++◌, map, Option, Result, IsOk, IfSome, true, false}
-use Rattle.psi_io.specs.Shelf.{Read}
+use Rattle.std.specs.Prelude.{◌≡◌, ℕ, ◌≤◌, ◌⊎◌, List, [], ◌∷◌, ◌++◌, map, Option, Result, IsOk, IfSome, true, false}
+use Rattle.psi_io.specs.Shelf.{Read, Given, AgreesSince}
 use Rattle.psi_program.specs.Seen.{ShelfSeen, IsUnread, HasAsked}
 use Rattle.psi_report.specs.Contents.{Contents}
 use Rattle.psi_merge.specs.declared.status.Status.{Status}
@@ -10,6 +10,21 @@ use Rattle.psi_merge.specs.Reply.{Reply, are_files, whole_of}
 -- the read of a file: a report may have 1,048,576 bytes
 abbrev pub read_of : List ℕ → Read
 read_of name = record { name = name; most = 1048576 }
+
+-- the shelf's file of this name is read once, by what is told of the shelf before and after; where the shelf gives it, the read is fine
+pub record ReadsOnce {F : Type 0} (told_of : F → List ℕ → Option (List ℕ)) (gave_of : F → List Given) (given_by : F → List ℕ → Type 0) (asked_of : F → List Read)
+    (faults_of : F → List ℕ → ℕ) (before after : F) (name : List ℕ) (IsFine : Type 0) : Type 0 where
+  -- the answers agree with what the shelf's model has
+  pub agrees : AgreesSince (told_of before) (gave_of before) (gave_of after)
+  -- where the shelf gives the file, no read of it failed, and no count rose
+  pub read : given_by before name → IsFine
+  pub spared : given_by before name → faults_of after ≡ faults_of before
+  -- the file is read with its limit
+  pub asked : asked_of after ≡ asked_of before ++ read_of name ∷ []
+  -- what the shelf's model has and what the shelf gives stay as they were, and no count fell
+  pub same : told_of after ≡ told_of before
+  pub gives : (other : List ℕ) → given_by before other → given_by after other
+  pub counts : (other : List ℕ) → faults_of before other ≤ faults_of after other
 
 -- one of the names, and those before it have a report together, where it is known what is found of them
 pub record IsNext (found : List (List ℕ) → Option (Result Contents Reply)) (names : List (List ℕ)) (name : List ℕ) : Type 0 where

@@ -1,14 +1,15 @@
 //! The report of all files.
 
-ghost use Rattle.std.specs.Prelude.{◌≡◌, ◌≤◌, ℕ, List, [], ◌∷◌, ◌++◌, Option, Err, map, string_bytes, IfSome, IfErr};
+ghost use Rattle.std.specs.Prelude.{◌≡◌, ℕ, List, ◌∷◌, Option, Err, map, string_bytes, IfSome, IfErr};
 ghost use Rattle.std.specs.List.{list_all};
 ghost use Rattle.psi_report_reader.specs.declared.error.MergeError.{MergeError};
 ghost use Rattle.psi_merge.specs.declared.status.Status.TheVariants as status;
 ghost use Rattle.psi_io.specs.Shelf.{AgreesSince};
 ghost use Rattle.psi_program.specs.Seen.{seen_with};
+ghost use Rattle.psi_program.specs.SeenBy.{shelf_call};
 ghost use Rattle.psi_program.specs.Reply.{line_reply};
 ghost use Rattle.psi_merge.specs.Reply.{refused_line, merge_reply, report_at, with_file, with_files, whole_of, is_file};
-ghost use Rattle.psi_merge.specs.Seen.{read_of};
+ghost use Rattle.psi_merge.specs.Seen.{ReadsOnce};
 ghost use Rattle.psi_merge.specs.Ended.{ending_of, MayEnd, IsUnreadOf, IsTold, IsFound, AreFound, IsEnding};
 ghost use Rattle.psi_merge.specs.Spared.{AreNextGiven, AreGiven, HasRead};
 
@@ -68,19 +69,10 @@ fn unread(alloc: Global, name: &str) -> Ending
 
 // The report of a file, or the ending where there is none.
 fn report_at<F: Shelf>(alloc: Global, shelf: &mut F, name: &str) -> Result<Report, Ending>
-    ensures found { (told : List ℕ → Option (List ℕ)) → AgreesSince told (F.gave shelf.old) (F.gave shelf.new) → IsFound (seen_with (record { gave_before = F.gave shelf.old; gave_after = F.gave shelf.new; asked_before = F.asked shelf.old; asked_after = F.asked shelf.new; faults_before = F.faults shelf.old; faults_after = F.faults shelf.new }) told) name.now
+    ensures found { (told : List ℕ → Option (List ℕ)) → AgreesSince told (F.gave shelf.old) (F.gave shelf.new) → IsFound (seen_with (shelf_call F.gave F.asked F.faults shelf.old shelf.new) told) name.now
         (report_at told name.now) result }
-    // The answers agree with what the shelf's model has.
-    ensures agrees { AgreesSince (F.told shelf.old) (F.gave shelf.old) (F.gave shelf.new) }
-    // Where the shelf gives the file, no read of it failed, and no count rose.
-    ensures read { F.gives shelf.old name.now → IfErr result HasRead }
-    ensures spared { F.gives shelf.old name.now → F.faults shelf.new ≡ F.faults shelf.old }
-    // The file is read once, with its limit.
-    ensures asked { F.asked shelf.new ≡ F.asked shelf.old ++ read_of name.now ∷ [] }
-    // What the shelf's model has and what the shelf gives stay as they were, and no count fell.
-    ensures same { F.told shelf.new ≡ F.told shelf.old }
-    ensures gives { (other : List ℕ) → F.gives shelf.old other → F.gives shelf.new other }
-    ensures counts { (other : List ℕ) → F.faults shelf.old other ≤ F.faults shelf.new other }
+    // The file is read once, without a fault where the shelf gives it.
+    ensures once { ReadsOnce F.told F.gave F.gives F.asked F.faults shelf.old shelf.new name.now (IfErr result HasRead) }
 {
     let bytes = match shelf.read(alloc, name, MOST_BYTES) {
         Ok(bytes) => bytes,
@@ -101,19 +93,10 @@ fn with_file<F: Shelf>(
     whole: Report,
     name: &str,
 ) -> Result<Report, Ending>
-    ensures found { (told : List ℕ → Option (List ℕ)) → AgreesSince told (F.gave shelf.old) (F.gave shelf.new) → IsFound (seen_with (record { gave_before = F.gave shelf.old; gave_after = F.gave shelf.new; asked_before = F.asked shelf.old; asked_after = F.asked shelf.new; faults_before = F.faults shelf.old; faults_after = F.faults shelf.new }) told) name.now
+    ensures found { (told : List ℕ → Option (List ℕ)) → AgreesSince told (F.gave shelf.old) (F.gave shelf.new) → IsFound (seen_with (shelf_call F.gave F.asked F.faults shelf.old shelf.new) told) name.now
         (with_file told whole name.now) result }
-    // The answers agree with what the shelf's model has.
-    ensures agrees { AgreesSince (F.told shelf.old) (F.gave shelf.old) (F.gave shelf.new) }
-    // Where the shelf gives the file, no read of it failed, and no count rose.
-    ensures read { F.gives shelf.old name.now → IfErr result HasRead }
-    ensures spared { F.gives shelf.old name.now → F.faults shelf.new ≡ F.faults shelf.old }
-    // The file is read once, with its limit.
-    ensures asked { F.asked shelf.new ≡ F.asked shelf.old ++ read_of name.now ∷ [] }
-    // What the shelf's model has and what the shelf gives stay as they were, and no count fell.
-    ensures same { F.told shelf.new ≡ F.told shelf.old }
-    ensures gives { (other : List ℕ) → F.gives shelf.old other → F.gives shelf.new other }
-    ensures counts { (other : List ℕ) → F.faults shelf.old other ≤ F.faults shelf.new other }
+    // The file is read once, without a fault where the shelf gives it.
+    ensures once { ReadsOnce F.told F.gave F.gives F.asked F.faults shelf.old shelf.new name.now (IfErr result HasRead) }
 {
     let report = match report_at(alloc, shelf, name) {
         Ok(report) => report,
@@ -132,7 +115,7 @@ fn with_files<F: Shelf>(
     first: Report,
     names: &[String],
 ) -> Result<Report, Ending>
-    ensures found { (told : List ℕ → Option (List ℕ)) → AgreesSince told (F.gave shelf.old) (F.gave shelf.new) → AreFound (seen_with (record { gave_before = F.gave shelf.old; gave_after = F.gave shelf.new; asked_before = F.asked shelf.old; asked_after = F.asked shelf.new; faults_before = F.faults shelf.old; faults_after = F.faults shelf.new }) told)
+    ensures found { (told : List ℕ → Option (List ℕ)) → AgreesSince told (F.gave shelf.old) (F.gave shelf.new) → AreFound (seen_with (shelf_call F.gave F.asked F.faults shelf.old shelf.new) told)
         (with_files told first) (map string_bytes names.now) result }
     // The answers agree with what the shelf's model has.
     ensures agrees { AgreesSince (F.told shelf.old) (F.gave shelf.old) (F.gave shelf.new) }
@@ -157,7 +140,7 @@ fn whole_of<F: Shelf>(
     first: &str,
     rest: &[String],
 ) -> Result<Report, Ending>
-    ensures found { (told : List ℕ → Option (List ℕ)) → AgreesSince told (F.gave shelf.old) (F.gave shelf.new) → AreFound (seen_with (record { gave_before = F.gave shelf.old; gave_after = F.gave shelf.new; asked_before = F.asked shelf.old; asked_after = F.asked shelf.new; faults_before = F.faults shelf.old; faults_after = F.faults shelf.new }) told)
+    ensures found { (told : List ℕ → Option (List ℕ)) → AgreesSince told (F.gave shelf.old) (F.gave shelf.new) → AreFound (seen_with (shelf_call F.gave F.asked F.faults shelf.old shelf.new) told)
         (whole_of told) (first.now ∷ map string_bytes rest.now) result }
     // The answers agree with what the shelf's model has.
     ensures agrees { AgreesSince (F.told shelf.old) (F.gave shelf.old) (F.gave shelf.new) }
@@ -195,7 +178,7 @@ fn all_files(words: &[String]) -> bool
 
 /// The work for the words, before the first byte is written. Words that aren't names of files allocate nothing.
 pub(crate) fn work<F: Shelf>(alloc: Global, words: &[String], shelf: &mut F) -> Ending
-    ensures ending { (told : List ℕ → Option (List ℕ)) → AgreesSince told (F.gave shelf.old) (F.gave shelf.new) → IsEnding (seen_with (record { gave_before = F.gave shelf.old; gave_after = F.gave shelf.new; asked_before = F.asked shelf.old; asked_after = F.asked shelf.new; faults_before = F.faults shelf.old; faults_after = F.faults shelf.new }) told) (map string_bytes words.now) (ending_of result) }
+    ensures ending { (told : List ℕ → Option (List ℕ)) → AgreesSince told (F.gave shelf.old) (F.gave shelf.new) → IsEnding (seen_with (shelf_call F.gave F.asked F.faults shelf.old shelf.new) told) (map string_bytes words.now) (ending_of result) }
     // The answers agree with what the shelf's model has.
     ensures agrees { AgreesSince (F.told shelf.old) (F.gave shelf.old) (F.gave shelf.new) }
     // Where the shelf gives each file that is needed, no read failed, and no count rose.

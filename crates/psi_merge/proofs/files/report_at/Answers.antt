@@ -1,5 +1,5 @@
 -- Answers in the proof of `report_at`.
-use Rattle.std.proofs.Common.{Ok, Err, refl, ap, sym, subst}
+use Rattle.std.proofs.Common.{rules, Ok, Err, refl, ap, sym, subst}
 use Rattle.psi_io.specs.declared.shelf.ShelfFault.{ShelfFault}
 use Rattle.psi_io.proofs.AgreeingLemmas.{agrees_one, one_agrees}
 use Rattle.psi_merge.specs.declared.reports.TheConstants.{MOST_BYTES}
@@ -28,11 +28,8 @@ returns-in-Err-Refused-clause-found g c told agrees =
     (subst (MayEnd c.refused.result) (ap (report_reply c.args.name.now) (sym refused)) c.refused.ensures.ending))
     c.refused.ensures.told
 
-pub returns-in-Err-Refused-clause-read : goal.returns-in-Err-Refused-clause-read
-returns-in-Err-Refused-clause-read g c given = told-read c.refused.result c.refused.ensures.told
+pub returns-in-Err-Refused-clause-once : goal.returns-in-Err-Refused-clause-once
+returns-in-Err-Refused-clause-once g c = search (rules, agrees_one, told-read c.refused.result c.refused.ensures.told)
 
-pub returns-in-Ok-report_in-clause-agrees : goal.returns-in-Ok-report_in-clause-agrees
-returns-in-Ok-report_in-clause-agrees g c = agrees_one _ _ _ _ c.in-Ok.ensures.gave c.in-Ok.ensures.bytes
-
-pub returns-in-Err-Refused-clause-agrees : goal.returns-in-Err-Refused-clause-agrees
-returns-in-Err-Refused-clause-agrees g c = agrees_one _ _ _ _ c.in-Ok.ensures.gave c.in-Ok.ensures.bytes
+pub returns-in-Ok-report_in-clause-once : goal.returns-in-Ok-report_in-clause-once
+returns-in-Ok-report_in-clause-once g c = search (rules, agrees_one)

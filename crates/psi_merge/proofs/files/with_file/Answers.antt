@@ -1,4 +1,5 @@
 -- Answers in the proof of `with_file`.
+use Rattle.std.proofs.Common.{rules}
 use Rattle.psi_merge.proofs.FindingLemmas.{file-unmerged, file-merged, file-missed, told-found, told-read}
 use Rattle.psi_merge.proofs.files.with_file.Goals as goal
 
@@ -23,5 +24,5 @@ returns-in-Err-merged-clause-found g c told agrees =
     c.in-Err-merged.ensures c.unmerged.ensures.ending c.unmerged.ensures.memory)
     c.unmerged.ensures.told
 
-pub returns-in-Err-merged-clause-read : goal.returns-in-Err-merged-clause-read
-returns-in-Err-merged-clause-read g c given = told-read c.unmerged.result c.unmerged.ensures.told
+pub returns-in-Err-merged-clause-once : goal.returns-in-Err-merged-clause-once
+returns-in-Err-merged-clause-once g c = search (rules, told-read c.unmerged.result c.unmerged.ensures.told)
