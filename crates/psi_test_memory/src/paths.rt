@@ -10,9 +10,8 @@ use psi_net::Net;
 use psi_past::SeedPast;
 use psi_path::{Rewards, SamplePath, Walk};
 use psi_rate::System;
-use psi_reward::RewardLaw;
 use psi_state::{Outcome, State};
-use psi_table::{Rows, Walked};
+use psi_table::{NetRewards, Rows, Walked};
 use std::alloc::Global;
 
 /// How many steps a path has: more than the random words that are drawn at once.
@@ -23,31 +22,6 @@ const ROWS: u64 = 4_000;
 
 /// How many bytes a sink has room for: a table of this many rows.
 const ROOM: usize = 800_000;
-
-/// The rewards of a network.
-#[derive(Drop)]
-struct NetRewards<'n> {
-    net: &'n Net,
-}
-
-impl<'n> Rewards for NetRewards<'n> {
-    ghost use Rattle.psi_net_model.specs.Network.{caps_of};
-    ghost use Rattle.psi_table.specs.Paths.{worths_of};
-
-    ghost capacities = { λ r. caps_of r.net.now };
-
-    ghost worths = { λ r. worths_of r.net.now };
-
-    fn count(&self) -> usize {
-        self.net.rewards() as usize
-    }
-
-    fn value(&self, r: usize, x: &State) -> i64 {
-        // Called for its clause: there are at most 64 rewards.
-        let _queues = self.net.queues();
-        self.net.reward(r as u8).value(x)
-    }
-}
 
 /// Makes a walk, and a table of each kind, and calls them or not; `None` where memory is wanting.
 pub(crate) fn make(alloc: Global, calls: bool, net: &Net) -> Option<()> {
