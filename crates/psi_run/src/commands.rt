@@ -3,6 +3,7 @@
 ghost use Rattle.std.specs.Prelude.{◌≡◌, ℕ, ◌++◌, List, Option, Ok, map, drop};
 ghost use Rattle.psi_io.specs.Shelf.{AgreesSince};
 ghost use Rattle.psi_program.specs.Seen.{ShelfCall, seen_with};
+ghost use Rattle.psi_program.specs.SeenBy.{shelf_call, sink_seen};
 ghost use Rattle.psi_command.specs.Command.{files_of};
 ghost use Rattle.psi_command.specs.Request.{asked, requested, IsInRange, AsksInRange};
 ghost use Rattle.psi_program.specs.Ending.{HasRead};
@@ -39,12 +40,10 @@ pub(crate) fn perform<F: Shelf, O: Sink, E: Sink>(
     // The work has an ending, with the reads that it names; where the shelf gives each file that is named, no read
     // failed.
     ensures finished { let command = Ok (requested request.entry) in
-        let seen : ShelfCall = record { gave_before = F.gave shelf.old; gave_after = F.gave shelf.new; asked_before = F.asked shelf.old; asked_after = F.asked shelf.new; faults_before = F.faults shelf.old; faults_after = F.faults shelf.new } in
+        let seen : ShelfCall = shelf_call F.gave F.asked F.faults shelf.old shelf.new in
         IsFinished faults (EndsAnyhow seen (F.gives shelf.old) command)
         (O.takes out.old) (E.takes err.old)
-        (record { before = O.held out.old; after = O.held out.new; took_before = O.took out.old; took_after = O.took out.new; faults_before = O.faults out.old; faults_after = O.faults out.new })
-        (record { before = E.held err.old; after = E.held err.new; took_before = E.took err.old; took_after = E.took err.new; faults_before = E.faults err.old; faults_after = E.faults err.new })
-        result }
+        (sink_seen O.held O.took O.faults out.old out.new) (sink_seen E.held E.took E.faults err.old err.new) result }
     // The answers agree with what the shelf's model has.
     ensures agrees { AgreesSince (F.told shelf.old) (F.gave shelf.old) (F.gave shelf.new) }
     // And no count rose there.
@@ -67,7 +66,7 @@ fn work<'w, F: Shelf>(
     question: Question<'w>,
 ) -> Ending<'w>
     requires { IsInRange question }
-    ensures ending { IsEndingOf (record { gave_before = F.gave shelf.old; gave_after = F.gave shelf.new; asked_before = F.asked shelf.old; asked_after = F.asked shelf.new; faults_before = F.faults shelf.old; faults_after = F.faults shelf.new })
+    ensures ending { IsEndingOf (shelf_call F.gave F.asked F.faults shelf.old shelf.new)
         (Ok (asked name.now question.entry)) (ending_of result) }
     // The answers agree with what the shelf's model has.
     ensures agrees { AgreesSince (F.told shelf.old) (F.gave shelf.old) (F.gave shelf.new) }
@@ -90,7 +89,7 @@ fn answer<'w, F: Shelf>(
 ) -> Ending<'w>
     requires { IsInRange question }
     ensures ending { (told : List ℕ → Option (List ℕ)) → AgreesSince told (F.gave shelf.old) (F.gave shelf.new) → (name : List ℕ) → IsNetAt told name net.now
-        → IsEnding (seen_with (record { gave_before = F.gave shelf.old; gave_after = F.gave shelf.new; asked_before = F.asked shelf.old; asked_after = F.asked shelf.new; faults_before = F.faults shelf.old; faults_after = F.faults shelf.new }) told)
+        → IsEnding (seen_with (shelf_call F.gave F.asked F.faults shelf.old shelf.new) told)
         (Ok (asked name question.entry)) (ending_of result) }
     // The answers agree with what the shelf's model has.
     ensures agrees { AgreesSince (F.told shelf.old) (F.gave shelf.old) (F.gave shelf.new) }

@@ -3,6 +3,7 @@
 ghost use Rattle.std.specs.Prelude.{◌≡◌, ◌≤◌, ◌++◌, ℕ, List, [], ◌∷◌, Option, IfOk, IfErr, OnOk};
 ghost use Rattle.psi_io.specs.Shelf.{AgreesSince};
 ghost use Rattle.psi_program.specs.Seen.{seen_with};
+ghost use Rattle.psi_program.specs.SeenBy.{shelf_call};
 ghost use Rattle.psi_command.specs.Command.{net_file, log_file};
 ghost use Rattle.psi_program.specs.Ending.{HasRead};
 ghost use Rattle.psi_run.specs.Reads.{read_of};
@@ -24,7 +25,7 @@ pub fn network_at<'w, F: Shelf>(
     name: &'w str,
 ) -> Result<Net, Ending<'w>>
     ensures network { (told : List ℕ → Option (List ℕ)) → AgreesSince told (F.gave shelf.old) (F.gave shelf.new) → IfOk result (IsNetAt told name.now) }
-    ensures none { (told : List ℕ → Option (List ℕ)) → AgreesSince told (F.gave shelf.old) (F.gave shelf.new) → IfErr result (IsNoNet (seen_with (record { gave_before = F.gave shelf.old; gave_after = F.gave shelf.new; asked_before = F.asked shelf.old; asked_after = F.asked shelf.new; faults_before = F.faults shelf.old; faults_after = F.faults shelf.new }) told)
+    ensures none { (told : List ℕ → Option (List ℕ)) → AgreesSince told (F.gave shelf.old) (F.gave shelf.new) → IfErr result (IsNoNet (seen_with (shelf_call F.gave F.asked F.faults shelf.old shelf.new) told)
         name.now) }
     // Where the shelf gives the file, no read of it failed, and no count rose.
     ensures read { F.gives shelf.old name.now → IfErr result (λ ending. HasRead (ending_of ending)) }
@@ -60,7 +61,7 @@ pub(crate) fn feed_log<'w, F: Shelf, C: Consumer>(
 ) -> Result<(), Ending<'w>>
     requires { C.taken to.old ≡ [] }
     ensures text { (told : List ℕ → Option (List ℕ)) → AgreesSince told (F.gave shelf.old) (F.gave shelf.new) → OnOk result (IsTextAt told name.now (C.taken to.new)) }
-    ensures none { (told : List ℕ → Option (List ℕ)) → AgreesSince told (F.gave shelf.old) (F.gave shelf.new) → IfErr result (IsNoText (seen_with (record { gave_before = F.gave shelf.old; gave_after = F.gave shelf.new; asked_before = F.asked shelf.old; asked_after = F.asked shelf.new; faults_before = F.faults shelf.old; faults_after = F.faults shelf.new }) told)
+    ensures none { (told : List ℕ → Option (List ℕ)) → AgreesSince told (F.gave shelf.old) (F.gave shelf.new) → IfErr result (IsNoText (seen_with (shelf_call F.gave F.asked F.faults shelf.old shelf.new) told)
         name.now) }
     ensures setting { C.setting to.new ≡ C.setting to.old }
     // Where the shelf gives the file, no read of it failed, and no count rose.

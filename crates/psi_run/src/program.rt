@@ -3,6 +3,7 @@
 ghost use Rattle.std.specs.Prelude.{◌≡◌, ◌≢◌, ℕ, ◌^◌, ◌<◌, ◌⊎◌, List, [], ◌∷◌, Some, Ok, map, codes, string_bytes};
 ghost use Rattle.std.specs.Fmt.{decimal};
 ghost use Rattle.psi_io.specs.Counts.{Rose};
+ghost use Rattle.psi_program.specs.SeenBy.{shelf_seen, sink_seen, call_seen};
 ghost use Rattle.psi_program.specs.Run.{HasRun};
 ghost use Rattle.psi_net_model.specs.Network.{Network};
 ghost use Rattle.psi_net.specs.Reading.{network_of};
@@ -139,12 +140,8 @@ pub fn run<F: Shelf, O: Sink, E: Sink>(
     err: &mut E,
 ) -> Status
     // What each status says of the words, the shelf and the sinks.
-    ensures call { IsRun (record {
-      words = map string_bytes words.now;
-      shelf = record { told = F.told shelf.old; asked_before = F.asked shelf.old; asked_after = F.asked shelf.new; faults_before = F.faults shelf.old; faults_after = F.faults shelf.new };
-      out = record { before = O.held out.old; after = O.held out.new; took_before = O.took out.old; took_after = O.took out.new; faults_before = O.faults out.old; faults_after = O.faults out.new };
-      err = record { before = E.held err.old; after = E.held err.new; took_before = E.took err.old; took_after = E.took err.new; faults_before = E.faults err.old; faults_after = E.faults err.new };
-    }) result }
+    ensures call { IsRun (call_seen (map string_bytes words.now) (shelf_seen F.told F.asked F.faults shelf.old shelf.new)
+        (sink_seen O.held O.took O.faults out.old out.new) (sink_seen E.held E.took E.faults err.old err.new)) result }
 
     // The headline: where the words are those of a sample, the shelf's model has a file that reads as a network, no
     // count of faults rose in this call and memory didn't run out, what is printed is a sample of the network.

@@ -3,6 +3,7 @@
 ghost use Rattle.std.specs.Prelude.{◌≡◌, ◌^◌, ◌≤◌, Ok};
 ghost use Rattle.psi_io.specs.Shelf.{AgreesSince};
 ghost use Rattle.psi_program.specs.Seen.{ShelfCall};
+ghost use Rattle.psi_program.specs.SeenBy.{shelf_call, sink_seen};
 ghost use Rattle.psi_log_format.specs.Text.{log_text};
 ghost use Rattle.psi_log_writer.specs.Recorded.{log_of};
 ghost use Rattle.psi_command.specs.Command.{certify};
@@ -44,9 +45,7 @@ fn write_run<L: EventLaw, P: Past + Drop, F: Follower + Drop, O: Sink, E: Sink>(
     requires version { header.now.version ≡ 2 }
     ensures { let text = log_text (log_of L.function plan.old.system (P.words plan.old.past) header.now state.now) in
         IsFinished faults (λ ending. EndsWith ending (log_reply text)) (O.takes out.old) (E.takes err.old)
-        (record { before = O.held out.old; after = O.held out.new; took_before = O.took out.old; took_after = O.took out.new; faults_before = O.faults out.old; faults_after = O.faults out.new })
-        (record { before = E.held err.old; after = E.held err.new; took_before = E.took err.old; took_after = E.took err.new; faults_before = E.faults err.old; faults_after = E.faults err.new })
-        result }
+        (sink_seen O.held O.took O.faults out.old out.new) (sink_seen E.held E.took E.faults err.old err.new) result }
 {
     let Ok(mut line) = LineBuf::reserve(alloc) else {
         return finish(&Ending::OutOfMemory, out, err);
@@ -74,9 +73,7 @@ fn write_sample<O: Sink, E: Sink>(
     err: &mut E,
 ) -> Status
     ensures { IsFinished faults (λ ending. EndsWith ending (certify_reply net.now seed stream (sampled net.now seed stream))) (O.takes out.old) (E.takes err.old)
-        (record { before = O.held out.old; after = O.held out.new; took_before = O.took out.old; took_after = O.took out.new; faults_before = O.faults out.old; faults_after = O.faults out.new })
-        (record { before = E.held err.old; after = E.held err.new; took_before = E.took err.old; took_after = E.took err.new; faults_before = E.faults err.old; faults_after = E.faults err.new })
-        result }
+        (sink_seen O.held O.took O.faults out.old out.new) (sink_seen E.held E.took E.faults err.old err.new) result }
 {
     let queues = net.queues();
     let Ok(mut plan) = plan_for(alloc, net, seed, stream) else {
@@ -116,11 +113,9 @@ pub(crate) fn perform<F: Shelf, O: Sink, E: Sink>(
     out: &mut O,
     err: &mut E,
 ) -> Status
-    ensures finished { let seen : ShelfCall = record { gave_before = F.gave shelf.old; gave_after = F.gave shelf.new; asked_before = F.asked shelf.old; asked_after = F.asked shelf.new; faults_before = F.faults shelf.old; faults_after = F.faults shelf.new } in
+    ensures finished { let seen : ShelfCall = shelf_call F.gave F.asked F.faults shelf.old shelf.new in
         IsFinished faults (λ ending. IsEndingOf seen (Ok (certify net.now seed stream)) ending × (F.gives shelf.old net.now → HasRead ending)) (O.takes out.old) (E.takes err.old)
-        (record { before = O.held out.old; after = O.held out.new; took_before = O.took out.old; took_after = O.took out.new; faults_before = O.faults out.old; faults_after = O.faults out.new })
-        (record { before = E.held err.old; after = E.held err.new; took_before = E.took err.old; took_after = E.took err.new; faults_before = E.faults err.old; faults_after = E.faults err.new })
-        result }
+        (sink_seen O.held O.took O.faults out.old out.new) (sink_seen E.held E.took E.faults err.old err.new) result }
     // The answers agree with what the shelf's model has.
     ensures agrees { AgreesSince (F.told shelf.old) (F.gave shelf.old) (F.gave shelf.new) }
     ensures spared { F.gives shelf.old net.now → F.faults shelf.new ≡ F.faults shelf.old }

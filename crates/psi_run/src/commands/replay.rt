@@ -3,6 +3,7 @@
 ghost use Rattle.std.specs.Prelude.{◌≡◌, ◌++◌, ℕ, List, [], ◌∷◌, Option, Ok};
 ghost use Rattle.psi_io.specs.Shelf.{AgreesSince};
 ghost use Rattle.psi_program.specs.Seen.{seen_with};
+ghost use Rattle.psi_program.specs.SeenBy.{shelf_call};
 ghost use Rattle.psi_command.specs.Command.{replay, log_file};
 ghost use Rattle.psi_reply.specs.Ended.{ending_of};
 ghost use Rattle.psi_program.specs.Ending.{HasRead};
@@ -25,7 +26,7 @@ pub(crate) fn work<'w, F: Shelf>(
     log: &'w str,
 ) -> Ending<'w>
     ensures ending { (told : List ℕ → Option (List ℕ)) → AgreesSince told (F.gave shelf.old) (F.gave shelf.new) → (name : List ℕ) → IsNetAt told name net.now
-        → IsEnding (seen_with (record { gave_before = F.gave shelf.old; gave_after = F.gave shelf.new; asked_before = F.asked shelf.old; asked_after = F.asked shelf.new; faults_before = F.faults shelf.old; faults_after = F.faults shelf.new }) told)
+        → IsEnding (seen_with (shelf_call F.gave F.asked F.faults shelf.old shelf.new) told)
         (Ok (replay name log.now)) (ending_of result) }
     ensures read { F.gives shelf.old log.now → HasRead (ending_of result) }
     ensures spared { F.gives shelf.old log.now → F.faults shelf.new ≡ F.faults shelf.old }
