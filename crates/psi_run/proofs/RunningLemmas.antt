@@ -1,6 +1,6 @@
 -- What a call is seen to do, from how its work ended and how that was written.
 use Rattle.std.specs.Prelude.{◌≡◌, ℕ, zero, suc, List, [], ◌∷◌, Option, Some, Result, Ok, Err, IsOk, IsErr, IsOkAnd, IfOk, Contains, refl}
-use Rattle.std.proofs.Common.{sym, ap, ◌∙◌, subst, arith, inl, inr}
+use Rattle.std.proofs.Common.{rules, sym, ap, ◌∙◌, subst, arith, inl, inr}
 use Rattle.psi_io.specs.Sink.{appended}
 use Rattle.psi_program.specs.Seen.{ShelfSeen, IsUnread}
 use Rattle.psi_program.specs.Written.{IsWrittenAs}
@@ -69,17 +69,7 @@ printed-replied : (status : Status) → IsPrinted status → IsReplied status
 printed-replied status printed = grind arith
 
 pub are-statuses : AreStatuses ending.ReadFault ending.WriteFault ending.OutOfMemory ending.Usage IsReplied IsReported IsPrinted
-are-statuses = record {
-  usage_replied = tt;
-  no_read = λ kind. kind;
-  no_write = λ kind. kind;
-  no_memory = λ kind. kind;
-  read_write = λ e. absurd cc;
-  read_memory = λ e. absurd cc;
-  write_memory = λ e. absurd cc;
-  silent = λ kind. kind;
-  printed = printed-replied;
-}
+are-statuses = search (rules, printed-replied)
 
 read-ok : (command : Result Command ℕ) (file : File) → IsRead command file → IsOk command
 read-ok (Ok command) file read = refl
@@ -124,26 +114,16 @@ module _ (call : Call) where
         is-program end (record { may = is.reply; cause = cause-of end is.cause }) result written in
         let has : (status : Status) → (ending.Usage ≡ status → ⊥) → IsReplied status → result ≡ status → IsOkAnd asked (IsOfCommand status) =
         λ status no_usage kind same. (let own = run.own (subst IsReplied (sym same) kind) in reply-has asked own.0 status no_usage own.1 (own.2 ∙ same)) in
-        record {
-          status = run.status;
-          out = run.out;
-          err = run.err;
-          reads = reads-as written reads;
-          complete = run.complete;
-          usage = run.other;
-          no_command = run.told;
-          log_refused = has ending.LogRefused (λ e. absurd cc) tt;
-          log_too_long = has ending.LogTooLong (λ e. absurd cc) tt;
-          unknown_reward = has ending.UnknownReward (λ e. absurd cc) tt;
-          too_many_states = has ending.TooManyStates (λ e. absurd cc) tt;
-          not_closed = has ending.NotClosed (λ e. absurd cc) tt;
-          no_such_total = has ending.NoSuchTotal (λ e. absurd cc) tt;
-          read_fault = run.read_fault;
-          write_fault = run.write_fault;
-          no_memory = run.no_memory;
-          silent_out = run.silent_out;
-          silent_err = run.silent_err;
-        }
+        assumption (
+          run,
+          reads-as written reads,
+          has ending.LogRefused (λ e. absurd cc) tt,
+          has ending.LogTooLong (λ e. absurd cc) tt,
+          has ending.UnknownReward (λ e. absurd cc) tt,
+          has ending.TooManyStates (λ e. absurd cc) tt,
+          has ending.NotClosed (λ e. absurd cc) tt,
+          has ending.NoSuchTotal (λ e. absurd cc) tt,
+        )
 
 -- once the ending's text is written whole, a reply's status means what the command says
 pub run_means : (shelf : ShelfSeen) (words : Result Command ℕ) (end : Ending) (before after : Option (List ℕ)) (result : Status) (command : Command)
