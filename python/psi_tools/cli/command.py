@@ -51,37 +51,32 @@ def run(command: str, work: Callable[[list[str]], int | None], arguments: list[s
         if sys.stdout is not None:
             sys.stdout.flush()
         return status
-    except PsiError as error:
-        print_note(command, error)
-        status = error.status
-    except KeyboardInterrupt:
-        print_note(command, "stopped")
-        status = STOPPED
-    except MemoryError:
-        print_note(command, "there isn't enough memory")
-        status = NO_MEMORY
-    except ModuleNotFoundError as fault:
-        print_note(command, f"{fault}; tools/setup installs what it needs for /usr/bin/python3")
-        status = 1
-    except OSError as fault:
-        status = report_fault(command, fault)
-    except Exception as fault:
-        # What nobody thought of is one line, too; the variable is for whoever mends it.
-        if "PSI_TRACEBACK" in os.environ:
-            raise
-        print_note(command, f"a fault of the tool: {type(fault).__name__}: {fault}")
-        status = 1
+    except (Exception, KeyboardInterrupt) as fault:
+        status, why = ending_of(fault)
+        print_note(command, why)
     silence(sys.stdout)
     return status
 
 
-def report_fault(command: str, fault: OSError) -> int:
-    """One line on a fault of the system, and the status that it ends with."""
-    if fault.errno in (errno.EMFILE, errno.ENFILE):
-        print_note(command, "too many files would be open at once; `ulimit -n` says how many may be")
-        return 1
-    print_note(command, f"{fault.filename or 'what was written'}: {reason(fault)}")
-    return UNWRITTEN
+def ending_of(fault: BaseException) -> tuple[int, object]:
+    """The status with which a command ends by a fault, and its line on standard error."""
+    match fault:
+        case PsiError():
+            return fault.status, fault
+        case KeyboardInterrupt():
+            return STOPPED, "stopped"
+        case MemoryError():
+            return NO_MEMORY, "there isn't enough memory"
+        case ModuleNotFoundError():
+            return 1, f"{fault}; tools/setup installs what it needs for /usr/bin/python3"
+        case OSError(errno=errno.EMFILE | errno.ENFILE):
+            return 1, "too many files would be open at once; `ulimit -n` says how many may be"
+        case OSError():
+            return UNWRITTEN, f"{fault.filename or 'what was written'}: {reason(fault)}"
+    # What nobody thought of is one line, too; the variable is for whoever mends it.
+    if "PSI_TRACEBACK" in os.environ:
+        raise fault
+    return 1, f"a fault of the tool: {type(fault).__name__}: {fault}"
 
 
 def fill_closed() -> None:
