@@ -33,17 +33,16 @@ def report_of_text(net: Network, text: bytes, count: int) -> bytes | None:
     found = samples_of(text)
     if found is None or len(found) != count or any(sample and len(sample[1]) != len(net.queues) for sample in found):
         return None
-    met, report = [sample for sample in found if sample], Report()
-    report.samples, report.met = len(found), len(met)
-    report.horizons = sorted(collections.Counter(horizon for horizon, _ in met).items())
+    met, figures = [sample for sample in found if sample], []
+    horizons = sorted(collections.Counter(horizon for horizon, _ in met).items())
     rows = [(*state, *values_of(net, state)) for _, state in met]
     names = [(b"", name) for name in net.queues] + [(b"reward-", name) for name in net.rewards]
     for place, (kind, name) in enumerate(names):
         numbers = [row[place] for row in rows]
         ends = {b"least": min(numbers), b"greatest": max(numbers)} if numbers else {}
         for word, value in {b"sum": sum(numbers), **ends}.items():
-            report.figures.append(Figure(kind, word, name.encode(), value))
-    return report.text()
+            figures.append(Figure(kind, word, name.encode(), value))
+    return Report(len(found), len(met), horizons, figures).text()
 
 
 # What draws the table of a block: of each stream a row of its number, the horizon, the queues and the rewards.

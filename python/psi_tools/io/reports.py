@@ -15,7 +15,7 @@ import os
 import re
 import sys
 from collections import Counter
-from collections.abc import Callable, Iterable
+from collections.abc import Callable, Iterable, Sequence
 from typing import NamedTuple
 
 MOST_BYTES = 1_048_576
@@ -58,15 +58,15 @@ class Figure(NamedTuple):
     value: int
 
 
-class Report:
+class Report(NamedTuple):
     """What a report has: how many samples there are, how many are met and at which horizons, and
     the figures of the queues and the rewards.
     """
 
-    def __init__(self) -> None:
-        self.samples = self.met = 0
-        self.horizons: list[tuple[int, int]] = []
-        self.figures: list[Figure] = []
+    samples: int = 0
+    met: int = 0
+    horizons: Sequence[tuple[int, int]] = ()
+    figures: Sequence[Figure] = ()
 
     def text(self) -> bytes:
         """The report as `psi report` prints it."""
@@ -103,7 +103,7 @@ def is_row(item: bytes, name: bytes, value: bytes) -> bool:
     return is_named and number(value, -MOST_VALUE, MOST_VALUE) is not None
 
 
-def wrong_in(figures: list[Figure], met: int, steady: bool) -> int | None:
+def wrong_in(figures: Sequence[Figure], met: int, steady: bool) -> int | None:
     """The first of the figures of a queue or a reward that is wrong, of which the sum is the first,
     or none: the extremes are those of the sum where samples are met, and allow it; and a reward's
     are equal where those of each queue are, which are steady.
@@ -126,7 +126,7 @@ def wrong_in(figures: list[Figure], met: int, steady: bool) -> int | None:
     return 2 if steady and total.kind and low < high else None
 
 
-def flaw_in_figures(figures: list[Figure], met: int) -> int | None:
+def flaw_in_figures(figures: Sequence[Figure], met: int) -> int | None:
     """The place of the first figure that may not stand there, that after all where figures are
     missing, or none.
     """
@@ -169,12 +169,10 @@ def flaw(report: Report) -> int | None:
 
 def read_in_order(found: re.Match[bytes]) -> Report:
     """The report of a text whose rows are in their order."""
-    report = Report()
-    report.samples, report.met = int(found[1]), int(found[2])
     horizons, figures = ([row.split(b",") for row in rows.splitlines()] for rows in found.group(3, 4))
-    report.horizons = [(int(horizon), int(count)) for _, horizon, count in horizons]
-    report.figures = [Figure(*ITEMS[item], name, int(value)) for item, name, value in figures]
-    return report
+    met_at = [(int(horizon), int(count)) for _, horizon, count in horizons]
+    values = [Figure(*ITEMS[item], name, int(value)) for item, name, value in figures]
+    return Report(int(found[1]), int(found[2]), met_at, values)
 
 
 def refusal_of(text: bytes) -> ReportError:
@@ -210,7 +208,7 @@ def place_of_difference(first: Report, report: Report) -> int:
     return 5 + len(report.horizons) + same * (3 if report.met else 1)
 
 
-def both_figures(first: Report, other: Report) -> list[Figure]:
+def both_figures(first: Report, other: Report) -> Sequence[Figure]:
     """What the figures of two reports come to together."""
     if not first.met or not other.met:
         return other.figures if not first.met else first.figures
@@ -223,9 +221,8 @@ def together(first: Report, other: Report) -> Report:
     line = place_of_difference(first, other)
     if line:
         raise ReportError(4, f"other network line {line}")
-    both, horizons = Report(), Counter(dict(first.horizons)) + Counter(dict(other.horizons))
-    both.samples, both.met = first.samples + other.samples, first.met + other.met
-    both.horizons, both.figures = sorted(horizons.items()), both_figures(first, other)
+    horizons, figures = Counter(dict(first.horizons)) + Counter(dict(other.horizons)), both_figures(first, other)
+    both = Report(first.samples + other.samples, first.met + other.met, sorted(horizons.items()), figures)
     large = [place for place, figure in enumerate(both.figures) if abs(figure.value) > MOST_VALUE]
     if both.samples > MOST_COUNT:
         raise ReportError(5, "too large line 2")
