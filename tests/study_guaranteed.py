@@ -94,7 +94,7 @@ class Case:
         streams = WORDS.repetitions * WORDS.count
         blocks = [*blocks_of(0, streams, WORDS.count), (streams, WORDS.count)]
         draw = any_drawing(psi, self.net, self.seed)
-        *self.counts, pilot = psi.all([functools.partial(self.counted, draw, block) for block in blocks])
+        *self.counts, pilot = psi.all(lambda block: self.counted(draw, block), blocks)
         self.pilot = Pilot(*pilot, streams, WORDS.count)
 
     def counted(self, draw: Draw, block: Streams) -> Counted:

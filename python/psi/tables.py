@@ -1,7 +1,6 @@
 """Samples of many streams, as arrays and as tables."""
 
 from collections.abc import Callable, Iterable
-from functools import partial
 from typing import Any, TypeVar
 
 import numpy
@@ -312,9 +311,7 @@ def _drawn(
         table = Columns(header, draw(block), *block)
         return table.is_met, [table.column(name) for name in names]
 
-    found = _under_bar(
-        program, first, count, lambda blocks, done: program.all([partial(read, block) for block in blocks], done)
-    )
+    found = _under_bar(program, first, count, lambda blocks, done: program.all(read, blocks, done))
     columns = zip(*(columns for _, columns in found))
     return numpy.concatenate([is_met for is_met, _ in found]), [numpy.concatenate(column) for column in columns]
 

@@ -4,7 +4,6 @@ Prints a line `NAME MEAN` for each queue. With COUNT the mean over that many sam
 with half its interval of some 95 %: those of the streams from 0 on and the seed 0.
 """
 
-import functools
 import math
 from collections.abc import Sequence
 
@@ -24,8 +23,8 @@ analysis, and beside that the mean over samples with half its interval of some 9
 
 def states_of(psi: Program, net: bytes, total: int, count: int) -> list[list[int]]:
     """The states of samples of seed 0, as rows; all of them have to be coupled."""
-    calls = [functools.partial(psi.ask, "closed", net, 0, stream, total, statuses=(0, 1)) for stream in range(count)]
-    found = samples_of("".join(answer.out for answer in psi.all(calls)).encode()) or []
+    texts = psi.all(lambda stream: psi.ask("closed", net, 0, stream, total, statuses=(0, 1)).out, range(count))
+    found = samples_of("".join(texts).encode()) or []
     if None in found:
         raise PsiError("psi closed ended with 1", 1)
     return [sample[1] for sample in found if sample]

@@ -2,7 +2,6 @@
 
 import collections
 import dataclasses
-import functools
 from collections.abc import Sequence
 from typing import TYPE_CHECKING
 
@@ -93,12 +92,9 @@ class Samples:
         """What the samples have in some columns, and the ends of some queues."""
         draw, header = any_drawing(self.psi, self.net, self.seed), header_of(self.net)
         blocks = blocks_of(self.first, self.count, table_size(self.count, self.psi.jobs))
-
-        def drawn(block: Streams) -> Tally:
-            return tally_of(header, draw(block), block, columns, queues)
-
         with self.progress(len(blocks), "blocks") as bar, reading_ahead():
-            return added(self.psi.all([functools.partial(drawn, block) for block in blocks], bar.show))
+            drawn = self.psi.all(lambda block: tally_of(header, draw(block), block, columns, queues), blocks, bar.show)
+        return added(drawn)
 
 
 def tally_of(

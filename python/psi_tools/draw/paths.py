@@ -1,9 +1,8 @@
 """Tables of paths, as psi_paths prints them, drawn side by side on this machine in blocks."""
 
-import functools
-from collections.abc import Callable, Sequence
+from collections.abc import Sequence
 
-from psi_tools.draw.program import Program, Streams
+from psi_tools.draw.program import Done, Program, Streams
 from psi_tools.io.samples import Rows, rows_of
 from psi_tools.model.networks import Network
 
@@ -37,7 +36,7 @@ def paths_of(
     blocks: Sequence[Streams],
     steps: int,
     total: int | None = None,
-    done: Callable[[int], None] | None = None,
+    done: Done = None,
 ) -> Rows:
     """The rows of the tables of some blocks that psi_paths prints, in their order and without their streams, none
     where a stream isn't coupled; with a total, of a closed network. `done` is called with how many blocks are there."""
@@ -48,5 +47,4 @@ def paths_of(
         text = psi.paths(data, seed, *block, steps, total)
         return rows_of(header_of(net), text, *block, program="psi_paths")
 
-    found = psi.all([functools.partial(rows, block) for block in blocks], done)
-    return [row for some in found for row in some]
+    return [row for some in psi.all(rows, blocks, done) for row in some]

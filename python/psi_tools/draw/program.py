@@ -14,11 +14,13 @@ from typing import TypeVar
 
 from psi_tools.errors import PsiError, Refused, printable, whole_argument
 
+Item = TypeVar("Item")
 Value = TypeVar("Value")
 
 TOP = pathlib.Path(__file__).resolve().parents[3]
-# A block: its first stream, and how many streams it has.
+# A block: its first stream, and how many streams it has; and what is called with how many answers are there.
 Streams = tuple[int, int]
+Done = Callable[[int], None] | None
 
 # As many streams as one call of psi report takes, and how many blocks there are while they allow
 # it. On every machine there are as many, since an interval goes by its batches.
@@ -188,14 +190,14 @@ class Program:
         answer.line = re.sub(f"^{name}: ", "psi: ", answer.line)
         return accepted(answer, name, (0, 1)).out
 
-    def all(self, calls: Iterable[Callable[[], Value]], done: Callable[[int], None] | None = None) -> list[Value]:
-        """The answers of some calls, drawn side by side, in their order; `done` is called with how many are there."""
+    def all(self, call: Callable[[Item], Value], items: Iterable[Item], done: Done = None) -> list[Value]:
+        """The answers of a call for each item, side by side, in order; `done` is called with how many are there."""
         # A single call does without this module, which takes a while to be read.
         import concurrent.futures
 
         pool, waiting = concurrent.futures.ThreadPoolExecutor(self.jobs), []
         try:
-            waiting += [pool.submit(call) for call in calls]
+            waiting += [pool.submit(call, item) for item in items]
             for count, one in enumerate(concurrent.futures.as_completed(waiting), 1):
                 one.result()
                 if done:

@@ -1,11 +1,10 @@
 """Reports of many streams, drawn side by side on this machine in blocks."""
 
-import functools
 import os
-from collections.abc import Callable, Sequence
+from collections.abc import Sequence
 
 from psi_tools.draw.blocks import Folder, is_as_written
-from psi_tools.draw.program import Program, Streams
+from psi_tools.draw.program import Done, Program, Streams
 from psi_tools.errors import PsiError
 from psi_tools.io.files import read_file
 from psi_tools.io.reports import Report, ReportError, read
@@ -96,9 +95,7 @@ def report_of(psi: Program, data: bytes, seed: int, block: Streams) -> bytes:
     return psi.ask("report", data, seed, *block).out.encode()
 
 
-def reports_of(
-    psi: Program, data: bytes, seed: int, blocks: Sequence[Streams], done: Callable[[int], None] | None = None
-) -> list[Report]:
+def reports_of(psi: Program, data: bytes, seed: int, blocks: Sequence[Streams], done: Done = None) -> list[Report]:
     """The reports of some blocks of one network; `done` is called with how many blocks are there."""
-    texts = psi.all([functools.partial(report_of, psi, data, seed, block) for block in blocks], done)
+    texts = psi.all(lambda block: report_of(psi, data, seed, block), blocks, done)
     return [read_report(text, "what psi printed") for text in texts]

@@ -2,7 +2,6 @@
 each design, whose blocks all have one size."""
 
 import dataclasses
-import functools
 import os
 import pathlib
 import re
@@ -91,7 +90,7 @@ def draw_designs(
     # The first blocks of all designs come first, so a call that is stopped has whole ones.
     waiting.sort(key=lambda each: each[1].number)
     with Progress(command, len(waiting), "blocks") as progress:
-        psi.all([functools.partial(keep, psi, *each) for each in waiting], progress.show)
+        psi.all(lambda each: keep(psi, *each), waiting, progress.show)
     found = []
     for folder, design in zip(folders, designs):
         reports: dict[int, Report] = {}
