@@ -25,7 +25,7 @@ import re
 from collections.abc import Collection, Iterator
 
 from gate import TOP, run
-from tools.build.crates import crates_below
+from tools.build.crates import crates_below, needed
 
 PAGE, CRATES = TOP / "docs/ARCHITECTURE.md", TOP / "crates.txt"
 ROW = re.compile(r"^\| `(\w+)` \| (.*) \|$", re.M)
@@ -59,9 +59,7 @@ def layers(text: str) -> dict[str, list[str]]:
 def reduced(below: dict[str, list[str]]) -> dict[str, list[str]]:
     """Returns for each crate those that it stands on, without those on which one of these stands."""
     edges = {name: [use for use in uses if use in below] for name, uses in below.items()}
-    all_below: dict[str, set[str]] = {}
-    for name, uses in edges.items():
-        all_below[name] = {*uses}.union(*(all_below[use] for use in uses))
+    all_below = {name: needed(uses, edges) for name, uses in edges.items()}
     return {
         name: [use for use in uses if not any(use in all_below[other] for other in uses)]
         for name, uses in edges.items()

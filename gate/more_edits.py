@@ -34,7 +34,7 @@ from concurrent.futures import ThreadPoolExecutor
 from collections.abc import Iterable
 
 from gate import TOP
-from tools.build.crates import crates_below
+from tools.build.crates import crates_below, needed
 
 PROVED_CRATE = re.compile(r"^(\w+): ok$", re.M)
 SAID = re.compile(r"(?:rt: )?must-fail (\w+)/(\S+\.edit): (.*)")
@@ -46,15 +46,6 @@ COUNTED = {REFUSED: "refused", PROVED: "not refused", BAD: "bad", UNTRIED: "not 
 
 class Wrong(Exception):
     """Why nothing can be tried: words that aren't right, or no clone."""
-
-
-def needed(names: Iterable[str], below: dict[str, list[str]]) -> list[str]:
-    """These crates and those that they stand on, lowest first."""
-    found = {*names}
-    for name in reversed(below):
-        if name in found:
-            found.update(below[name])
-    return [name for name in below if name in found]
 
 
 def usual_jobs() -> int:

@@ -2,6 +2,7 @@
 
 import pathlib
 import re
+from collections.abc import Iterable
 
 ROW = re.compile(r"(\w+)\b[^:]*:(.*)")
 
@@ -20,6 +21,15 @@ def crates_below(top: pathlib.Path) -> dict[str, list[str]]:
     return {name: below for name, (_, below) in rows.items()}
 
 
+def needed(names: Iterable[str], below: dict[str, list[str]]) -> list[str]:
+    """Returns some crates and those that they stand on, lowest first, as `below` has all."""
+    found = {*names}
+    for name in reversed(below):
+        if name in found:
+            found.update(below[name])
+    return [name for name in below if name in found]
+
+
 class Crates:
     """A program's crate and all crates below it: their rows of crates.txt, and what each uses."""
 
@@ -29,16 +39,11 @@ class Crates:
         self.rows = {name: row for name, (row, _) in rows.items()}
         # A name without a row is a library of the toolchain.
         self.uses = {name: [it for it in used if it in rows] for name, (_, used) in rows.items()}
-        self.names = [*self.below(program), program]
+        self.names = needed([program], self.uses)
 
-    def below(self, name: str, found: dict[str, None] | None = None) -> list[str]:
+    def below(self, name: str) -> list[str]:
         """Returns the crates that a crate stands on, each after those that it uses."""
-        found = {} if found is None else found
-        for used in self.uses[name]:
-            if used not in found:
-                self.below(used, found)
-                found[used] = None
-        return list(found)
+        return needed(self.uses[name], self.uses)
 
     def folder(self, name: str) -> pathlib.Path:
         return self.top / "crates" / name
