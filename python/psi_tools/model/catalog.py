@@ -4,7 +4,7 @@ import argparse
 import dataclasses
 import itertools
 import math
-from collections.abc import Iterable, Sequence
+from collections.abc import Iterable
 from fractions import Fraction
 from typing import Any, TypeVar
 
@@ -67,11 +67,12 @@ def numbered(name: str, count: int) -> list[str]:
     return [f"{name}-{number}" for number in range(1, count + 1)]
 
 
-def by_formula(arrival: Rate, deaths: Sequence[Rate]) -> str:
-    """The values of a queue by the formula for birth and death, as a sentence: how many are there on
-    average, and how often it is full. `deaths` has the rate at which it loses one, from 1 customer
-    to as many as there are places."""
-    logs = [*itertools.accumulate((math.log(arrival / death) for death in deaths), initial=0.0)]
+def by_formula(args: argparse.Namespace, servers: int, places: int, patience: Rate | int = 0) -> str:
+    """The values of a queue of some servers and places by the formula for birth and death, as a sentence:
+    how many are there on average, and how often it is full. Each who waits gives up at the rate `patience`."""
+    numbers = range(1, places + 1)
+    deaths = [min(number, servers) * args.service + max(0, number - servers) * patience for number in numbers]
+    logs = [*itertools.accumulate((math.log(args.arrival / death) for death in deaths), initial=0.0)]
     most = max(logs)
     weights = [math.exp(log - most) for log in logs]
     total = math.fsum(weights)
@@ -87,20 +88,11 @@ def single_server(args: argparse.Namespace) -> Made:
         f"rate {args.arrival} and are served at rate {args.service}; who finds it full is lost. "
         "The rewards: whether it is full, and how many wait."
     )
-    made.comment += by_formula(args.arrival, [args.service] * args.places)
+    made.comment += by_formula(args, 1, args.places)
     made.net.queue("desk", args.places).event("come", "arrival", args.arrival, to=["desk"])
     add_servers(made, "desk", args.service, 1)
     add_waiting(made, "desk", 1, args.places)
     return made
-
-
-def deaths_of(args: argparse.Namespace, patience: Rate | int = 0) -> list[Rate]:
-    """The rate at which a queue of several servers loses one, from 1 customer on."""
-    servers = args.servers
-    return [
-        min(number, servers) * args.service + max(0, number - servers) * patience
-        for number in range(1, args.places + 1)
-    ]
 
 
 def several_servers(args: argparse.Namespace) -> Made:
@@ -113,7 +105,7 @@ def several_servers(args: argparse.Namespace) -> Made:
         f"{args.arrival}, each server serves at rate {args.service}, and who finds it full is lost. The rewards: "
         "whether all servers are busy, whether it is full, and how many wait."
     )
-    made.comment += by_formula(args.arrival, deaths_of(args))
+    made.comment += by_formula(args, c, places)
     made.net.queue("calls", places).event("ring", "arrival", args.arrival, to=["calls"])
     add_servers(made, "calls", args.service, c, "answer")
     made.net.reward("all-busy", "above", ["calls"], level=c - 1)
@@ -128,7 +120,7 @@ def erlang_loss(args: argparse.Namespace) -> Made:
         f"{c} telephone lines without a place to wait: M/M/c/c, whose loss is Erlang's formula B. Calls come at rate "
         f"{args.arrival} and last for a time of rate {args.service}. The reward: whether a call that comes is lost."
     )
-    made.comment += by_formula(args.arrival, [args.service * line for line in range(1, c + 1)])
+    made.comment += by_formula(args, c, c)
     made.net.queue("lines", c).event("call", "arrival", args.arrival, to=["lines"])
     add_servers(made, "lines", args.service, c, "end")
     add_full(made, "lost", "lines", c)
@@ -145,7 +137,7 @@ def abandonment(args: argparse.Namespace) -> Made:
         "servers are busy, whether it is full, and how many wait; the rate at which customers give up is "
         f"{args.patience} times the mean of waiting."
     )
-    made.comment += by_formula(args.arrival, deaths_of(args, args.patience))
+    made.comment += by_formula(args, args.servers, args.places, args.patience)
     for least in range(args.servers + 1, args.places + 1):
         part = [{"queue": "calls", "least": least, "shift": -1}]
         made.net.event(f"give-up-{least - args.servers}", "guarded", args.patience, part=part)
