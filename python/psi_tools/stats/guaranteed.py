@@ -26,7 +26,7 @@ from typing import Any
 from psi_tools.io.tables import Record
 from psi_tools.stats.batches import Batches, record
 from psi_tools.stats.intervals import LEVEL, Mean, Span, bisected, quantile, ranks, special, value_at
-from psi_tools.stats.law import RECORD, SHARES, Law, Quantile
+from psi_tools.stats.law import SHARES, Law, Quantile
 from psi_tools.stats.paths import ITEMS, QUEUE, REWARD, PathRow, Paths
 from psi_tools.stats.text import figures
 
@@ -394,14 +394,7 @@ class GuaranteedLaw(Law):
         self.row = Guarantee(self.name, self.many, self.unknown, self.span, self.d, self.counts, pilot=self.pilot)
         values = sum(value * count for value, count in self.counts)
         self.own_mean = mean_between(values / self.known, self.row.mean())
-        below = 0
-        self.own_records: list[Record] = []
-        for value, count in self.counts:
-            below += count
-            ends = rounded_out(*self.row.share(value, value))
-            most = rounded_out(*self.row.share(self.counts[0][0], value))
-            shares = count / self.known, *ends, below / self.known, *most
-            self.own_records.append(dict(zip(RECORD, (value, count, *shares))))
+        self.own_records = super().records()
         self.own_quantiles: list[Quantile] = [
             (share, quantile(self.counts, share)[0], *self.row.quantile(share)) for share in SHARES
         ]
@@ -411,6 +404,9 @@ class GuaranteedLaw(Law):
 
     def records(self, level: float = LEVEL) -> list[Record]:
         return self.own_records
+
+    def ends(self, first: int, last: int, count: int, level: float) -> tuple[float, float]:
+        return rounded_out(*self.row.share(first, last))
 
     def quantiles(self, shares: Sequence[float] = SHARES, level: float = LEVEL) -> Iterator[Quantile]:
         yield from self.own_quantiles

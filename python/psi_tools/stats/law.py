@@ -72,10 +72,14 @@ class Law(Counted):
         below, records = 0, []
         for value, count in self.counts:
             below += count
-            ends, most = (intervals.probability(each, self.many, self.unknown, level) for each in (count, below))
+            ends, most = self.ends(value, value, count, level), self.ends(self.counts[0][0], value, below, level)
             shares = count / self.known, *ends, below / self.known, *most
             records.append(dict(zip(RECORD, (value, count, *shares))))
         return records
+
+    def ends(self, first: int, last: int, count: int, level: float) -> tuple[float, float]:
+        """The ends of the interval of how often the number is from the first to the last, as in so many samples."""
+        return intervals.probability(count, self.many, self.unknown, level)
 
     def quantiles(self, shares: Sequence[float] = SHARES, level: float = intervals.LEVEL) -> Iterator[Quantile]:
         """The quantiles, each its share, its value, and the ends of its interval."""
