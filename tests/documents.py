@@ -9,7 +9,7 @@
   `<!--=NAME WORD..-->` what it prints where `$1` and so on are these words. The commands stand in a
   comment at the end of the page: it begins with `<!-- numbers`, and has a line `NAME: COMMAND` for
   each; a line that is further in belongs to the one above.
-- Pictures that are drawn are those of docs/pictures, byte by byte but for the names of clip paths.
+- Pictures that are drawn are those of docs/pictures, byte by byte.
 - Links lead to files and headings that are there.
 """
 
@@ -30,7 +30,6 @@ SAYS_COMMAND = re.compile(r"`((?:rt|\./psi) [^`]*)` prints[^`]*$")
 LINK = re.compile(r"\]\(([^)\s]+)\)")
 DRAWS, WRITES = re.compile(r" -o (\S+\.svg)\b"), re.compile(r" (?:-o |>)(\w[\w.$-]*\.\w+)\b")
 SHOWN = re.compile(r"!\[[^\]]*\]\((?:docs/)?pictures/([^)]*\.svg)\)")
-CLIP = re.compile(rb"\bp[0-9a-f]{10}\b")
 # A number in figures or as a word, what may stand after it, and the name of its command.
 MARKED = re.compile(r"(-?\d(?:[\d,.]*\d)?|\b[A-Za-z]+)((?: %|`|\*\*)*)<!--=([\w-]+)((?: [\w.,/-]+)*)-->")
 MARK, NUMBERS = "<!--=", re.compile(r"^<!-- numbers\n(.*?)^-->$", re.M | re.S)
@@ -185,13 +184,6 @@ def try_numbers(document: Document, clone: Clone) -> None:
         document.expect(same, f"{number} is marked by {name}{words}, which prints {out}{error}")
 
 
-def without_ids(picture: bytes) -> bytes:
-    """A picture whose clip paths are numbered: their names are made of all bits of numbers, the
-    last of which may be others elsewhere."""
-    names: dict[bytes, int] = {}
-    return CLIP.sub(lambda found: b"clip%d" % names.setdefault(found[0], len(names)), picture)
-
-
 def try_pictures(document: Document, clone: Clone) -> None:
     """Compares the pictures that are drawn with those that are shown."""
     drawn = [name for block in document.commands() for name in DRAWS.findall(block)]
@@ -207,8 +199,7 @@ def try_pictures(document: Document, clone: Clone) -> None:
         if versions[0] and versions[1] and versions[0][0] != versions[1][0]:
             print(f"{document.name}: {name} isn't compared: drawn by {versions[1][0].decode()}")
         else:
-            same = without_ids(shown) == without_ids(made)
-            document.expect(same, f"{name} isn't the picture in docs/pictures")
+            document.expect(shown == made, f"{name} isn't the picture in docs/pictures")
 
 
 def anchor_of(heading: str) -> str:
