@@ -15,7 +15,7 @@ from psi_tools.io.terminal import print_note
 from psi_tools.model.designs import Design, aligned, check_bounds, designs_of
 from psi_tools.model.networks import checked
 from psi_tools.stats.intervals import Mean
-from psi_tools.stats.text import ends_shown, figures
+from psi_tools.stats.text import figures, interval_shown
 
 # A record of the answer, its mean, and the difference to the base.
 RecordOfDesign = tuple[tables.Record, Mean, Mean]
@@ -60,13 +60,6 @@ def parser() -> Parser:
     parser.add_form()
     parser.add_picture()
     return parser
-
-
-def interval_shown(mean: Mean) -> str:
-    """An interval as text: half of it where the mean is its middle, else both ends."""
-    if mean.half is None:
-        return "-"
-    return f"± {figures(mean.half, mean.half)}" if mean.is_even else " to ".join(ends_shown(mean))
 
 
 def lines_of(args: argparse.Namespace, compared: Comparison, records: list[RecordOfDesign]) -> list[str]:

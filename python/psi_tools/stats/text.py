@@ -35,11 +35,14 @@ def ends_shown(mean: Mean) -> tuple[str, str]:
     return figures(mean.low, mean.half), figures(mean.high, mean.half)
 
 
+def interval_shown(mean: Mean) -> str:
+    """An interval as text: half of it where the mean is its middle, else both ends."""
+    return half_shown(mean) if mean.half is None or mean.is_even else " to ".join(ends_shown(mean))
+
+
 def with_interval(mean: Mean) -> str:
     """A mean with its interval: half of it where the mean is its middle, and else both ends."""
-    if mean.half is None:
-        return figures(mean.mean)
     shown = figures(mean.mean, mean.half)
-    if mean.is_even:
-        return f"{shown} {half_shown(mean)}"
-    return "{} ({} to {})".format(shown, *ends_shown(mean))
+    if mean.half is None:
+        return shown
+    return f"{shown} {half_shown(mean)}" if mean.is_even else f"{shown} ({interval_shown(mean)})"
