@@ -14,26 +14,18 @@ chance is below 95 in 100, or where an interval held so seldom as one that holds
 repetitions does in less than 1 of 1,000 such trials.
 """
 
-import argparse
 import functools
 import itertools
 import json
 import math
-import os
-import pathlib
 import sys
 from collections.abc import Iterator, Sequence
 from fractions import Fraction
 from typing import Any
 
-TOP = pathlib.Path(__file__).resolve().parent.parent
-READER = argparse.ArgumentParser()
-READER.add_argument("psi", nargs="?", default=str(TOP / "crates/psi/out/psi"))
-READER.add_argument("--repetitions", type=int, default=400)
-READER.add_argument("--count", type=int, default=100)
-WORDS = READER.parse_args()
-sys.path[:0] = [str(TOP / "python"), str(TOP / "python/tests")]
-sys.dont_write_bytecode = True
+from tests.studies import TOP, Tally, words_of
+
+WORDS = words_of(count=100)
 
 import scipy.special
 from solving import law_of
@@ -167,34 +159,27 @@ def chance_of_share(share: float) -> float:
 
 def tried(case: Case, name: str) -> bool:
     """The lines of a network, and whether all is well."""
-    held: dict[str, int] = {}
-    widths: dict[str, list[float]] = {}
-    wanted_of: dict[str, float] = {}
+    tallies: dict[str, Tally] = {}
     is_well = True
+    lost = sum(unknown for _, unknown in case.counts) / (WORDS.repetitions * WORDS.count)
     for counts, unknown in case.counts:
         for way, row, ends, wanted in case.tries(counts, unknown):
-            wanted_of[way] = wanted
-            held[way] = held.get(way, 0) + (ends[0] - 1e-9 <= wanted <= ends[1] + 1e-9)
-            widths.setdefault(way, []).append(float(ends[1] - ends[0]))
+            tallies.setdefault(way, Tally(f"{name}, {100 * lost:.0f} % uncoupled: {way}", wanted)).take(*ends)
             if not is_checked(row, ends):
                 print(f"not proved: {name}, {way}: {json.dumps(row.record())}")
                 is_well = False
-    lost = sum(unknown for _, unknown in case.counts) / (WORDS.repetitions * WORDS.count)
-    for way, count in held.items():
-        width = sum(widths[way]) / len(widths[way])
-        share = 100 * count / WORDS.repetitions
-        case_and_way = f"{name}, {100 * lost:.0f} % uncoupled: {way}"
-        print(f"{share:6.2f} of 100  width {width:8.4f}  {case_and_way}", flush=True)
-        is_well = is_well and scipy.special.bdtr(count, WORDS.repetitions, LEVEL) >= SELDOM
+    for tally in tallies.values():
+        tally.report()
+        is_well = is_well and scipy.special.bdtr(tally.held, WORDS.repetitions, LEVEL) >= SELDOM
     if not lost:
-        chance = chance_of_share(wanted_of["share up to the median"])
+        chance = chance_of_share(tallies["share up to the median"].wanted)
         print(f"{100 * chance:6.2f} of 100  computed        {name}: share up to the median")
         is_well = is_well and chance >= LEVEL
     return is_well
 
 
 def main() -> int:
-    psi, is_well = Program(os.path.abspath(WORDS.psi)), True
+    psi, is_well = Program(WORDS.psi), True
     for place, (name, queue, reward, heads) in enumerate(NETWORKS):
         case = Case(psi, SEED + place, name, queue, reward, heads)
         is_well = tried(case, f"{name} {reward or queue}") and is_well

@@ -13,25 +13,15 @@ which is 92 where it isn't given.
 --package is the folder of another version of the package, whose intervals are compared so.
 """
 
-import argparse
 import itertools
-import os
-import pathlib
-import statistics
+import math
 import sys
 from collections.abc import Collection, Iterable, Iterator, Mapping
 from typing import Any
 
-TOP = pathlib.Path(__file__).resolve().parent.parent
-READER = argparse.ArgumentParser()
-READER.add_argument("psi", nargs="?")
-READER.add_argument("--repetitions", type=int, default=400)
-READER.add_argument("--package", default=str(TOP / "python"))
-READER.add_argument("--count", type=int, default=10_000)
-READER.add_argument("--least", type=float, default=92)
-WORDS = READER.parse_args()
-sys.path[:0] = [WORDS.package, str(TOP / "python/tests")]
-sys.dont_write_bytecode = True
+from tests.studies import Tally, words_of
+
+WORDS = words_of(None, count=10_000, least=92.0)
 
 import numpy
 from solving import birth_and_death, means_of
@@ -85,26 +75,9 @@ SINGLE: list[tuple[str, float, int, list[int] | None]] = [
 ]
 
 
-class Tally:
-    """How often the intervals of a case held, and how wide they are."""
-
-    def __init__(self, name: str, wanted: float) -> None:
-        self.name, self.wanted, self.held = name, wanted, 0
-        self.widths: list[float] = []
-
-    def take(self, mean: Mean) -> None:
-        if mean.low is not None and mean.high is not None:
-            self.held += mean.holds(self.wanted)
-            self.widths.append(mean.high - mean.low)
-        else:
-            self.widths.append(0.0)
-
-    def report(self) -> bool:
-        """The line of the case; whether enough of its intervals held."""
-        of_all = 100 * self.held / len(self.widths)
-        width = statistics.median(self.widths)
-        print(f"{of_all:6.2f} of 100  width {width:10.4g}  {self.name}", flush=True)
-        return bool(of_all >= WORDS.least)
+def ends_of(mean: Mean) -> tuple[float, float]:
+    """The ends of an interval; where there is none, nothing is between them."""
+    return mean.ends or (math.inf, -math.inf)
 
 
 def tallies_of(name: str, wanted: float) -> list[Tally]:
@@ -155,10 +128,10 @@ def single(
             known = draw.random(numbers.shape) >= chance[numbers]
         columns = [("", "q", numbers)] + ([("reward-", "r", values)] if reward else [])
         batches = batches_from(net, columns, known)
-        tallies[0].take(batches.mean(batches.rows[-1]))
+        tallies[0].take(*ends_of(batches.mean(batches.rows[-1])))
         seen = counted(numbers) if not share else {}
         counts, unknown = counted(values[known]), int((~known).sum())
-        tallies[1].take(law_from(net, "r" if reward else "q", counts, unknown, seen).mean())
+        tallies[1].take(*ends_of(law_from(net, "r" if reward else "q", counts, unknown, seen).mean()))
     return tallies
 
 
@@ -172,7 +145,8 @@ def difference(draw: numpy.random.Generator, name: str, plus: float, minus: floa
         kind = draw.choice(4, shape, p=[1 - plus - minus - both, plus, minus, both])
         rows = [(kind == 1) | (kind == 3), (kind == 2) | (kind == 3)]
         columns = ([("", "q", 4 * row), ("reward-", "r", row * 1)] for row in rows)
-        tally.take(difference_of(*(batches_from(net, own, numpy.ones(shape, bool)) for own in columns)))
+        mean = difference_of(*(batches_from(net, own, numpy.ones(shape, bool)) for own in columns))
+        tally.take(*ends_of(mean))
     return tally
 
 
@@ -241,8 +215,8 @@ def each_row(psi: Program, net: Network, titles: list[str]) -> Iterable[Tally]:
         batches = batches.of_network(net)
         for name, row, (by_batches, by_values) in zip(names, batches.rows, tallies):
             counts = counted(tables[name][numbers] if name in tables else numbers)
-            by_batches.take(batches.mean(row))
-            by_values.take(law_from(net, name, counts, unknown, counted(numbers)).mean())
+            by_batches.take(*ends_of(batches.mean(row)))
+            by_values.take(*ends_of(law_from(net, name, counts, unknown, counted(numbers)).mean()))
     return itertools.chain.from_iterable(tallies)
 
 
@@ -265,7 +239,8 @@ def swept(psi: Program) -> Tally:
     tally = Tally("psi, difference of rare rows: batches", wanted)
     both = [grouped(reports_from(psi, design.net)) for design in designs]
     for pair in zip(*both):
-        tally.take(difference_of(*(own.of_network(design.net) for own, design in zip(pair, designs))))
+        mean = difference_of(*(own.of_network(design.net) for own, design in zip(pair, designs)))
+        tally.take(*ends_of(mean))
     return tally
 
 
@@ -279,9 +254,8 @@ def cut_short(psi: Program) -> Iterable[Tally]:
 
 
 def main() -> int:
-    tallies = by_psi(os.path.abspath(WORDS.psi)) if WORDS.psi else synthetic()
-    held = [tally.report() for tally in tallies]
-    return 0 if all(held) else 1
+    held = [tally.report() for tally in (by_psi(WORDS.psi) if WORDS.psi else synthetic())]
+    return 0 if min(held) >= WORDS.least else 1
 
 
 if __name__ == "__main__":

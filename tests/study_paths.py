@@ -13,25 +13,13 @@ middle. Of some hundred rows a few are below 93 of 100 by chance, even where eac
 given, and a second line says what came of it. The exit status is 1 where a row is below --least there too.
 """
 
-import argparse
 import math
-import os
-import pathlib
-import statistics
 import sys
 from collections.abc import Collection
 
-TOP = pathlib.Path(__file__).resolve().parent.parent
-READER = argparse.ArgumentParser()
-READER.add_argument("psi", nargs="?", default=str(TOP / "crates/psi/out/psi"))
-READER.add_argument("--repetitions", type=int, default=400)
-READER.add_argument("--count", type=int, default=20)
-READER.add_argument("--least", type=float, default=93)
-READER.add_argument("--again", type=int, default=10)
-READER.add_argument("--only")
-WORDS = READER.parse_args()
-sys.path[:0] = [str(TOP / "python"), str(TOP / "python/tests")]
-sys.dont_write_bytecode = True
+from tests.studies import TOP, Tally, words_of
+
+WORDS = words_of(count=20, least=93.0, again=10, only="")
 
 import numpy
 from solving import law_of
@@ -127,39 +115,22 @@ def estimated(psi: Program, net: Network, total: int | None) -> Means:
     return {key: mean for key, mean in means.items() if mean is not None}
 
 
-class Tally:
-    """How often the intervals of each row held what they are of, and how wide they are."""
-
-    def __init__(self, net: Network, steps: int, wanted: Means) -> None:
-        self.net, self.steps, self.wanted = net, steps, wanted
-        self.held: dict[Key, int] = {}
-        self.widths: dict[Key, list[float]] = {}
-        self.streams = self.lost = 0
-
-    def add(self, rows: Rows, only: Collection[Key] | None = None) -> None:
-        """Adds repetitions with other streams, for all rows of a network or for those that are named."""
-        self.streams, self.lost = self.streams + len(rows), self.lost + rows.count(None)
-        for begin in range(0, len(rows), WORDS.count):
-            paths = paths_of_rows(self.net, self.steps, rows[begin : begin + WORDS.count])
-            for row in (row for row in paths.rows if row.times):
-                key = row.kind, row.name
-                if only is None or key in only:
-                    mean = paths.mean(row)
-                    low = -math.inf if mean.low is None else mean.low
-                    high = math.inf if mean.high is None else mean.high
-                    self.held[key] = self.held.get(key, 0) + (low - 1e-9 <= self.wanted[key] <= high + 1e-9)
-                    self.widths.setdefault(key, []).append(high - low)
-
-    def print(self, name: str) -> list[Key]:
-        """Prints a line for each row, and returns those that hold too seldom."""
-        repetitions = self.streams // WORDS.count
-        cut = f", {100 * self.lost / self.streams:.0f} % uncoupled" if self.lost else ""
-        shares = {key: 100 * count / repetitions for key, count in self.held.items()}
-        for key, share in shares.items():
-            width = statistics.median(self.widths[key])
-            head = f"{share:6.2f} of 100  width {width:10.4g}"
-            print(f"{head}  {name}{cut}, {self.steps:,} steps: {' '.join(key)}", flush=True)
-        return [key for key, share in shares.items() if share < WORDS.least]
+def seldom_in(
+    name: str, net: Network, steps: int, wanted: Means, rows: Rows, only: Collection[Key] | None = None
+) -> list[Key]:
+    """Prints a line for each row of a network, or of those that are named, of how often its intervals held what they
+    are of over repetitions; returns those that hold too seldom."""
+    cut = f", {100 * rows.count(None) / len(rows):.0f} % uncoupled" if None in rows else ""
+    tallies: dict[Key, Tally] = {}
+    for begin in range(0, len(rows), WORDS.count):
+        paths = paths_of_rows(net, steps, rows[begin : begin + WORDS.count])
+        for row in (row for row in paths.rows if row.times):
+            key = row.kind, row.name
+            if only is None or key in only:
+                title = f"{name}{cut}, {steps:,} steps: {' '.join(key)}"
+                ends = paths.mean(row).ends or (-math.inf, math.inf)
+                tallies.setdefault(key, Tally(title, wanted[key])).take(*ends)
+    return [key for key, tally in tallies.items() if tally.report() < WORDS.least]
 
 
 def tried(psi: Program, name: str, net: Network, total: int | None, lengths: tuple[int, ...], is_solved: bool) -> bool:
@@ -167,21 +138,18 @@ def tried(psi: Program, name: str, net: Network, total: int | None, lengths: tup
     wanted, is_well = solved(net, total) if is_solved else estimated(psi, net, total), True
     count = WORDS.repetitions * WORDS.count
     for steps in lengths:
-        tally = Tally(net, steps, wanted)
-        tally.add(drawn(psi, net, total, SEED, steps, count))
-        seldom = tally.print(name)
+        seldom = seldom_in(name, net, steps, wanted, drawn(psi, net, total, SEED, steps, count))
         if seldom and WORDS.again:
-            tally = Tally(net, steps, wanted)
-            for seed in range(AGAIN, AGAIN + WORDS.again):
-                tally.add(drawn(psi, net, total, seed, steps, count), seldom)
-            seldom = tally.print(f"again: {name}")
+            seeds = range(AGAIN, AGAIN + WORDS.again)
+            rows = [row for seed in seeds for row in drawn(psi, net, total, seed, steps, count)]
+            seldom = seldom_in(f"again: {name}", net, steps, wanted, rows, seldom)
         is_well = is_well and not seldom
     return is_well
 
 
 def main() -> int:
-    psi = Program(os.path.abspath(WORDS.psi))
-    cases = [case for case in CASES if WORDS.only in (None, case[0])]
+    psi = Program(WORDS.psi)
+    cases = [case for case in CASES if WORDS.only in ("", case[0])]
     return 0 if all([tried(psi, *case) for case in cases]) else 1
 
 
