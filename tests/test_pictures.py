@@ -28,8 +28,7 @@ from psi_tools.io.exact import read_exact
 from psi_tools.plot import draw_coupling, draw_exact, draw_forward, draw_report, style
 from psi_tools.plot.forward import forward_of
 from psi_tools.plot.read_log import names_of, read_log
-from psi_tools.plot.report import report_of as shown_of
-from psi_tools.stats.batches import batches_of
+from psi_tools.stats.batches import batches_of, summary_of
 from tests.figures import cut_off, overlapping
 from tests.gallery import logs_of_formats
 from tests.support import TOOLS, TOP, Expectations, TextAnswer, answer_as_text, printed_by, report_of, write
@@ -299,7 +298,7 @@ def test_logs(expect: Expectations, program: str) -> None:
 
 def try_report(expect: Expectations, texts: Sequence[tuple[str, str]], name: str) -> Any:
     """The picture of some reports shows their numbers."""
-    named = [(path, shown_of(batches_of([read_report(text.encode(), path)]))) for path, text in texts]
+    named = [(path, summary_of(batches_of([read_report(text.encode(), path)]))) for path, text in texts]
     figure = draw_report.draw_report(named, "")
     drawn: dict[str, Any] = {}
     for axes in figure.axes:

@@ -13,8 +13,7 @@ from psi_tools.draw.reports import as_printed, read_folder, read_report
 from psi_tools.errors import GREATEST, NUMBER, InputError, PsiError, reason, require
 from psi_tools.io.files import check_writable, write
 from psi_tools.model.networks import checked
-from psi_tools.plot.report import Report, report_of
-from psi_tools.stats.batches import batches_of
+from psi_tools.stats.batches import Summary, batches_of, summary_of
 
 # Each kind of picture imports its own modules.
 if TYPE_CHECKING:
@@ -107,20 +106,20 @@ def coupling(args: argparse.Namespace, path: str, *net: str) -> "Coupling":
     return log
 
 
-def report(args: argparse.Namespace, *paths: str) -> list[tuple[str, Report]]:
+def report(args: argparse.Namespace, *paths: str) -> list[tuple[str, Summary]]:
     """The reports, each with the name of its file."""
     require(len(paths) <= MOST_REPORTS, f"report takes at most {MOST_REPORTS} files")
     return [(path, report_at(path)) for path in paths]
 
 
-def report_at(path: str) -> Report:
+def report_at(path: str) -> Summary:
     """The report of a file, or of all blocks of a folder of psi-many, with intervals where there
     are enough of them."""
     if not os.path.isdir(path):
-        return read(lambda data: report_of(batches_of([read_report(as_printed(data), path)])), path)
+        return read(lambda data: summary_of(batches_of([read_report(as_printed(data), path)])), path)
     batches, wanted = read_folder(path)
     require(len(batches.samples) == wanted, f"{path}: not all of its blocks are finished")
-    return report_of(batches, wanted >= LEAST_BATCHES)
+    return summary_of(batches, wanted >= LEAST_BATCHES)
 
 
 def exact(args: argparse.Namespace, path: str, *others: str) -> "Shrinking":

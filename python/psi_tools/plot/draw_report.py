@@ -9,9 +9,9 @@ import matplotlib.ticker
 
 from psi_tools.io.tables import Record
 from psi_tools.plot import style
-from psi_tools.plot.report import Report
+from psi_tools.stats.batches import Summary
 
-Named = Sequence[tuple[str, Report]]
+Named = Sequence[tuple[str, Summary]]
 
 # Each report has a colour, and a hatch and a mark for those who can't distinguish colours.
 COLOURS = (style.BLUE, style.ORANGE, style.GREEN, style.VERMILION, style.SKY, style.PURPLE, style.BLACK, style.YELLOW)
@@ -84,7 +84,7 @@ def draw_report(named: Named, title: str) -> style.Figure:
     return figure
 
 
-def caption(stems: list[str], reports: list[Report]) -> str:
+def caption(stems: list[str], reports: list[Summary]) -> str:
     """The caption of all reports: which samples aren't coupled."""
     lost = [
         f"{style.whole(report.uncoupled)} of {style.whole(report.samples)} samples of {stem}"
@@ -97,7 +97,7 @@ def caption(stems: list[str], reports: list[Report]) -> str:
     return f"not coupled: {', '.join(lost)}" + "; means over the others are biased" * is_biased
 
 
-def draw_horizons(axes: Any, reports: list[Report]) -> None:
+def draw_horizons(axes: Any, reports: list[Summary]) -> None:
     """How many samples are met at each horizon, of each report in per cent."""
     seen = [horizon.bit_length() - 1 for report in reports for horizon in report.horizons]
     powers = range(min(seen), max(seen) + 1) if seen else range(0)

@@ -106,6 +106,29 @@ def batches_of(reports: Sequence[Report]) -> Batches:
     return Batches([report.samples for report in reports], met, horizons, rows)
 
 
+@dataclasses.dataclass
+class Summary:
+    """All batches together: how many samples are met at each horizon, and a row of means for each queue and reward,
+    whose ends are there where batches give an interval."""
+
+    samples: int
+    uncoupled: int
+    horizons: dict[int, int]
+    queues: list[Record]
+    rewards: list[Record]
+
+
+def summary_of(batches: Batches, has_intervals: bool = False) -> Summary:
+    """All batches together."""
+    met = sum(batches.met)
+    spreads: dict[str, list[Record]] = {"": [], REWARD: []}
+    for row in batches.rows:
+        plain = intervals.Mean(sum(row.sums) / met if met else None, None)
+        mean = batches.mean(row) if has_intervals else plain
+        spreads[row.kind].append(record(f"{row.kind}mean", row.name, mean, row.least, row.greatest))
+    return Summary(sum(batches.samples), batches.uncoupled, batches.all_horizons, *spreads.values())
+
+
 def notes_of(batches: Batches, wanted: int) -> list[str]:
     """What has to be known before a mean is read, each as one sentence."""
     hold = "the intervals hold" if batches.spans else "--net NET gives intervals that hold"
