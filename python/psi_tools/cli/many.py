@@ -92,13 +92,9 @@ def blocks_of(args: argparse.Namespace, psi: str) -> tuple[Folder, list[pathlib.
     engine: type[Hosts] | type[Slurm] | type[Here] = Hosts if args.hosts else Slurm if args.slurm else Here
     way: Way = engine(args, program.built_companion(psi, "psi_states") if args.states else psi, net)
     numbers = {"seed": args.seed, "first": args.first, "count": args.count}
-    name = "{}.{seed}.{first}.{count}".format(pathlib.Path(args.net).name, **numbers)
-    if args.closed is not None:
-        numbers["closed"] = args.closed
-        name += f".{args.closed}"
-    if args.states:
-        numbers["states"] = 1
-        name += ".states"
+    numbers |= {"closed": args.closed} if args.closed is not None else {}
+    name = ".".join([pathlib.Path(args.net).name, *map(str, numbers.values()), *["states"] * args.states])
+    numbers |= {"states": 1} if args.states else {}
     folder = Folder(args.folder or f"{name}.many")
     folder.lock()
     fitting = min(-(-args.count // (SHARE * way.slots)), args.count // program.LEAST_BATCHES)
