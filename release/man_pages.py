@@ -64,13 +64,9 @@ STATUS = """| Status | Means |
 Each but 0 has one line on standard error.
 """
 # What a guide says of the sources alone; each has to stand there once.
-OF_SOURCES = (
-    " It is built by `rt run` in `crates/psi_merge`, as `crates/psi_merge/out/psi_merge`.",
-    " It is built by `rt run` in `crates/psi_states`, as `crates/psi_states/out/psi_states`, and called"
-    " by `tools/psi-states`.",
-    " It is built by `rt run` in `crates/psi_paths`, as `crates/psi_paths/out/psi_paths`, and called by"
-    " `tools/psi-paths`.",
-)
+BUILT = " It is built by `rt run` in `crates/psi_{0}`, as `crates/psi_{0}/out/psi_{0}`{1}."
+CALLED = ", and called by `tools/psi-{}`"
+OF_SOURCES = [BUILT.format(name, CALLED.format(name) * (name != "merge")) for name in ("merge", "states", "paths")]
 # What the texts of options say of a checkout, and what of a package.
 OF_OPTIONS = (
     ("the built program; crates/psi/out/psi, or psi on the PATH,", "the program psi; that on the PATH"),
