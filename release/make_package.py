@@ -35,6 +35,7 @@ import time
 import tools.packaged  # noqa: F401
 from psi_tools.cli.completion import completion
 from psi_tools.cli.entry import NAMES
+from psi_tools.draw.program import companion_of
 from release import man_pages
 
 TOP = pathlib.Path(__file__).resolve().parent.parent
@@ -103,13 +104,6 @@ def link(target: pathlib.Path, path: pathlib.Path) -> None:
 def tracked(name: str) -> list[str]:
     """The files of the repository below a name."""
     return printed_by("git", "ls-files", name).splitlines()
-
-
-def beside(program: pathlib.Path, crate: str) -> pathlib.Path | None:
-    """The program of a crate, built beside PSI or in its crate, or none."""
-    folder = program.parent
-    places = folder / crate, folder.parent.parent / crate / "out" / crate
-    return next((place for place in places if os.access(place, os.X_OK)), None)
 
 
 def fill_library(root: pathlib.Path, programs: dict[str, pathlib.Path]) -> None:
@@ -228,9 +222,8 @@ def main(words: list[str]) -> int:
     os.umask(0o022)
     with tempfile.TemporaryDirectory() as name:
         room = pathlib.Path(name)
-        found: dict[str, pathlib.Path | None] = {"psi": program}
-        found |= {other: beside(program, crate) for other, crate in OTHERS.items()}
-        programs = {name: stripped(built, room, name) for name, built in found.items() if built}
+        found = [("psi", str(program)), *((name, companion_of(str(program), crate)) for name, crate in OTHERS.items())]
+        programs = {name: stripped(pathlib.Path(built), room, name) for name, built in found if built}
         made = [make(room, folder, programs, version, second) for make in (make_package, make_archive)]
     digests = [hashlib.sha256(file.read_bytes()).hexdigest() for file in made]
     sums = folder / "SHA256SUMS"
