@@ -88,22 +88,23 @@ def head_of(batches: Batches, level: float, kind: str = "intervals") -> str:
     return f"{samples:,} samples in {many}, {state}; {kind} of {level:g} %"
 
 
-def text_of(batches: Batches, records: list[tables.Record], notes: list[str], level: float) -> str:
-    """The answer for people."""
-    lines = [*notes, head_of(batches, level)]
+def lines_of(batches: Batches, records: list[tables.Record], level: float) -> list[str]:
+    """The answer for people, line by line."""
+    lines = [head_of(batches, level)]
     lines += table_of((each for each in records if each["item"] in KINDS), has_extremes=True)
     lines.append("share of the samples that are met at a horizon, or not coupled")
     shares = [("met at", each["name"], with_interval(mean_of(each))) for each in records if each["item"] == "horizon"]
     if batches.uncoupled:
         shares.append(("not coupled", "", with_interval(mean_of(records[0]))))
-    lines += tables.aligned(shares, right=(1,))
-    return tables.ended([*lines, *remarks(batches)])
+    return [*lines, *tables.aligned(shares, right=(1,)), *remarks(batches)]
 
 
 def in_form(
-    heads: tables.Record, records: list[tables.Record], args: argparse.Namespace, notes: list[str]
+    heads: tables.Record, records: list[tables.Record], args: argparse.Namespace, notes: list[str], lines: list[str]
 ) -> tuple[str, list[str]]:
-    """The answer for programs, and what is noted beside it."""
+    """The answer in the form that is asked for, for people in these lines, and what is noted beside it for programs."""
+    if args.format == "text":
+        return tables.ended(lines), []
     if args.format == "csv":
         return tables.as_csv(records), notes
     return tables.as_json({**heads, "level": args.level / 100, "notes": notes, "rows": records}), notes
@@ -129,10 +130,9 @@ def guaranteed_answer(args: argparse.Namespace, batches: Batches, wanted: int) -
     if args.certificate:
         write(tables.as_json(file_of(rows, {"reports": args.reports})), args.certificate)
     notes, remarks = notes_of(batches, wanted), [misses(rows[0].d), ASSUMED]
-    if args.format != "text":
-        return in_form(heads_of(batches), records, args, [*notes, *remarks])
     table = table_of(records, is_guaranteed=True, has_extremes=True)
-    return tables.ended([*notes, head_of(batches, args.level, "guaranteed intervals"), *table, *remarks]), []
+    lines = [*notes, head_of(batches, args.level, "guaranteed intervals"), *table, *remarks]
+    return in_form(heads_of(batches), records, args, [*notes, *remarks], lines)
 
 
 def answer(args: argparse.Namespace) -> tuple[str, list[str]]:
@@ -148,9 +148,8 @@ def answer(args: argparse.Namespace) -> tuple[str, list[str]]:
             f"psi-many .. --block N"
         )
     notes, records = notes_of(batches, wanted), [*records_of(batches, args.level / 100)]
-    if args.format == "text":
-        return text_of(batches, records, notes, args.level), []
-    return in_form(heads_of(batches), records, args, [*notes, *batches.carried()])
+    lines = [*notes, *lines_of(batches, records, args.level)]
+    return in_form(heads_of(batches), records, args, [*notes, *batches.carried()], lines)
 
 
 def work(arguments: list[str]) -> int:

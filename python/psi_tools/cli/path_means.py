@@ -39,12 +39,12 @@ def head_of(paths: Paths, level: float, kind: str = "intervals") -> str:
     return f"{paths.count:,} paths of {paths.steps:,} steps, {state}; {kind} of {level:g} %"
 
 
-def text_of(paths: Paths, records: list[tables.Record], level: float) -> str:
-    """The answer for people."""
+def lines_of(paths: Paths, records: list[tables.Record], level: float) -> list[str]:
+    """The answer for people, line by line."""
     means, rates = ([each for each in records if each["item"].endswith("rate") == is_rate] for is_rate in (False, True))
     lines = [*notes_of(paths), head_of(paths, level), *table_of(means)]
     lines += [RATES, *table_of(rates, "rate")] if rates else []
-    return tables.ended([*lines, *paths.carried()])
+    return [*lines, *paths.carried()]
 
 
 def guaranteed_answer(psi: Program, net: Network, args: argparse.Namespace, paths: Paths) -> tuple[str, list[str]]:
@@ -65,10 +65,9 @@ def guaranteed_answer(psi: Program, net: Network, args: argparse.Namespace, path
         write(tables.as_json(file_of(rows, {**of, **more})), args.certificate)
     ways: list[str] = next((row.ways() for row in rows if row.ways()), [])
     remarks = [*ways, misses(rows[0].d), ASSUMED]
-    if args.format != "text":
-        return in_form(heads_of(paths), records, args, [*notes_of(paths), *remarks])
     head, table = head_of(paths, args.level, "guaranteed intervals"), table_of(records, is_guaranteed=True)
-    return tables.ended([*notes_of(paths), head, *table, *remarks]), []
+    lines = [*notes_of(paths), head, *table, *remarks]
+    return in_form(heads_of(paths), records, args, [*notes_of(paths), *remarks], lines)
 
 
 def heads_of(paths: Paths) -> tables.Record:
@@ -88,6 +87,5 @@ def answer(args: argparse.Namespace) -> tuple[str, list[str]]:
     if args.guaranteed:
         return guaranteed_answer(psi, net, args, paths)
     records = records_of(paths, args.level / 100)
-    if args.format == "text":
-        return text_of(paths, records, args.level), []
-    return in_form(heads_of(paths), records, args, [*notes_of(paths), *paths.carried()])
+    lines = lines_of(paths, records, args.level)
+    return in_form(heads_of(paths), records, args, [*notes_of(paths), *paths.carried()], lines)
