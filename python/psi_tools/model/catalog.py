@@ -51,15 +51,10 @@ def add_waiting(made: Made, queue: str, servers: int, places: int) -> None:
     made.net.reward("waiting", "table", [queue], table=[[max(0, number - servers) for number in range(places + 1)]])
 
 
-def add_queues(made: Made, names: Iterable[str], places: Iterable[int]) -> None:
-    for name, capacity in zip(names, places):
-        made.net.queue(name, capacity)
-
-
-def add_services(made: Made, names: Iterable[str], rates: Iterable[Rate]) -> None:
-    """A service of each queue that ends outside."""
-    for name, rate in zip(names, rates):
-        made.net.event(f"{name}-done", "service", rate, source=name)
+def add_stations(made: Made, names: Iterable[str], places: Iterable[int], rates: Iterable[Rate]) -> None:
+    """Queues, each with a service that ends outside."""
+    for name, capacity, rate in zip(names, places, rates):
+        made.net.queue(name, capacity).event(f"{name}-done", "service", rate, source=name)
 
 
 def numbered(name: str, count: int) -> list[str]:
@@ -175,13 +170,11 @@ def line(args: argparse.Namespace) -> Made:
         "parts in all, and whether the first stage is full, when a part that comes is lost."
     )
     names = numbered("stage", len(rates))
-    for name, capacity, count in zip(names, places, servers):
-        made.net.queue(name, capacity, count)
     made.net.event("deliver", "arrival", args.arrival, to=[names[0]])
-    for place, (name, rate) in enumerate(zip(names, rates)):
+    for place, (name, capacity, count, rate) in enumerate(zip(names, places, servers, rates)):
         to = names[place + 1 : place + 2]
         keys: Table = {"to": to, "full": "lost" if args.lost else "stay"} if to else {}
-        made.net.event(f"done-{place + 1}", "service", rate, source=name, **keys)
+        made.net.queue(name, capacity, count).event(f"done-{place + 1}", "service", rate, source=name, **keys)
     made.net.reward("parts", "linear", names, weights=[1] * len(names))
     add_full(made, "full", names[0], places[0])
     return made
@@ -198,11 +191,9 @@ def overflow(args: argparse.Namespace) -> Made:
         "rewards: whether the first group is full, and how many groups are."
     )
     names = numbered("group", len(lines))
-    for name, count in zip(names, lines):
-        made.net.queue(name, count, count)
     made.net.event("call", "arrival", args.arrival, to=[*names])
-    for name in names:
-        made.net.event(f"{name}-end", "service", args.service, source=name)
+    for name, count in zip(names, lines):
+        made.net.queue(name, count, count).event(f"{name}-end", "service", args.service, source=name)
     add_full(made, "first-full", names[0], lines[0])
     if len({*lines}) == 1:
         made.net.reward("groups-full", "above", names, level=lines[0] - 1)
@@ -220,9 +211,8 @@ def shortest_queue(args: argparse.Namespace) -> Made:
         "is lost. The rewards: the customers in all, and the longest queue."
     )
     names = numbered("queue", len(rates))
-    add_queues(made, names, [args.places] * len(rates))
     made.net.event("come", "index", args.arrival, to=names, table=[[*range(args.places)]] * len(names))
-    add_services(made, names, rates)
+    add_stations(made, names, [args.places] * len(rates), rates)
     made.net.reward("customers", "linear", names, weights=[1] * len(names))
     made.net.reward("longest", "greatest", names)
     return made
@@ -240,13 +230,12 @@ def closed(args: argparse.Namespace) -> Made:
     if len(rates) < 2:
         raise PsiError("--service has at least two rates")
     names = numbered("queue", len(rates))
-    add_queues(made, names, [total] * len(rates))
     following = [(place + 1) % len(rates) for place in range(len(rates))]
     rows = [[rate * (place == after) for place in range(len(rates))] for rate, after in zip(rates, following)]
     means = means_of(rows, total)
     made.comment += f" They are {listed(f'{mean:.6g}' for mean in means)}."
     for name, rate, after in zip(names, rates, following):
-        made.net.event(f"{name}-done", "service", rate, source=name, to=[names[after]], full="stay")
+        made.net.queue(name, total).event(f"{name}-done", "service", rate, name, [names[after]], full="stay")
     return made
 
 
@@ -275,14 +264,12 @@ def priority(args: argparse.Namespace) -> Made:
         f"They come at rates {listed(arrivals)}, are served at rates {listed(services)}, and have {listed(places)} "
         "places. The rewards: whether each class is full."
     )
-    add_queues(made, ("first", "second"), places)
-    for name, rate in zip(("first", "second"), arrivals):
-        made.net.event(f"{name}-comes", "arrival", rate, to=[name])
+    for name, rate, capacity in zip(("first", "second"), arrivals, places):
+        made.net.queue(name, capacity).event(f"{name}-comes", "arrival", rate, to=[name])
+        add_full(made, f"{name}-full", name, capacity)
     made.net.event("serve-first", "service", services[0], source="first")
     part = [{"queue": "first", "most": 0}, {"queue": "second", "least": 1, "shift": -1}]
     made.net.event("serve-second", "guarded", services[1], part=part)
-    for name, capacity in zip(("first", "second"), places):
-        add_full(made, f"{name}-full", name, capacity)
     return made
 
 
@@ -298,9 +285,8 @@ def fork_join(args: argparse.Namespace) -> Made:
         "an order is lost where one of them is full. The reward: the pieces in all."
     )
     names = numbered("part", len(rates))
-    add_queues(made, names, places)
     made.net.event("order", "fork", args.arrival, to=names)
-    add_services(made, names, rates)
+    add_stations(made, names, places, rates)
     made.net.reward("pieces", "linear", names, weights=[1] * len(names))
     return made
 
@@ -356,8 +342,7 @@ def rework(args: argparse.Namespace) -> Made:
         f"{rates[1]}, from which each goes back to work with probability {args.again}; {listed(places)} places. Who "
         "finds no room stays where it is. The rewards: the parts in all, and whether work is full."
     )
-    add_queues(made, ("work", "test"), places)
-    made.net.event("come", "arrival", args.arrival, to=["work"])
+    made.net.queue("work", places[0]).queue("test", places[1]).event("come", "arrival", args.arrival, to=["work"])
     made.net.event("worked", "service", rates[0], source="work", to=["test"], full="stay")
     made.net.event("good", "service", rates[1] * (1 - args.again), source="test")
     made.net.event("bad", "service", rates[1] * args.again, source="test", to=["work"], full="stay")
