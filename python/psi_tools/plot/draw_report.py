@@ -35,9 +35,8 @@ class Rows:
         # The extremes of each row.
         self.ends: dict[str, tuple[int, int]] = {}
         for name, row in self.rows.items():
-            found = [spread[end] for _, spread in row for end in ("least", "greatest") if spread[end] is not None] or [
-                0
-            ]
+            ends = (spread[end] for _, spread in row for end in ("least", "greatest"))
+            found = [end for end in ends if end is not None] or [0]
             self.ends[name] = min(found), max(found)
         self.greatest = max((greatest for _, greatest in self.ends.values()), default=1) or 1
         names = [*self.rows]

@@ -42,9 +42,7 @@ class Batches:
     @property
     def all_horizons(self) -> dict[int, int]:
         """How many samples of all are met at each horizon, in steps, ascending."""
-        whole: collections.Counter[int] = collections.Counter()
-        for some in self.horizons:
-            whole.update(some)
+        whole = sum((collections.Counter(some) for some in self.horizons), collections.Counter[int]())
         return dict(sorted(whole.items()))
 
     def of_network(self, net: Network) -> "Batches":
