@@ -11,7 +11,7 @@ import sys
 import pytest
 
 from psi_tools.model.networks import Network
-from tests.support import TOP, beside
+from tests.support import TOP, built
 
 sys.path.append(str(TOP / "bench"))
 
@@ -31,12 +31,9 @@ def line(count: int, capacity: int, kind: str) -> Network:
 
 def instructions_a_step(program: str, folder: pathlib.Path, net: Network) -> float:
     """The instructions of a path of twice as many steps, less those of the path, by steps."""
-    paths = beside(program, "psi_paths")
-    if paths is None:
-        pytest.skip("psi_paths is not built")
-    file = folder / "net.toml"
+    paths, file = built(program, "psi_paths"), folder / "net.toml"
     net.write(file)
-    calls = {steps: [str(paths), str(file), "0", "0", "1", str(steps)] for steps in (STEPS, 2 * STEPS)}
+    calls = {steps: [paths, str(file), "0", "0", "1", str(steps)] for steps in (STEPS, 2 * STEPS)}
     counts = measure.all_instructions(calls)
     short, long = counts[STEPS], counts[2 * STEPS]
     assert short is not None and long is not None
