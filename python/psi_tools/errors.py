@@ -1,5 +1,5 @@
 """What can go wrong: the exceptions of the module psi, each of which a command ends with; and arguments of functions
-and commands that are checked: whole numbers of a range, and confidence levels."""
+and commands that are checked: whole numbers of a range, streams, and confidence levels."""
 
 import numbers
 import operator
@@ -71,6 +71,13 @@ def whole_argument(name: str, value: Any, least: int, most: int) -> int:
     if number is None or not least <= number <= most:
         raise ArgumentError(f"{name} is {value!r}; a whole number from {least} to {most} is expected")
     return number
+
+
+def check_streams(first: int, count: int, are_pilots: bool = False) -> None:
+    """Refuses streams beyond the last one."""
+    if first + count - 1 > GREATEST:
+        what, more = ("pilot stream", "; --pilot 0 wants none") if are_pilots else ("stream", "")
+        raise PsiError(f"the last {what} would be above {GREATEST}{more}")
 
 
 def level_argument(value: Any) -> float:

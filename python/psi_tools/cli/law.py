@@ -3,10 +3,10 @@
 import argparse
 import functools
 
-from psi_tools.cli.options import PILOTS, Parser, check_files, check_last_stream
+from psi_tools.cli.options import PILOTS, Parser, check_files
 from psi_tools.draw.law import COUNT, Samples
 from psi_tools.draw.program import Program
-from psi_tools.errors import PsiError
+from psi_tools.errors import PsiError, check_streams
 from psi_tools.io import tables
 from psi_tools.io.files import write
 from psi_tools.io.terminal import Progress, print_note
@@ -120,7 +120,7 @@ def answer_of(found: Found, args: argparse.Namespace) -> str:
 
 def check_args(args: argparse.Namespace) -> None:
     """Refuses options that don't fit together, and files that can't be written."""
-    check_last_stream(args)
+    check_streams(args.first, args.count)
     if not args.names and args.where is None:
         raise PsiError("a queue or a reward is expected, or --where with a condition")
     if args.names and args.where is not None:

@@ -13,11 +13,11 @@ import signal
 from collections.abc import Iterator
 from typing import NoReturn
 
-from psi_tools.cli.options import STREAM, TOTAL, Parser, check_last_stream, number
+from psi_tools.cli.options import STREAM, TOTAL, Parser, number
 from psi_tools.draw import program
 from psi_tools.draw.blocks import MOST_BLOCKS, Folder
 from psi_tools.draw.many import COMMAND, SHARE, SSH, Here, Hosts, Slurm, Way, draw_all, joined, merge, run_task
-from psi_tools.errors import PsiError
+from psi_tools.errors import PsiError, check_streams
 from psi_tools.io.files import check_writable, read_file, write
 from psi_tools.io.reports import read
 from psi_tools.io.samples import uncoupled_in
@@ -75,7 +75,7 @@ def parse(arguments: list[str]) -> argparse.Namespace:
     others = [option for option in ("hosts", "slurm", "merge") if args.states and getattr(args, option)]
     if others:
         raise PsiError(f"--{others[0]} goes without --states: samples are drawn on this machine, and not merged")
-    check_last_stream(args)
+    check_streams(args.first, args.count)
     if args.block and args.count > MOST_BLOCKS * args.block:
         raise PsiError(f"there would be more than {MOST_BLOCKS} blocks of {args.block} streams")
     return args

@@ -2,10 +2,10 @@
 
 import argparse
 
-from psi_tools.cli.options import PILOTS, STEPS, TOTAL, Parser, check_files, check_last_stream
+from psi_tools.cli.options import PILOTS, STEPS, TOTAL, Parser, check_files
 from psi_tools.draw.reports import read_any
 from psi_tools.draw.program import LEAST_BATCHES
-from psi_tools.errors import LEAST_LEVEL, MOST_LEVEL, PsiError
+from psi_tools.errors import LEAST_LEVEL, MOST_LEVEL, PsiError, check_streams
 from psi_tools.io import tables
 from psi_tools.io.files import write
 from psi_tools.io.terminal import print_note
@@ -50,7 +50,7 @@ def parse(arguments: list[str]) -> argparse.Namespace:
         raise PsiError("--paths is of one network, which is given instead of reports")
     else:
         args.seed, args.first, args.count = args.seed or 0, args.first or 0, args.count or PATHS
-        check_last_stream(args)
+        check_streams(args.first, args.count)
     check_files(args)
     return args
 

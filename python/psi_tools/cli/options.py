@@ -90,9 +90,3 @@ def check_files(args: argparse.Namespace) -> None:
     if given.get("picture") and args.picture.rpartition(".")[2].lower() not in ("svg", "png", "pdf"):
         raise PsiError("--picture names no .svg, .png or .pdf")
     check_writable(given.get("picture"), "--picture")
-
-
-def check_last_stream(args: argparse.Namespace) -> None:
-    """Refuses streams beyond the last one."""
-    if args.first + args.count - 1 > GREATEST:
-        raise PsiError(f"the last stream would be above {GREATEST}")

@@ -6,7 +6,7 @@ from psi_tools.cli.means import COMMAND, in_form
 from psi_tools.draw.blocks import digest_of
 from psi_tools.draw.paths import paths_of
 from psi_tools.draw.program import LEAST_BATCHES, Program, blocks_of, table_size
-from psi_tools.errors import GREATEST, PsiError
+from psi_tools.errors import PsiError, check_streams
 from psi_tools.io import tables
 from psi_tools.io.files import write
 from psi_tools.io.terminal import Progress
@@ -54,8 +54,7 @@ def guaranteed_answer(psi: Program, net: Network, args: argparse.Namespace, path
     pilots = pilots_of(args.count) if args.pilot is None else args.pilot
     begin, pilot = args.first + args.count, None
     if pilots:
-        if begin + pilots - 1 > GREATEST:
-            raise PsiError(f"the last pilot stream would be above {GREATEST}; --pilot 0 wants none")
+        check_streams(begin, pilots, are_pilots=True)
         pilot = drawn(psi, net, args, begin, pilots)
     rows, records = guaranteed_paths(paths, pilot, begin, args.level / 100)
     if args.certificate:

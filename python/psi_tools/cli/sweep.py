@@ -5,10 +5,10 @@ import argparse
 import os
 import pathlib
 
-from psi_tools.cli.options import Parser, check_files, check_last_stream, number
+from psi_tools.cli.options import Parser, check_files, number
 from psi_tools.draw.program import Program
 from psi_tools.draw.sweep import Comparison, carried_in, draw_designs, notes_of, records_of
-from psi_tools.errors import PsiError
+from psi_tools.errors import PsiError, check_streams
 from psi_tools.io import tables
 from psi_tools.io.files import write
 from psi_tools.io.terminal import print_note
@@ -128,7 +128,7 @@ def compared_designs(psi: Program, args: argparse.Namespace) -> Comparison:
 
 def prepared(args: argparse.Namespace) -> tuple[Program, Comparison]:
     """The program, and what is compared; psi takes all of it."""
-    check_last_stream(args)
+    check_streams(args.first, args.count)
     check_files(args)
     psi, files = Program(args.psi, args.jobs), files_in(args)
     compared = compared_files(psi, args, files) if files else compared_designs(psi, args)

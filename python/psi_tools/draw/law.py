@@ -7,7 +7,7 @@ from typing import TYPE_CHECKING
 
 from psi_tools.draw.program import Program, Streams, blocks_of, table_size
 from psi_tools.draw.states import any_drawing
-from psi_tools.errors import GREATEST, PsiError
+from psi_tools.errors import PsiError, check_streams
 from psi_tools.io.terminal import Bar, Meter
 from psi_tools.model.conditions import Condition, column_of
 from psi_tools.model.networks import Network, header_of
@@ -82,8 +82,7 @@ class Samples:
         pilots, begin = pilots_of(self.count) if pilots is None else pilots, self.first + self.count
         pilot = None
         if pilots and not law.span.two and law.span.ends[0] < law.span.ends[1]:
-            if begin + pilots - 1 > GREATEST:
-                raise PsiError(f"the last pilot stream would be above {GREATEST}; --pilot 0 wants none")
+            check_streams(begin, pilots, are_pilots=True)
             seen = dataclasses.replace(self, first=begin, count=pilots).law(name, is_reward)
             pilot = Pilot(seen.counts, seen.unknown, begin, pilots)
         return GuaranteedLaw(law.name, law.what, law.counts, law.unknown, law.span, pilot)
