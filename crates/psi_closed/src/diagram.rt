@@ -20,7 +20,7 @@ use std::marker::Model;
 /// number of customers before it and its own. A state is held exactly where each of its arcs is there.
 ///
 /// It is seen as the capacities, the number of customers and the list of the held states. At least one is held, and
-/// each arc is one of a held state. All memory is taken by `reserve`.
+/// each arc is one of a held state. `reserve` alone allocates.
 #[derive(Drop)]
 pub struct Diagram {
     caps: State,

@@ -85,9 +85,12 @@ impl<'n, P: Past + Drop> ClosedPlan<'n, P> {
     /// network, and it wants from 1 to its source's capacity of customers there. `limit` is the exponent of the
     /// greatest horizon, 0 to 22.
     ///
-    /// It takes the room for a diagram and for the numbers of the events of the greatest horizon, 2 to the power `limit`
-    /// of 2 bytes each; `sample` takes no memory. `OutOfMemory` is the answer where there is no memory for it; no
-    /// clause says when that is.
+    /// It allocates a diagram and the numbers of the events of the greatest horizon, 2 to the power `limit` of 2 bytes
+    /// each; `sample` does not allocate.
+    ///
+    /// # Errors
+    ///
+    /// `OutOfMemory` if an allocation fails; no clause says when that is.
     pub fn new(
         alloc: Global,
         caps: State,

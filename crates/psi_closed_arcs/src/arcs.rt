@@ -17,7 +17,7 @@ use std::marker::Model;
 /// number of customers, and the list of the arcs, none of them twice.
 ///
 /// For each queue and each number of customers before it there is a row: the set of the sums with the queue's own
-/// customers, one bit for each. All memory is taken by `reserve`. No other call takes memory.
+/// customers, one bit for each. `reserve` alone allocates.
 #[derive(Drop)]
 pub struct Arcs {
     rows: Vec<Sums>,

@@ -18,7 +18,7 @@ use std::marker::Model;
 
 /// Walks paths of networks, one after another, and keeps the sums of the last one.
 ///
-/// It is seen as these sums. What it takes of memory is taken when it is made.
+/// It is seen as these sums. It allocates when it is made, and no later.
 #[derive(Drop)]
 pub struct Walk {
     pub(crate) running: Running,

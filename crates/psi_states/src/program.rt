@@ -33,7 +33,7 @@ fn asked_of(words: &[String]) -> Result<Asked<'_>, u8>
     }
 }
 
-/// Draws the samples that the words ask for, and prints their table; it answers how that ended.
+/// Draws the samples that the arguments ask for, and prints their table. It returns how that ended.
 ///
 /// | Words | Table |
 /// |---|---|
@@ -43,12 +43,12 @@ fn asked_of(words: &[String]) -> Result<Asked<'_>, u8>
 /// SEED and FIRST are numbers of at most 2 to the power 64 less 1, COUNT is 1 to 4,294,967,295, TOTAL at most 256, and the
 /// last stream is at most 2 to the power 64 less 1. The table is comma-separated values (RFC 4180, with a line feed alone at
 /// each end). Its header is `stream`, `horizon`, `queue.` with the name of each queue and `reward.` with the name of each
-/// reward. A row tells the stream, the horizon, the number of customers in each queue and the value of each reward; a
-/// sample that isn't met has empty fields behind its stream.
+/// reward. A row has the stream, the horizon, the number of customers in each queue and the value of each reward. A
+/// sample that is not met has empty fields after its stream.
 ///
-/// All memory is taken before the first byte is written, and doesn't depend on COUNT. The table goes to out in blocks
+/// It allocates before the first byte is written, and as much for each COUNT. The table goes to out in blocks
 /// of some 65,536 bytes. With any other status than `Done`, `NotCoupled` and `WriteFault` nothing is written to out, and one
-/// line to err tells why.
+/// line to err says why.
 ///
 /// | Status | Line |
 /// |---|---|

@@ -16,7 +16,7 @@ use psi_reply::{NetPlan, next_closed, next_sample};
 use psi_state::Outcome;
 use std::marker::Model;
 
-/// What draws the sample of each stream of a network, once its memory is taken.
+/// What draws the sample of each stream of a network. It does not allocate.
 pub(crate) trait Streams {
     // The network.
     ghost network: { Self → Network };

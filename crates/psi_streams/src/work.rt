@@ -1,4 +1,4 @@
-//! What a call does for its words: the memory is taken, and the table drawn and written.
+//! What a call does for its arguments: it allocates, draws the table and writes it.
 
 ghost use Rattle.std.specs.Prelude.{◌≡◌, ◌+◌, ◌^◌, ◌≤◌, ℕ, Ok, length, IfSome};
 ghost use Rattle.psi_io.specs.Shelf.{AgreesSince};
@@ -134,7 +134,7 @@ fn write_states<O: Sink, E: Sink>(
     }
 }
 
-/// Does what is asked for: the network is read, all memory is taken, and the table is drawn and written.
+/// Does what is asked for: it reads the network, allocates all that it needs, and draws and writes the table.
 ///
 /// The table goes to out in pieces, so it is no text of an ending. It is as if it were: there is an ending whose text was
 /// written, whole or in part.

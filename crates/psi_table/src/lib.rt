@@ -3,8 +3,8 @@
 //! A row tells the stream, the horizon at which its sample is met, the number of customers in each queue and the value
 //! of each reward; where the sample isn't met, all fields but the stream are empty. A row of a table of paths has
 //! their sums along the path that begins in the sample instead, and how often each event was chosen and changed the state.
-//! [`NetRewards`] are the rewards that are summed. [`Rows`] writes a table of any length by way of a block: what it takes of
-//! memory is taken when it is made.
+//! [`NetRewards`] are the rewards that are summed. [`Rows`] writes a table of any length by way of a block: it allocates
+//! when it is made, and no later.
 #![tactic(auto)]
 
 mod header;
