@@ -1,6 +1,6 @@
 -- Closed runs are ordered by horizon, and one that ends with one state tells where every state of the total is.
 use Rattle.std.specs.Prelude.{◌≡◌, ℕ, zero, suc, ◌+◌, ◌-◌, ◌≤◌, List, [], ◌∷◌, Some, refl}
-use Rattle.std.proofs.Common.{inl, inr, ap, sym, ◌∙◌, subst, arith}
+use Rattle.std.proofs.Common.{inl, sym, subst, arith}
 use Rattle.std.proofs.lemmas.Grind.{common_steps}
 use Rattle.psi_state.specs.declared.Outcome.{Outcome}
 use Rattle.psi_state.specs.declared.Outcome.TheVariants.{Met, NotMet}
@@ -8,7 +8,7 @@ use Rattle.psi_state.specs.Members.{In, AreAmong}
 use Rattle.psi_state.specs.Sets.{image, single}
 use Rattle.psi_state.specs.Ascending.{IsRising}
 use Rattle.psi_state.proofs.SetsLemmas.{single-each, In-image}
-use Rattle.psi_state.proofs.AscendingLemmas.{rising-distinct}
+use Rattle.psi_state.proofs.AscendingLemmas.{rising-same_each}
 use Rattle.psi_rate.specs.Composition.{compose, AreKeeping, IsReachedFrom}
 use Rattle.psi_rate.specs.Doubling.{IsLasting}
 use Rattle.psi_rate.specs.Outcomes.{IsOutcome, ReachesFrom}
@@ -17,14 +17,6 @@ use Rattle.psi_rate.proofs.DoublingLemmas.{lasting-none}
 use Rattle.psi_closed.specs.Closed.{IsOfTotal, total_states, all_arcs, arc_hull, closed_after, closed_run, closed_ending, AreOrdered, DecidesRuns, MeetsOfTotal}
 use Rattle.psi_closed.proofs.ArcsLemmas.{In-total_states, In-of_total_states, total_states-rising, held-rising}
 use Rattle.psi_closed.proofs.HullLemmas.{hull-has, hull-of, hull-among, image-among}
-
--- an ascending list whose members are all one has that one alone
-pub rising-same_each : (xs : List (List ℕ)) (x s : List ℕ) → IsRising xs → In x xs → ((y : List ℕ) → In y xs → y ≡ s) → xs ≡ s ∷ []
-rising-same_each [] x s rising member each = absurd member
-rising-same_each (y ∷ []) x s rising member each = ap (λ (z : List ℕ). z ∷ []) (each y (inl refl))
-rising-same_each (y ∷ z ∷ ys) x s rising member each =
-    let same : y ≡ z = each y (inl refl) ∙ sym (each z (inr (inl refl))) in
-    absurd ((rising-distinct (y ∷ z ∷ ys) rising).0 (inl same))
 
 -- the one member of a list is in it
 pub single-member : {A : Type 0} (xs : List A) (s : A) → single xs ≡ Some s → In s xs

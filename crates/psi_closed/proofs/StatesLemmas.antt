@@ -6,6 +6,7 @@ use Rattle.std.proofs.lemmas.Grind.{common_steps}
 use Rattle.psi_state.specs.Members.{In}
 use Rattle.psi_state.specs.Sets.{single}
 use Rattle.psi_state.proofs.MembersLemmas.{In-append, In-append_left, In-append_right}
+use Rattle.psi_state.proofs.AscendingLemmas.{rising-same_each}
 use Rattle.psi_closed_arcs.specs.declared.ends.Arc.{Arc}
 use Rattle.psi_closed_arcs.specs.Walks.{customers, Held, IsArc}
 use Rattle.psi_closed_arcs.specs.Held.{Listed, IsThis, IsFirst}
@@ -13,7 +14,7 @@ use Rattle.psi_closed.specs.Closed.{all_arcs, held_states}
 use Rattle.psi_closed.specs.Diagram.{AreWhole, IsOnly, IsForked}
 use Rattle.psi_closed.proofs.ArcsLemmas.{arc, In-all_arcs, In-of_all_arcs, In-of_held, held-rising}
 use Rattle.psi_closed.proofs.WalksLemmas.{held-each, held-of}
-use Rattle.psi_closed.proofs.RunsLemmas.{rising-same_each, single-member}
+use Rattle.psi_closed.proofs.RunsLemmas.{single-member}
 
 -- an arc of the state at one of its first n queues
 pub record IsEarlier (x : List ℕ) (n l s v : ℕ) : Type 0 where

@@ -8,6 +8,7 @@ use Rattle.std.proofs.lemmas.Grind.{common_steps}
 use Rattle.psi_state.specs.Members.{In}
 use Rattle.psi_state.specs.Sets.{image, single}
 use Rattle.psi_state.proofs.BoxesLemmas.{same-from_below}
+use Rattle.psi_state.proofs.AscendingLemmas.{rising-same_each}
 use Rattle.psi_kinds.specs.declared.moves.Move.{Move}
 use Rattle.psi_kinds.specs.Moves.{moved}
 use Rattle.psi_closed_arcs.specs.Walks.{customers, IsArc}
@@ -15,7 +16,6 @@ use Rattle.psi_closed.specs.Closed.{IsOfTotal, all_arcs, arc_hull, follow_closed
 use Rattle.psi_closed.specs.Planned.{AreMoves}
 use Rattle.psi_closed.proofs.ArcsLemmas.{arc, In-of_all_arcs, held-rising}
 use Rattle.psi_closed.proofs.HullLemmas.{hull-has, hull-of, hull-arcs}
-use Rattle.psi_closed.proofs.RunsLemmas.{rising-same_each}
 use Rattle.psi_closed.proofs.MovesLemmas.{moved-keeps, moved-cases}
 
 -- a list that has one member is that member alone

@@ -6,7 +6,7 @@ use Rattle.std.proofs.lemmas.List.Elements.{All-map}
 use Rattle.std.proofs.lemmas.Grind.{common_steps}
 use Rattle.psi_state.specs.declared.Outcome.{Outcome}
 use Rattle.psi_state.specs.Sets.{image, single}
-use Rattle.psi_state.proofs.AscendingLemmas.{rising-distinct}
+use Rattle.psi_state.proofs.AscendingLemmas.{rising-distinct, rising-same_each}
 use Rattle.psi_kinds.specs.declared.moves.Move.{Move}
 use Rattle.psi_kinds.specs.Kinds.{do_kind}
 use Rattle.psi_kinds.specs.Moves.{moved, move_of}
@@ -25,7 +25,7 @@ use Rattle.psi_closed.proofs.ArcsLemmas.{arc, In-of_all_arcs, held-rising, In-to
 use Rattle.psi_closed.proofs.DiagramLemmas.{total-some}
 use Rattle.psi_closed.proofs.HullLemmas.{hull-has, hull-of, hull-arcs}
 use Rattle.psi_closed.proofs.MovesLemmas.{moved-keeps}
-use Rattle.psi_closed.proofs.RunsLemmas.{rising-same_each, single-member, run-each, endings-last, ending-reached, outcome-reached, outcome-decides, outcome-of}
+use Rattle.psi_closed.proofs.RunsLemmas.{single-member, run-each, endings-last, ending-reached, outcome-reached, outcome-decides, outcome-of}
 use Rattle.psi_net_model.specs.Network.{Network, caps_of, rates_of, functions_of}
 use Rattle.psi_net_model.specs.Valid.{IsNetwork, IsAccepted}
 use Rattle.psi_law.specs.Counting.{Words}

@@ -1,6 +1,7 @@
 -- Logs worked out by hand, judged by the definition as the checker computes it.
-use Rattle.std.specs.Prelude.{◌≡◌, ℕ, ◌+◌, ◌-◌, map, min, Result, List, [], ◌∷◌, ◌&&◌, nat_lt, true, false, Ok, Err, slice_index, slice_index_or, if◌then◌else◌, refl}
+use Rattle.std.specs.Prelude.{◌≡◌, ℕ, ◌+◌, ◌-◌, map, Result, List, [], ◌∷◌, ◌&&◌, nat_lt, true, false, Ok, Err, slice_index, slice_index_or, if◌then◌else◌, refl}
 use Rattle.psi_rate.specs.Composition.{Functions}
+use Rattle.psi_rate.proofs.Worked.{joined, left}
 use Rattle.psi_log_format.specs.Log.{LogRegion, in_box, in_set, Entry, Certificate}
 use Rattle.psi_log_words.specs.Refusal.{Refusal}
 use Rattle.psi_replay.specs.Verdict.{is_small, judge_step, judge_steps, judge_end, judged}
@@ -23,19 +24,11 @@ log queues horizon begin entries final = record {
 }
 
 -- one queue with room for three: backwards in time one joins, one joins, one joins, one leaves
-abbrev joined : List ℕ → List ℕ
-joined [] = []
-joined (v ∷ x) = (min 3 (v + 1)) ∷ x
-
-abbrev left : List ℕ → List ℕ
-left [] = []
-left (v ∷ x) = (v - 1) ∷ x
-
 abbrev events : ℕ → ℕ
 events t = slice_index (0 ∷ 0 ∷ 0 ∷ 0 ∷ 1 ∷ []) t
 
 abbrev f : Functions
-f t = slice_index_or (joined ∷ left ∷ []) (events t) (λ x. x)
+f t = slice_index_or (joined 3 ∷ left ∷ []) (events t) (λ x. x)
 
 -- its log, with the line of the first step, the last region and the state as they are given
 abbrev server : Entry → LogRegion → ℕ → Certificate
