@@ -14,7 +14,7 @@ ghost use Rattle.psi_streams.specs.Means.{IsTableOf, Means};
 ghost use Rattle.psi_streams.specs.Reply.{reply_to};
 ghost use Rattle.psi_streams.specs.Run.{IsRunOf};
 ghost use Rattle.psi_streams.specs.Seen.{IsGiven};
-ghost use Rattle.psi_streams.specs.SeenBy.{sink_seen};
+ghost use Rattle.psi_program.specs.SeenBy.{shelf_seen, sink_seen, call_seen};
 ghost use Rattle.psi_states.specs.Program.{asked_of, states};
 
 use psi_command::{Status, table_of};
@@ -69,12 +69,8 @@ pub(crate) fn run<F: Shelf, O: Sink, E: Sink>(
     err: &mut E,
 ) -> Status
     // What each status says of the words, the shelf and the sinks.
-    ensures call { IsRun states (record {
-      words = map string_bytes words.now;
-      shelf = record { told = F.told shelf.old; asked_before = F.asked shelf.old; asked_after = F.asked shelf.new; faults_before = F.faults shelf.old; faults_after = F.faults shelf.new };
-      out = sink_seen O.held O.took O.faults out.old out.new;
-      err = sink_seen E.held E.took E.faults err.old err.new;
-    }) result }
+    ensures call { IsRun states (call_seen (map string_bytes words.now) (shelf_seen F.told F.asked F.faults shelf.old shelf.new)
+        (sink_seen O.held O.took O.faults out.old out.new) (sink_seen E.held E.took E.faults err.old err.new)) result }
 
     // The headline: where the words ask for the table of a network's samples, the shelf tells a file that reads as a
     // network, no count of faults rose in this call and memory didn't run out, what is printed is the table of its samples.

@@ -91,21 +91,8 @@ module _ (program : TableProgram) (call : Call) where
   run_is end result written is =
       let run = runs (faults program.name) status.Usage IsReplied IsReported IsPrinted (IsReplyTo program.name words) call (reply_to_call program call) (unread_line_of program call)
       (HasTable program call) (IsErr words) is-program end (record { may = is.reply; cause = cause-of end is.cause }) result written in
-      record {
-        status = run.status;
-        out = run.out;
-        err = run.err;
-        reads = is.reads;
-        complete = run.complete;
-        usage = run.other;
-        no_table = run.told;
-        kind = λ kind. (let own = run.own kind in reply-kind program.name words own.0 result own.1 own.2);
-        read_fault = run.read_fault;
-        write_fault = run.write_fault;
-        no_memory = run.no_memory;
-        silent_out = run.silent_out;
-        silent_err = run.silent_err;
-      }
+      let kind : IsReplied result → IsStatusOf words result = λ kind. (let own = run.own kind in reply-kind program.name words own.0 result own.1 own.2) in
+      assumption (run, is.reads, kind)
 
 module _ (name : List ℕ) (shelf : ShelfSeen) (words : Result Asked ℕ) where
   -- once the ending's text is written whole, a reply's status means what the table says

@@ -4,7 +4,6 @@ pub mod Named
 pub mod Reply
 pub mod Means
 pub mod Seen
-pub mod SeenBy
 pub mod Ended
 pub mod Drawing
 pub mod Ways

@@ -2,7 +2,7 @@
 
 ghost use Rattle.std.specs.Prelude.{◌≡◌, ◌≤◌, length};
 ghost use Rattle.psi_program.specs.Finished.{IsFinished};
-ghost use Rattle.psi_streams.specs.SeenBy.{sink_seen};
+ghost use Rattle.psi_program.specs.SeenBy.{sink_seen};
 ghost use Rattle.psi_reply.specs.Ended.{ending_of};
 ghost use Rattle.psi_streams.specs.Named.{named_line, named_ending, faults};
 

@@ -3,7 +3,7 @@
 ghost use Rattle.std.specs.Prelude.{◌≡◌, ◌≤◌, length, IfOk};
 ghost use Rattle.psi_io.specs.Shelf.{AgreesSince};
 ghost use Rattle.psi_program.specs.Finished.{IsFinished};
-ghost use Rattle.psi_streams.specs.SeenBy.{shelf_call, sink_seen};
+ghost use Rattle.psi_program.specs.SeenBy.{shelf_call, sink_seen};
 ghost use Rattle.psi_streams.specs.Asked.{IsInRange, seen_result};
 ghost use Rattle.psi_streams.specs.Named.{faults};
 ghost use Rattle.psi_streams.specs.Seen.{IsGiven};

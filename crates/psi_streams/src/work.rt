@@ -5,7 +5,7 @@ ghost use Rattle.psi_io.specs.Shelf.{AgreesSince};
 ghost use Rattle.psi_closed.specs.Diagram.{IsTotal};
 ghost use Rattle.psi_net_model.specs.Network.{caps_of};
 ghost use Rattle.psi_program.specs.Finished.{IsFinished};
-ghost use Rattle.psi_streams.specs.SeenBy.{shelf_call, sink_seen};
+ghost use Rattle.psi_program.specs.SeenBy.{shelf_call, sink_seen};
 ghost use Rattle.psi_streams.specs.Asked.{seen_asked, IsInRange};
 ghost use Rattle.psi_reply.specs.Closed.{AreMovesOf};
 ghost use Rattle.psi_reply.specs.Ending.{EndsWith};
