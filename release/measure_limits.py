@@ -93,7 +93,7 @@ def refused() -> Iterator[tuple[str, str]]:
 
 
 def with_fault(files: Iterable[tuple[str, str]]) -> Iterator[tuple[str, str]]:
-    """The same files with a syntax fault at their end, which is told before anything else."""
+    """The same files with a syntax fault at their end, which is reported before anything else."""
     for name, text in files:
         yield name + " and a fault", text[: MOST_NETWORK - 2].rsplit("\n", 1)[0] + "\n="
 
